@@ -9,9 +9,10 @@ use Rattle.cyc_types.specs.declared.typed.Callee.TheVariants.{Putchar, Getchar, 
 use Rattle.cyc_types.specs.declared.typed.UnaryOperator.TheVariants as unary
 use Rattle.cyc_types.specs.declared.typed.Operator.TheVariants.{Equal, NotEqual, Less, LessOrEqual, Greater, Add, Subtract, Multiply, Divide, Remainder}
 use Rattle.cyc_types.specs.declared.typed.LogicalOperator.TheVariants.{AndThen, OrElse}
+use Rattle.cyc_types.specs.declared.typed.PointerOperator.TheVariants.{NotEqualThin}
 use Rattle.cyc_types.specs.Types.{Ty, Int, Pointer, Handle, Value}
-use Rattle.cyc_types.specs.TypedTrees.{Local, Global, Expression, Number, Copy, Call, Unary, Binary, Assign, Converted, Convert, Arguments, NoArguments, MoreArguments, Operations, NoOperations, ThenCompute, ThenTest, Statement, Block, Empty, Evaluate, If}
-use Rattle.cyc_types.specs.TypedTrees.{While, Return, Break, Continue, Items, NoItems, MoreItems, Execute, Declare, DeclareRegion, Word, Null, Function, Program, Throw, Try, Case, Default, NoClauses, GlobalVariable, Lvalue, AddressOf, Load, Store, Target}
+use Rattle.cyc_types.specs.TypedTrees.{Local, Global, Expression, Number, Copy, Call, Unary, Binary, Assign, Converted, Convert, Arguments, NoArguments, MoreArguments, Operations, NoOperations, ThenCompute, ThenTest, ThenPointer, Statement, Block, Empty, Evaluate, If, While}
+use Rattle.cyc_types.specs.TypedTrees.{Return, Break, Continue, Items, NoItems, MoreItems, Execute, Declare, DeclareRegion, Word, Null, Function, Program, Throw, Try, Case, Default, NoClauses, GlobalVariable, Lvalue, AddressOf, Load, Store, Target}
 use Rattle.cyc_types.specs.declared.region.Region.TheVariants.{Heap}
 use Rattle.cyc_syntax.specs.declared.tree.PointerKind.TheVariants.{Nullable, NonNull, Fat}
 use Rattle.cyc_plain.specs.declared.instruction.Instruction.{Instruction}
@@ -340,6 +341,29 @@ parts_code : code_of_body (all (If (two (local 0) (ThenTest AndThen (two (local 
     ∷ instructions.Finish 0
     ∷ instructions.Finish 2 ∷ []
 parts_code = refl
+
+-- what `!` negates is tests by the other operator: each operand of `||` that holds goes there
+neither_code : code_of_body (all (If (Unary unary.Not (two (local 0) (ThenTest OrElse (two (local 1) (ThenCompute Less (Number 3) NoOperations)) NoOperations))) (returns (local 1)) (returns (local 0)) ∷ [])) ≡
+    jump_if_nonzero (Slot 0) 4 ∷ instructions.Branch comparisons.Less (Slot 1) (Constant 3) 4
+    ∷ instructions.Finish 1
+    ∷ Jump 5
+    ∷ instructions.Finish 0
+    ∷ instructions.Finish 2 ∷ []
+neither_code = refl
+
+-- and each of `&&` that fails decides what is negated
+not_both_code : code_of_body (all (If (Unary unary.Not (two (local 0) (ThenTest AndThen (two (local 1) (ThenCompute Less (Number 3) NoOperations)) NoOperations))) (returns (local 1)) Empty ∷ [])) ≡
+    jump_if_zero (Slot 0) 2 ∷ instructions.Branch comparisons.Less (Slot 1) (Constant 3) 3
+    ∷ instructions.Finish 1
+    ∷ instructions.Finish 2 ∷ []
+not_both_code = refl
+
+-- two pointers are compared by the branch
+apart_code : code_of_body (all (If (two (local 0) (ThenPointer NotEqualThin (local 1) NoOperations)) (returns (local 0)) Empty ∷ [])) ≡
+    instructions.Branch comparisons.Equal (Slot 0) (Slot 1) 2
+    ∷ instructions.Finish 0
+    ∷ instructions.Finish 2 ∷ []
+apart_code = refl
 
 -- a condition that may have much code stands behind the body alone
 jumped_code : code_of_body (all (While nowhere (sets 0 (local 1)) Empty ∷ [])) ≡

@@ -1,13 +1,15 @@
 //! The code of conditions: two operands that are compared, before a jump that is taken where the condition fails.
 ghost use Rattle.std.specs.Prelude.{◌≡◌, ◌≤◌, ◌<◌, ◌+◌, IfOk, length, set};
 ghost use Rattle.cyc_types.specs.TypedTreeView.{view_expression, operations_of};
-ghost use Rattle.cyc_lower.specs.inside.ControlCode.{is_same, all_test, are_tests, failing_jump};
-ghost use Rattle.cyc_lower.specs.inside.Lowering.{condition_of, condition_code, tests_code, last_condition, behind_tests, choice_of, choice_code};
-ghost use Rattle.cyc_lower.specs.inside.Emission.{Gives, most_locals, value_code, IsChain, is_test, other_code, other_condition, zero_condition, view_starts, null_condition, failed, AreBefore, IsEarly, IsSettled, IsBranch};
+ghost use Rattle.cyc_lower.specs.inside.ControlCode.{is_same, all_test, are_tests, turned_test, failing_jump};
+ghost use Rattle.cyc_lower.specs.inside.Lowering.{first_operand, first_code, pair_code, condition_of, condition_code, tests_code, last_condition, behind_tests, choice_of, choice_code};
+ghost use Rattle.cyc_lower.specs.inside.Emission.{Gives, most_locals, value_code, IsChain, is_test, other_code, other_condition, zero_condition, view_starts, null_condition, pair_condition, failed, AreBefore, IsEarly, IsSettled, IsBranch};
 
 use crate::emitter::Emitter;
-use crate::operands::{Condition, slot_behind};
-use crate::operators::{deciding_jump, failing_comparison, negated_condition, null_operation};
+use crate::operands::{Condition, is_simple, slot_behind};
+use crate::operators::{
+    deciding_condition, deciding_jump, negated_condition, null_operation, pair_operation, right_of,
+};
 use crate::starts::Starts;
 use cyc_plain::{Comparison, Operand};
 use cyc_types::typed::{Expr, Kind, LogicalOperator, Operation, UnaryOperator};
@@ -33,6 +35,16 @@ fn is_same(operator: LogicalOperator, other: LogicalOperator) -> bool
     match operator {
         LogicalOperator::AndThen => matches!(other, LogicalOperator::AndThen),
         LogicalOperator::OrElse => matches!(other, LogicalOperator::OrElse),
+    }
+}
+
+/// By which operator tests are of which this one's are negated.
+fn turned_test(operator: LogicalOperator) -> LogicalOperator
+    ensures { result ≡ turned_test operator }
+{
+    match operator {
+        LogicalOperator::AndThen => LogicalOperator::OrElse,
+        LogicalOperator::OrElse => LogicalOperator::AndThen,
     }
 }
 
@@ -109,6 +121,46 @@ impl Emitter {
         })
     }
 
+    /// The first of two operands that are compared. It is taken without code only where the second is simple.
+    fn lower_first(
+        &mut self,
+        starts: &Starts,
+        value: &Expr,
+        second: &Expr,
+        free: usize,
+    ) -> Result<Operand, AllocError>
+        requires { free ≤ most_locals + length self.old.code.items }
+        ensures { Gives (first_operand (view_starts starts.now) (view_expression value.now) (view_expression second.now) free) result self.old self.new (first_code (view_starts starts.now) (view_expression value.now) (view_expression second.now) (length self.old.code.items) free) }
+    {
+        if is_simple(starts, second) {
+            return self.lower_operand(starts, value, free);
+        }
+        self.lower_expression(starts, value, free, free)?;
+        Ok(Operand::Slot { number: free })
+    }
+
+    /// A condition that is a comparison of two operands.
+    fn compare_pair(
+        &mut self,
+        starts: &Starts,
+        failing: Comparison,
+        first: &Expr,
+        second: &Expr,
+        free: usize,
+    ) -> Result<Condition, AllocError>
+        requires { free ≤ most_locals + length self.old.code.items }
+        ensures { Gives (pair_condition (view_starts starts.now) failing (view_expression first.now) (view_expression second.now) free) result self.old self.new (pair_code (view_starts starts.now) (view_expression first.now) (view_expression second.now) (length self.old.code.items) free) }
+    {
+        let left = self.lower_first(starts, first, second, free)?;
+        let behind = slot_behind(free, Kind::Int)?;
+        let right = self.lower_operand(starts, second, behind)?;
+        Ok(Condition {
+            failing,
+            left,
+            right,
+        })
+    }
+
     /// A condition that is a chain: one operator that compares is left to the jump.
     fn compare_chain(
         &mut self,
@@ -129,24 +181,8 @@ impl Emitter {
             if let Some(failing) = null_operation(operation) {
                 return self.compare_with_null(starts, failing, first, free);
             }
-        }
-        if let Some(
-            Operation::Compute {
-                operator,
-                operand,
-                ..
-            },
-        ) = rest.first()
-        {
-            if let Some(failing) = failing_comparison(*operator) {
-                let left = self.lower_left(starts, first, rest, free, free)?;
-                let behind = slot_behind(free, Kind::Int)?;
-                let right = self.lower_operand(starts, operand, behind)?;
-                return Ok(Condition {
-                    failing,
-                    left,
-                    right,
-                });
+            if let Some(failing) = pair_operation(operation) {
+                return self.compare_pair(starts, failing, first, right_of(operation), free);
             }
         }
         self.compare_with_zero(starts, value, free)
@@ -219,25 +255,26 @@ impl Emitter {
         Ok(condition)
     }
 
-    /// The same of tests by `&&`, where it is not yet known to which place the jumps lead.
+    /// The same, where it is not yet known to which place the jumps lead.
     fn lower_early(
         &mut self,
         starts: &Starts,
+        operator: LogicalOperator,
         first: &Expr,
         rest: &[Operation],
         free: usize,
     ) -> Result<Tested, AllocError>
         requires { free ≤ most_locals + length self.old.code.items }
-        ensures { IfOk result (IsEarly (view_starts starts.now) (view_expression first.now) rest.now free self.old.code.items self.new.code.items) }
+        ensures { IfOk result (IsEarly (view_starts starts.now) operator (view_expression first.now) rest.now free self.old.code.items self.new.code.items) }
     {
         let mut last = self.lower_condition(starts, first, free)?;
         let mut early = Vec::new(starts.alloc);
         for operation in rest {
             early.push(Pending {
                 place: self.place(),
-                condition: last,
+                condition: deciding_condition(operator, last),
             })?;
-            last = self.lower_other(starts, LogicalOperator::AndThen, operation, last, 0, free)?;
+            last = self.lower_other(starts, operator, operation, last, 0, free)?;
         }
         Ok(Tested { last, early })
     }
@@ -300,34 +337,38 @@ impl Emitter {
                 operator: UnaryOperator::Not,
                 operand,
             } => {
-                let condition = self.lower_condition(starts, operand, free)?;
+                let turned = turned_test(operator);
+                let condition = self.lower_choice(starts, turned, operand, free)?;
                 Ok(negated_condition(condition))
             }
             _ => self.compare_with_zero(starts, value, free),
         }
     }
 
-    /// A branch's condition whose jumps all lead where they are to.
+    /// A branch's condition whose jumps all lead where they are to: of tests by the other operator.
     fn lower_settled(
         &mut self,
         starts: &Starts,
+        operator: LogicalOperator,
         value: &Expr,
         free: usize,
     ) -> Result<Tested, AllocError>
         requires { free ≤ most_locals + length self.old.code.items }
-        ensures { IfOk result (IsSettled (view_starts starts.now) (view_expression value.now) free self.old.code.items self.new.code.items) }
+        ensures { IfOk result (IsSettled (view_starts starts.now) (turned_test operator) (view_expression value.now) free self.old.code.items self.new.code.items) }
     {
-        let last = self.lower_choice(starts, LogicalOperator::OrElse, value, free)?;
+        let turned = turned_test(operator);
+        let last = self.lower_choice(starts, turned, value, free)?;
         Ok(Tested {
             last,
             early: Vec::new(starts.alloc),
         })
     }
 
-    /// A branch's condition that is a chain, of tests by `&&` or not.
+    /// A branch's condition that is a chain, of tests by this operator or not.
     fn branch_chain(
         &mut self,
         starts: &Starts,
+        operator: LogicalOperator,
         value: &Expr,
         first: &Expr,
         rest: &[Operation],
@@ -335,27 +376,43 @@ impl Emitter {
     ) -> Result<Tested, AllocError>
         requires low { free ≤ most_locals + length self.old.code.items }
         requires chain { IsChain (view_expression value.now) (view_expression first.now) (operations_of rest.now) }
-        ensures { IfOk result (IsBranch (view_starts starts.now) (view_expression value.now) free self.old.code.items self.new.code.items) }
+        ensures { IfOk result (IsBranch (view_starts starts.now) operator (view_expression value.now) free self.old.code.items self.new.code.items) }
     {
-        if are_tests(LogicalOperator::AndThen, rest) {
-            return self.lower_early(starts, first, rest, free);
+        if are_tests(operator, rest) {
+            return self.lower_early(starts, operator, first, rest, free);
         }
-        self.lower_settled(starts, value, free)
+        self.lower_settled(starts, operator, value, free)
     }
 
-    /// The condition of a branch before the jump over its first statement. Of tests by `&&` each that fails is to lead to the other one.
+    /// The condition of a branch before the jump over its first statement. Of tests by this operator each that decides
+    /// is to lead to the other one.
     pub(crate) fn lower_branch(
         &mut self,
         starts: &Starts,
+        operator: LogicalOperator,
         value: &Expr,
         free: usize,
     ) -> Result<Tested, AllocError>
         requires { free ≤ most_locals + length self.old.code.items }
-        ensures { IfOk result (IsBranch (view_starts starts.now) (view_expression value.now) free self.old.code.items self.new.code.items) }
+        ensures { IfOk result (IsBranch (view_starts starts.now) operator (view_expression value.now) free self.old.code.items self.new.code.items) }
     {
         match value {
-            Expr::Binary { first, rest, .. } => self.branch_chain(starts, value, first, rest, free),
-            _ => self.lower_settled(starts, value, free),
+            Expr::Binary { first, rest, .. } => self.branch_chain(
+                starts, operator, value, first, rest, free,
+            ),
+            Expr::Unary {
+                operator: applied,
+                operand,
+            } => match applied {
+                UnaryOperator::Not => {
+                    let turned = turned_test(operator);
+                    let mut tested = self.lower_branch(starts, turned, operand, free)?;
+                    tested.last = negated_condition(tested.last);
+                    Ok(tested)
+                }
+                _ => self.lower_settled(starts, operator, value, free),
+            },
+            _ => self.lower_settled(starts, operator, value, free),
         }
     }
 

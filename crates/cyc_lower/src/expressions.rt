@@ -476,7 +476,7 @@ impl Emitter {
 
     /// The left operand of a chain, which may be without code where the right one is simple.
     #[cycle(expression)]
-    pub(crate) fn lower_left(
+    fn lower_left(
         &mut self,
         starts: &Starts,
         first: &Expr,

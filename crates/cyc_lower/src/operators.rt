@@ -1,8 +1,8 @@
 //! What operators become.
 ghost use Rattle.std.specs.Prelude.{◌≡◌, ◌≤◌};
 ghost use Rattle.cyc_lower.specs.inside.ValueCode.{low_byte, unary_instruction, binary_operator, left_kind, pointer_operator, failing_comparison, move_of, jump_if_zero, jump_if_nonzero, test_jump, scale_of, load_of, store_of};
-ghost use Rattle.cyc_lower.specs.inside.ControlCode.{opposite, negated_condition, failing_jump, holding_jump, deciding_jump, tag_operand, other_jump, goes_on, null_failing, null_compared};
-ghost use Rattle.cyc_lower.specs.inside.Emission.{most_locals, null_operation};
+ghost use Rattle.cyc_lower.specs.inside.ControlCode.{opposite, negated_condition, failing_jump, holding_jump, deciding_condition, deciding_jump, tag_operand, other_jump, goes_on, null_failing, null_compared, pointers_failing};
+ghost use Rattle.cyc_lower.specs.inside.Emission.{most_locals, null_operation, pair_operation, right_of};
 ghost use Rattle.cyc_types.specs.TypedTreeView.{view_expression};
 
 use crate::operands::Condition;
@@ -177,6 +177,50 @@ pub(crate) fn failing_comparison(operator: typed::Operator) -> Option<Comparison
     }
 }
 
+/// The comparison of two pointers' first words that holds where that of the pointers fails, of which both are thin, or the left one is null.
+fn pointers_failing(operator: typed::PointerOperator) -> Option<Comparison>
+    ensures { result ≡ pointers_failing operator }
+{
+    match operator {
+        typed::PointerOperator::EqualThin | typed::PointerOperator::NullIs => Some(
+            Comparison::NotEqual,
+        ),
+        typed::PointerOperator::NotEqualThin | typed::PointerOperator::NullIsNot => Some(
+            Comparison::Equal,
+        ),
+        typed::PointerOperator::AddFat
+        | typed::PointerOperator::SubtractFat
+        | typed::PointerOperator::ThinIsNull
+        | typed::PointerOperator::ThinIsNotNull
+        | typed::PointerOperator::FatIsNull
+        | typed::PointerOperator::FatIsNotNull => None,
+    }
+}
+
+/// The comparison that holds where that of the two operands of an operator of a chain fails, if it compares them.
+pub(crate) fn pair_operation(operation: &typed::Operation) -> Option<Comparison>
+    ensures { result ≡ pair_operation operation.now }
+{
+    match operation {
+        typed::Operation::Compute { operator, .. } => failing_comparison(*operator),
+        typed::Operation::Pointer { operator, .. }
+        | typed::Operation::PointerPeek { operator, .. } => pointers_failing(*operator),
+        typed::Operation::Test { .. } => None,
+    }
+}
+
+/// What stands on the right of an operator of a chain.
+pub(crate) fn right_of(operation: &typed::Operation) -> &typed::Expr
+    ensures { view_expression result.now ≡ right_of operation.now }
+{
+    match operation {
+        typed::Operation::Compute { operand, .. }
+        | typed::Operation::Test { operand, .. }
+        | typed::Operation::Pointer { operand, .. }
+        | typed::Operation::PointerPeek { operand, .. } => operand,
+    }
+}
+
 /// The comparison that holds where another one fails.
 fn opposite(comparison: Comparison) -> Comparison
     ensures { result ≡ opposite comparison }
@@ -310,7 +354,20 @@ pub(crate) fn negated_condition(condition: Condition) -> Condition
     }
 }
 
-/// A jump where the left operand of a test decides what it gives.
+/// The condition that fails where the left operand of a test decides what it gives.
+pub(crate) fn deciding_condition(
+    operator: typed::LogicalOperator,
+    condition: Condition,
+) -> Condition
+    ensures { result ≡ deciding_condition operator condition }
+{
+    match operator {
+        typed::LogicalOperator::AndThen => condition,
+        typed::LogicalOperator::OrElse => negated_condition(condition),
+    }
+}
+
+/// A jump there.
 pub(crate) fn deciding_jump(
     operator: typed::LogicalOperator,
     condition: Condition,
@@ -318,10 +375,7 @@ pub(crate) fn deciding_jump(
 ) -> Instruction
     ensures { result ≡ deciding_jump operator condition target }
 {
-    match operator {
-        typed::LogicalOperator::AndThen => failing_jump(condition, target),
-        typed::LogicalOperator::OrElse => holding_jump(condition, target),
-    }
+    failing_jump(deciding_condition(operator, condition), target)
 }
 
 /// A jump where a word is 0.

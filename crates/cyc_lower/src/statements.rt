@@ -390,7 +390,7 @@ impl Emitter {
         requires begun { exits.head ≤ length self.old.code.items }
         ensures { Appends result self.old self.new (then_code (view_starts starts.now) (view_expression condition.now) (view_statement then.now) (length self.old.code.items) exits free) }
     {
-        let tested = self.lower_branch(starts, condition, free)?;
+        let tested = self.lower_branch(starts, LogicalOperator::AndThen, condition, free)?;
         let over = self.reserve()?;
         self.lower_statement(starts, then, exits, free)?;
         self.fail_here(over, &tested);
@@ -443,7 +443,7 @@ impl Emitter {
                 if is_nothing(otherwise) {
                     return self.lower_then(starts, then, condition, exits, free);
                 }
-                let tested = self.lower_branch(starts, condition, free)?;
+                let tested = self.lower_branch(starts, LogicalOperator::AndThen, condition, free)?;
                 let over_then = self.reserve()?;
                 self.lower_statement(starts, then, exits, free)?;
                 let over_otherwise = self.reserve()?;

@@ -5,6 +5,7 @@ use Rattle.std.specs.declared.vec.Vec.{Vec}
 use Rattle.std.specs.declared.boxed.Box.{Box}
 use Rattle.std.specs.declared.alloc.Global.{Global as Heap}
 use Rattle.cyc_words.specs.declared.span.Span.{Span}
+use Rattle.cyc_types.specs.declared.typed.LogicalOperator.TheVariants as logical
 use Rattle.cyc_types.specs.declared.typed.Expr.{Expr}
 use Rattle.cyc_types.specs.declared.typed.Stmt.{Stmt}
 use Rattle.cyc_types.specs.declared.typed.Stmt.TheVariants as stmt
@@ -216,12 +217,12 @@ nothing_is Empty is = refl
 nothing_is s is = absurd (let f : false ≡ true = is in cc)
 
 -- a branch of which nothing stands behind `else`
-module _ (starts : Starts) (a : Expression) (s : Statement) (exits : Exits) (d : ℕ) (o : Condition) (early : List Pending) (o_is : o ≡ branch_of starts a d) (old : List Instruction) (aims : Aims early (λ other. branch_code starts a other (length old) d) (length old)) (x : Instruction) (m0 m1 m2 m3 : List Instruction) (over : ℕ) where
-  pub made_then : m0 ≡ old ++ branch_code starts a 0 (length old) d → over ≡ length m0 → m1 ≡ m0 ++ x ∷ [] → m2 ≡ m1 ++ statement_code starts s (length m1) exits d → m3 ≡ failed early (length m2) (set m2 over (failing_jump o (length m2)))
+module _ (starts : Starts) (a : Expression) (s : Statement) (exits : Exits) (d : ℕ) (o : Condition) (early : List Pending) (o_is : o ≡ branch_of starts logical.AndThen a d) (old : List Instruction) (aims : Aims early (λ other. branch_code starts logical.AndThen a other (length old) d) (length old)) (x : Instruction) (m0 m1 m2 m3 : List Instruction) (over : ℕ) where
+  pub made_then : m0 ≡ old ++ branch_code starts logical.AndThen a 0 (length old) d → over ≡ length m0 → m1 ≡ m0 ++ x ∷ [] → m2 ≡ m1 ++ statement_code starts s (length m1) exits d → m3 ≡ failed early (length m2) (set m2 over (failing_jump o (length m2)))
       → m3 ≡ old ++ then_code starts a s (length old) exits d
   made_then e0 h1 e1 e2 e3 =
-      let condition : ℕ → List Instruction = λ other. branch_code starts a other (length old) d in
-      let jump : ℕ → Instruction = λ n. failing_jump (branch_of starts a d) n in
+      let condition : ℕ → List Instruction = λ other. branch_code starts logical.AndThen a other (length old) d in
+      let jump : ℕ → Instruction = λ n. failing_jump (branch_of starts logical.AndThen a d) n in
       let first : ℕ → List Instruction = λ p. statement_code starts s p exits d in
       let p = length old + length (condition 0) + 1 in
       let q = p + length (first p) + 0 in
@@ -250,18 +251,18 @@ module _ (starts : Starts) (value : Stmt) {w : Span} (e : Expr) (b b' : Box Stmt
       ∙ ap (λ (z : Statement). old ++ statement_code starts (If (view_expression e) (view_statement s) z) (length old) exits d) (sym (nothing_is (view_statement t) none))
       ∙ ap (λ (z : Statement). old ++ statement_code starts z (length old) exits d) (sym if_viewed)
 
-module _ (starts : Starts) (value : Stmt) {w : Span} (e : Expr) (b b' : Box Stmt Heap) (is : value ≡ stmt.If w e b b') (s t : Stmt) (at : s ≡ b.value) (at' : t ≡ b'.value) (exits : Exits) (d : ℕ) (o : Condition) (early : List Pending) (o_is : o ≡ branch_of starts (view_expression e) d) (old : List Instruction) (aims : Aims early (λ other. branch_code starts (view_expression e) other (length old) d) (length old)) (x y : Instruction) (m0 m1 m2 m3 m4 m5 m6 : List Instruction) (p1 p2 : ℕ) where
-  pub made_if : is_nothing (view_statement t) ≡ false → m0 ≡ old ++ branch_code starts (view_expression e) 0 (length old) d → p1 ≡ length m0 → m1 ≡ m0 ++ x ∷ [] → m2 ≡ m1 ++ statement_code starts (view_statement s) (length m1) exits d → p2 ≡ length m2 → m3 ≡ m2 ++ y ∷ []
+module _ (starts : Starts) (value : Stmt) {w : Span} (e : Expr) (b b' : Box Stmt Heap) (is : value ≡ stmt.If w e b b') (s t : Stmt) (at : s ≡ b.value) (at' : t ≡ b'.value) (exits : Exits) (d : ℕ) (o : Condition) (early : List Pending) (o_is : o ≡ branch_of starts logical.AndThen (view_expression e) d) (old : List Instruction) (aims : Aims early (λ other. branch_code starts logical.AndThen (view_expression e) other (length old) d) (length old)) (x y : Instruction) (m0 m1 m2 m3 m4 m5 m6 : List Instruction) (p1 p2 : ℕ) where
+  pub made_if : is_nothing (view_statement t) ≡ false → m0 ≡ old ++ branch_code starts logical.AndThen (view_expression e) 0 (length old) d → p1 ≡ length m0 → m1 ≡ m0 ++ x ∷ [] → m2 ≡ m1 ++ statement_code starts (view_statement s) (length m1) exits d → p2 ≡ length m2 → m3 ≡ m2 ++ y ∷ []
       → m4 ≡ failed early (length m3) (set m3 p1 (failing_jump o (length m3))) → m5 ≡ m4 ++ statement_code starts (view_statement t) (length m4) exits d → m6 ≡ set m5 p2 (instructions.Jump (length m5))
       → m6 ≡ old ++ statement_code starts (view_statement value) (length old) exits d
   made_if some e0 h1 e1 e2 h2 e3 e4 e5 e6 =
-      let condition : ℕ → List Instruction = λ other. branch_code starts (view_expression e) other (length old) d in
-      let jump : ℕ → Instruction = λ n. failing_jump (branch_of starts (view_expression e) d) n in
+      let condition : ℕ → List Instruction = λ other. branch_code starts logical.AndThen (view_expression e) other (length old) d in
+      let jump : ℕ → Instruction = λ n. failing_jump (branch_of starts logical.AndThen (view_expression e) d) n in
       let first : ℕ → List Instruction = λ p. statement_code starts (view_statement s) p exits d in
       let second : ℕ → List Instruction = λ p. statement_code starts (view_statement t) p exits d in
       let p = length old + length (condition 0) + 1 in
       let q = p + length (first p) + 1 in
-      branched old condition (failed early) (λ rest target. aims old rest target refl) (λ target. branch_same starts (view_expression e) target 0 (length old) d) x y first second jump (λ (n : ℕ). instructions.Jump n) m0 m1 m2 m3 m4 m5 m6
+      branched old condition (failed early) (λ rest target. aims old rest target refl) (λ target. branch_same starts logical.AndThen (view_expression e) target 0 (length old) d) x y first second jump (λ (n : ℕ). instructions.Jump n) m0 m1 m2 m3 m4 m5 m6
       e0 e1 e2 e3
       (e4 ∙ ap (λ (n : ℕ). failed early (length m3) (set m3 n (failing_jump o (length m3)))) h1 ∙ ap (λ (r : Condition). failed early (length m3) (set m3 (length m0) (failing_jump r (length m3)))) o_is)
       e5 (e6 ∙ ap (λ (n : ℕ). set m5 n (instructions.Jump (length m5))) h2)

@@ -1,18 +1,25 @@
 -- Code of conditions that is made piece by piece.
-use Rattle.std.proofs.Common.{◌≡◌, ℕ, suc, ◌+◌, ◌≤◌, ◌<◌, Bool, true, false, take, drop, set, get_or, length-append, append_assoc, List, [], ◌∷◌, ◌++◌, length, Option, Some, slice_get, refl, sym, ap, subst, ◌∙◌, arith, append-nil}
+use Rattle.std.proofs.Common.{◌≡◌, ℕ, suc, ◌+◌, ◌≤◌, ◌<◌, Bool, true, false, take, drop, set, get_or, length-append, append_assoc, List, [], ◌∷◌, ◌++◌, length, Option, None, Some, slice_get, refl, sym, ap, subst, ◌∙◌, arith, append-nil}
 use Rattle.std.proofs.lemmas.Option.{same_Some, none-some}
 use Rattle.std.proofs.lemmas.List.{drop_all, drop_more, length-set}
 use Rattle.std.proofs.Math.Seq.{take-append_seam, set-append_seam}
+use Rattle.std.specs.declared.alloc.Global.{Global as Heap}
+use Rattle.std.specs.declared.boxed.Box.{Box}
+use Rattle.std.specs.declared.vec.Vec.{Vec}
 use Rattle.std.specs.Prelude.{if◌then◌else◌, ◌&&◌, ◌==◌}
 use Rattle.cyc_words.specs.declared.span.Span.{Span}
+use Rattle.cyc_words.proofs.Booleans.{and_right}
+use Rattle.cyc_types.specs.declared.ty.Ty.{Ty as TyCode}
 use Rattle.cyc_types.specs.declared.typed.Operator.{Operator}
+use Rattle.cyc_types.specs.declared.typed.UnaryOperator.{UnaryOperator}
+use Rattle.cyc_types.specs.declared.typed.UnaryOperator.TheVariants as unary
 use Rattle.cyc_types.specs.declared.typed.LogicalOperator.{LogicalOperator}
-use Rattle.cyc_types.specs.declared.typed.LogicalOperator.TheVariants as logical
-use Rattle.cyc_types.specs.declared.typed.Expr.{Expr}
+use Rattle.cyc_types.specs.declared.typed.Expr.{Expr, roll-Expr, roll-out-Expr}
+use Rattle.cyc_types.specs.declared.typed.Expr.TheVariants as expr
 use Rattle.cyc_types.specs.declared.typed.Operation.{Operation}
 use Rattle.cyc_types.specs.declared.typed.Operation.TheVariants as operation
 use Rattle.cyc_types.specs.Types.{Ty}
-use Rattle.cyc_types.specs.TypedTrees.{Expression, Binary, Operations, ThenCompute, ThenTest, ThenPointer, ThenPointerPeek, NoOperations}
+use Rattle.cyc_types.specs.TypedTrees.{Expression, Number, Unary, Binary, Operations, ThenCompute, ThenTest, ThenPointer, ThenPointerPeek, NoOperations}
 use Rattle.cyc_types.specs.TypedTreeView.{view_expression, operations_of}
 use Rattle.cyc_plain.specs.declared.instruction.Comparison.{Comparison}
 use Rattle.cyc_plain.specs.declared.instruction.Operand.{Operand}
@@ -21,11 +28,10 @@ use Rattle.cyc_lower.specs.declared.operands.Condition.{Condition}
 use Rattle.cyc_lower.specs.declared.conditions.Pending.{Pending}
 use Rattle.cyc_lower.specs.declared.conditions.Tested.{Tested}
 use Rattle.cyc_lower.specs.inside.Slots.{Starts}
-use Rattle.cyc_lower.specs.inside.ValueCode.{operand_or, failing_comparison}
-use Rattle.cyc_lower.specs.inside.ControlCode.{Compared, with_zero, compared_or, compared_of, deciding_jump, failing_jump, all_test, are_tests, nulled_or}
-use Rattle.cyc_lower.specs.inside.ExpressionCode.{left_of, left_slot, value_operand}
+use Rattle.cyc_lower.specs.inside.ControlCode.{Compared, with_zero, compared_or, compared_of, is_same, deciding_condition, deciding_jump, failing_jump, turned_test, all_test, are_tests, nulled_or, pointers_failing}
+use Rattle.cyc_lower.specs.inside.ExpressionCode.{value_operand}
 use Rattle.cyc_lower.specs.inside.Lowering.{first_operand, first_code, second_code, pair_code, condition_code, condition_of, others_code, last_condition, tests_code, behind_tests, choice_code, choice_of, branch_code, branch_of, compares_light, is_light_comparison}
-use Rattle.cyc_lower.specs.inside.Emission.{most_locals, is_test, failed, AreBefore, early_jumps, Aims, IsTested, IsEarly, IsBranch, IsSettled, other_code, other_condition, value_code, left_code, zero_condition, null_condition, null_operation}
+use Rattle.cyc_lower.specs.inside.Emission.{most_locals, is_test, failed, AreBefore, early_jumps, Aims, IsTested, IsEarly, IsBranch, IsSettled, other_code, other_condition, value_code, zero_condition, null_condition, pair_condition, null_operation, pair_operation, right_of}
 use Rattle.cyc_lower.proofs.emission.Emitting.{emitted_joined, Lowers, Remains, goes_on, all_made, no_shorter_than}
 
 -- ---- chains that are tested whole
@@ -86,7 +92,7 @@ module _ (starts : Starts) where
   )
 
   -- a pointer that is compared with null, by the only operator of a chain
-  made_nulled : (whole a : Expression) (failing : Comparison) (answer : Condition) (old new : List Instruction) (t : ℕ) → compared_of whole ≡ nulled_or (Some failing) a whole
+  made_nulled : (whole a : Expression) (failing : Comparison) (answer : Condition) (old new : List Instruction) (t : ℕ) → compared_of whole ≡ record { failing = failing; left = a; right = Number 0 }
       → (answer ≡ null_condition starts failing a t) × (new ≡ old ++ value_code starts a (length old) t) → IsMade whole answer old new t
   made_nulled whole a failing answer old new t is (answers, made) = (
     answers ∙ sym (ap (λ (x : Compared). operands_of x t) is),
@@ -95,9 +101,11 @@ module _ (starts : Starts) where
   )
 
   null_chain : (first : Expression) (x : Operation) (ty : Ty) (failing : Comparison) → null_operation x ≡ Some failing
-      → compared_of (Binary first (operations_of (x ∷ [])) ty) ≡ nulled_or (Some failing) first (Binary first (operations_of (x ∷ [])) ty)
-  null_chain first (operation.Pointer o e) ty failing is = ap (λ (f : Option Comparison). nulled_or f first (Binary first (ThenPointer o (view_expression e) NoOperations) ty)) is
-  null_chain first (operation.PointerPeek n o e) ty failing is = ap (λ (f : Option Comparison). nulled_or f first (Binary first (ThenPointerPeek n o (view_expression e) NoOperations) ty)) is
+      → compared_of (Binary first (operations_of (x ∷ [])) ty) ≡ record { failing = failing; left = first; right = Number 0 }
+  null_chain first (operation.Pointer o e) ty failing is =
+      ap (λ (f : Option Comparison). nulled_or f (pointers_failing o) first (view_expression e) (Binary first (ThenPointer o (view_expression e) NoOperations) ty)) is
+  null_chain first (operation.PointerPeek n o e) ty failing is =
+      ap (λ (f : Option Comparison). nulled_or f (pointers_failing o) first (view_expression e) (Binary first (ThenPointerPeek n o (view_expression e) NoOperations) ty)) is
   null_chain first (operation.Compute w o e) ty failing is = absurd (none-some failing is)
   null_chain first (operation.Test o e) ty failing is = absurd (none-some failing is)
 
@@ -111,39 +119,49 @@ module _ (starts : Starts) where
       subst (λ (w : Expression). IsMade w answer old new t) (sym chain)
       (made_nulled (Binary first (operations_of (y ∷ [])) ty) first failing answer old new t (null_chain first y ty failing here) made)
 
-  -- a chain of one operator that compares: its operands, one behind the other
-  compared_pair : (first : Expression) (o : Operator) (e : Expr) (ty : Ty) (failing : Comparison) (l r : Operand) (old m1 m2 : List Instruction) (t : ℕ) → failing_comparison o ≡ Some failing
-      → l ≡ first_operand starts first (view_expression e) t → m1 ≡ old ++ first_code starts first (view_expression e) (length old) t
-      → r ≡ value_operand starts (view_expression e) (suc t) → m2 ≡ m1 ++ value_code starts (view_expression e) (length m1) (suc t)
-      → IsMade (Binary first (ThenCompute o (view_expression e) NoOperations) ty) (record { failing = failing; left = l; right = r }) old m2 t
-  compared_pair first o e ty failing l r old m1 m2 t is left made_left right made_right =
-      let b = view_expression e in
-      let whole = Binary first (ThenCompute o b NoOperations) ty in
-      let front = first_code starts first b (length old) t in
-      let compared : compared_of whole ≡ record { failing = failing; left = first; right = b } = ap (λ (f : Option Comparison). compared_or f first b whole) is in (
-        ap (λ (x : Operand). let k : Condition = record { failing = failing; left = x; right = r } in k) left
-            ∙ ap (λ (x : Operand). let k : Condition = record { failing = failing; left = first_operand starts first b t; right = x } in k) right
-            ∙ sym (ap (λ (x : Compared). operands_of x t) compared),
-        emitted_joined old front (λ p. second_code starts b p t) m1 m2 made_left made_right
-            ∙ sym (ap (λ (x : Compared). old ++ pair_code starts x.left x.right (length old) t) compared),
-      )
+  -- two operands that are compared by it
+  pair_chain : (first : Expression) (x : Operation) (ty : Ty) (failing : Comparison) → null_operation x ≡ None → pair_operation x ≡ Some failing
+      → compared_of (Binary first (operations_of (x ∷ [])) ty) ≡ record { failing = failing; left = first; right = right_of x }
+  pair_chain first (operation.Compute w o e) ty failing none is =
+      ap (λ (f : Option Comparison). compared_or f first (view_expression e) (Binary first (ThenCompute o (view_expression e) NoOperations) ty)) is
+  pair_chain first (operation.Pointer o e) ty failing none is =
+      let whole = Binary first (ThenPointer o (view_expression e) NoOperations) ty in
+      ap (λ (f : Option Comparison). nulled_or f (pointers_failing o) first (view_expression e) whole) none
+      ∙ ap (λ (f : Option Comparison). compared_or f first (view_expression e) whole) is
+  pair_chain first (operation.PointerPeek n o e) ty failing none is =
+      let whole = Binary first (ThenPointerPeek n o (view_expression e) NoOperations) ty in
+      ap (λ (f : Option Comparison). nulled_or f (pointers_failing o) first (view_expression e) whole) none
+      ∙ ap (λ (f : Option Comparison). compared_or f first (view_expression e) whole) is
+  pair_chain first (operation.Test o e) ty failing none is = absurd (none-some failing is)
 
-  pub made_compared : {w : Span} (whole first : Expression) (xs : List Operation) (x : Operation) (o : Operator) (e : Expr) (ty : Ty) (failing : Comparison) (l r : Operand) (old m1 m2 : List Instruction) (t behind : ℕ)
-      → whole ≡ Binary first (operations_of xs) ty → length xs ≡ 1 → Some x ≡ slice_get xs 0 → x ≡ operation.Compute w o e → failing_comparison o ≡ Some failing → behind ≡ t + 1
-      → l ≡ operand_or (left_of starts first (operations_of xs)) (left_slot starts first (operations_of xs) t t) → m1 ≡ old ++ left_code starts first (operations_of xs) (length old) t t
-      → r ≡ value_operand starts (view_expression e) behind → m2 ≡ m1 ++ value_code starts (view_expression e) (length m1) behind
-      → IsMade whole (record { failing = failing; left = l; right = r }) old m2 t
-  made_compared whole first [] x o e ty failing l r old m1 m2 t behind chain single at is fails behind_is left made_left right made_right = absurd (omega (arith, single))
-  made_compared whole first (y ∷ z ∷ xs) x o e ty failing l r old m1 m2 t behind chain single at is fails behind_is left made_left right made_right = absurd (omega (arith, single))
-  made_compared whole first (y ∷ []) x o e ty failing l r old m1 m2 t behind chain single at is fails behind_is left made_left right made_right =
-      let same = sym (same_Some x y at) ∙ is in
+  made_paired : (whole a b : Expression) (failing : Comparison) (answer : Condition) (old new : List Instruction) (t : ℕ) → compared_of whole ≡ record { failing = failing; left = a; right = b }
+      → (answer ≡ pair_condition starts failing a b t) × (new ≡ old ++ pair_code starts a b (length old) t) → IsMade whole answer old new t
+  made_paired whole a b failing answer old new t is (answers, made) = (
+    answers ∙ sym (ap (λ (x : Compared). operands_of x t) is),
+    made ∙ sym (ap (λ (x : Compared). old ++ pair_code starts x.left x.right (length old) t) is),
+  )
+
+  pub made_pair : (whole first : Expression) (xs : List Operation) (x : Operation) (ty : Ty) (failing : Comparison) (answer : Condition) (old new : List Instruction) (t : ℕ)
+      → whole ≡ Binary first (operations_of xs) ty → length xs ≡ 1 → Some x ≡ slice_get xs 0 → null_operation x ≡ None → pair_operation x ≡ Some failing
+      → (answer ≡ pair_condition starts failing first (right_of x) t) × (new ≡ old ++ pair_code starts first (right_of x) (length old) t) → IsMade whole answer old new t
+  made_pair whole first [] x ty failing answer old new t chain single at none is made = absurd (omega (arith, single))
+  made_pair whole first (y ∷ z ∷ xs) x ty failing answer old new t chain single at none is made = absurd (omega (arith, single))
+  made_pair whole first (y ∷ []) x ty failing answer old new t chain single at none is made =
+      let same : x ≡ y = same_Some x y at in
+      subst (λ (w : Expression). IsMade w answer old new t) (sym (chain ∙ ap (λ (z : Operation). Binary first (operations_of (z ∷ [])) ty) (sym same)))
+      (made_paired (Binary first (operations_of (x ∷ [])) ty) first (right_of x) failing answer old new t (pair_chain first x ty failing none is) made)
+
+  -- the operands of a pair, one behind the other
+  pub pair_made : (a b : Expression) (failing : Comparison) (l r : Operand) (old m1 m2 : List Instruction) (t behind : ℕ) → behind ≡ t + 1
+      → l ≡ first_operand starts a b t → m1 ≡ old ++ first_code starts a b (length old) t → r ≡ value_operand starts b behind → m2 ≡ m1 ++ value_code starts b (length m1) behind
+      → (record { failing = failing; left = l; right = r } ≡ pair_condition starts failing a b t) × (m2 ≡ old ++ pair_code starts a b (length old) t)
+  pair_made a b failing l r old m1 m2 t behind behind_is left made_left right made_right =
       let next : behind ≡ suc t = omega (arith, behind_is) in
-      subst (λ (z : Expression). IsMade z (record { failing = failing; left = l; right = r }) old m2 t) (sym (chain ∙ ap (λ (z : Operation). Binary first (operations_of (z ∷ [])) ty) same))
-      (compared_pair first o e ty failing l r old m1 m2 t fails
-      (left ∙ ap (λ (z : Operation). operand_or (left_of starts first (operations_of (z ∷ []))) (left_slot starts first (operations_of (z ∷ [])) t t)) same)
-      (made_left ∙ ap (λ (z : Operation). old ++ left_code starts first (operations_of (z ∷ [])) (length old) t t) same)
-      (right ∙ ap (value_operand starts (view_expression e)) next)
-      (made_right ∙ ap (λ (n : ℕ). m1 ++ value_code starts (view_expression e) (length m1) n) next))
+      let front = first_code starts a b (length old) t in (
+        ap (λ (x : Operand). let k : Condition = record { failing = failing; left = x; right = r } in k) left
+            ∙ ap (λ (x : Operand). let k : Condition = record { failing = failing; left = first_operand starts a b t; right = x } in k) (right ∙ ap (value_operand starts b) next),
+        emitted_joined old front (λ p. second_code starts b p t) m1 m2 made_left (made_right ∙ ap (λ (n : ℕ). m1 ++ value_code starts b (length m1) n) next),
+      )
 
 -- ---- conditions with several operands
 
@@ -168,14 +186,15 @@ module _ (starts : Starts) where
       let c = condition_of starts a t in
       omega (arith, length-append first (others_code starts u os c x q t), length-append first (others_code starts u os c y q t), others_same u os c x y q t)
 
-  pub branch_same : (a : Expression) (x y p t : ℕ) → length (branch_code starts a x p t) ≡ length (branch_code starts a y p t)
-  branch_same (Binary a os ty) x y p t = by (are_tests logical.AndThen os)
+  pub branch_same : (u : LogicalOperator) (a : Expression) (x y p t : ℕ) → length (branch_code starts u a x p t) ≡ length (branch_code starts u a y p t)
+  branch_same u (Unary unary.Not a) x y p t = branch_same (turned_test u) a x y p t
+  branch_same u (Binary a os ty) x y p t = by (are_tests u os)
     where
-      by : (tests : Bool) → length (if tests then tests_code starts logical.AndThen a os x p t else choice_code starts logical.OrElse (Binary a os ty) p t)
-          ≡ length (if tests then tests_code starts logical.AndThen a os y p t else choice_code starts logical.OrElse (Binary a os ty) p t)
-      by true = tests_same logical.AndThen a os x y p t
+      by : (tests : Bool) → length (if tests then tests_code starts u a os x p t else choice_code starts (turned_test u) (Binary a os ty) p t)
+          ≡ length (if tests then tests_code starts u a os y p t else choice_code starts (turned_test u) (Binary a os ty) p t)
+      by true = tests_same u a os x y p t
       by false = refl
-  branch_same a x y p t = refl
+  branch_same u a x y p t = refl
 
   -- the operands behind the first, where the state is the condition that is made of the one before
   abbrev pub all_others : LogicalOperator → (behind t : ℕ) → List Operation → ℕ → Condition → List Instruction
@@ -328,137 +347,174 @@ none_wait code early place none = λ old rest target here. ap (λ (l : List Pend
 
 module _ (starts : Starts) where
   -- the jumps that are kept so far, with those of the operands that are still to be made
-  abbrev pub EarlyRemain : Expression → List Operation → (t : ℕ) → (old : List Instruction) → (i : ℕ) → (code : List Instruction) → Condition → List Pending → Type 0
-  EarlyRemain a os t old i code c early =
-      OthersRemain starts logical.AndThen a os 0 t old i code c
-      × (early ++ early_jumps starts (drop i os) c (length code) t ≡ early_jumps starts os (condition_of starts a t) (length old + length (condition_code starts a (length old) t)) t)
+  abbrev pub EarlyRemain : LogicalOperator → Expression → List Operation → (t : ℕ) → (old : List Instruction) → (i : ℕ) → (code : List Instruction) → Condition → List Pending → Type 0
+  EarlyRemain u a os t old i code c early =
+      OthersRemain starts u a os 0 t old i code c
+      × (early ++ early_jumps starts u (drop i os) c (length code) t ≡ early_jumps starts u os (condition_of starts a t) (length old + length (condition_code starts a (length old) t)) t)
 
-  pub early_begin : (a : Expression) (os : List Operation) (t : ℕ) (old code : List Instruction) (c : Condition) (early : List Pending) → early ≡ [] → t ≤ most_locals + length old → c ≡ condition_of starts a t
-      → code ≡ old ++ condition_code starts a (length old) t → EarlyRemain a os t old 0 code c early
-  early_begin a os t old code c early none low is made = (
-    others_begin starts logical.AndThen a os 0 t old code c low is made,
-    ap (λ (l : List Pending). l ++ early_jumps starts os c (length code) t) none
-        ∙ ap (λ (x : Condition). early_jumps starts os x (length code) t) is
-        ∙ ap (λ (n : ℕ). early_jumps starts os (condition_of starts a t) n t) (ap length made ∙ length-append old (condition_code starts a (length old) t)),
+  pub early_begin : (u : LogicalOperator) (a : Expression) (os : List Operation) (t : ℕ) (old code : List Instruction) (c : Condition) (early : List Pending) → early ≡ [] → t ≤ most_locals + length old → c ≡ condition_of starts a t
+      → code ≡ old ++ condition_code starts a (length old) t → EarlyRemain u a os t old 0 code c early
+  early_begin u a os t old code c early none low is made = (
+    others_begin starts u a os 0 t old code c low is made,
+    ap (λ (l : List Pending). l ++ early_jumps starts u os c (length code) t) none
+        ∙ ap (λ (x : Condition). early_jumps starts u os x (length code) t) is
+        ∙ ap (λ (n : ℕ). early_jumps starts u os (condition_of starts a t) n t) (ap length made ∙ length-append old (condition_code starts a (length old) t)),
   )
 
-  pub early_next : (a : Expression) (os : List Operation) (t : ℕ) (old : List Instruction) (i : ℕ) (code new : List Instruction) (c d : Condition) (early more : List Pending) (x : Operation) → i < length os → x ≡ get_or os i x
-      → more ≡ early ++ record { place = length code; condition = c } ∷ [] → new ≡ code ++ other_code starts logical.AndThen x c 0 (length code) t → d ≡ other_condition starts x c t
-      → EarlyRemain a os t old i code c early → EarlyRemain a os t old (i + 1) new d more
-  early_next a os t old i code new c d early more x inside at kept made is (remains, jumps) =
+  pub early_next : (u : LogicalOperator) (a : Expression) (os : List Operation) (t : ℕ) (old : List Instruction) (i : ℕ) (code new : List Instruction) (c d : Condition) (early more : List Pending) (x : Operation) → i < length os → x ≡ get_or os i x
+      → more ≡ early ++ record { place = length code; condition = deciding_condition u c } ∷ [] → new ≡ code ++ other_code starts u x c 0 (length code) t → d ≡ other_condition starts x c t
+      → EarlyRemain u a os t old i code c early → EarlyRemain u a os t old (i + 1) new d more
+  early_next u a os t old i code new c d early more x inside at kept made is (remains, jumps) =
       let rest = drop (i + 1) os in
       let here : drop i os ≡ x ∷ rest = drop_more os i x inside ∙ ap (λ (y : Operation). y ∷ rest) (sym at) in
-      let added = other_code starts logical.AndThen x c 0 (length code) t in
-      let this : Pending = record { place = length code; condition = c } in
-      let later = early_jumps starts rest (other_condition starts x c t) (length code + length added) t in (
-        others_next starts logical.AndThen a os 0 t old i code new c d x inside at made is remains,
-        ap (λ (l : List Pending). l ++ early_jumps starts rest d (length new) t) kept
-            ∙ ap (λ (z : Condition). (early ++ this ∷ []) ++ early_jumps starts rest z (length new) t) is
-            ∙ ap (λ (n : ℕ). (early ++ this ∷ []) ++ early_jumps starts rest (other_condition starts x c t) n t) (ap length made ∙ length-append code added)
+      let added = other_code starts u x c 0 (length code) t in
+      let this : Pending = record { place = length code; condition = deciding_condition u c } in
+      let later = early_jumps starts u rest (other_condition starts x c t) (length code + length added) t in (
+        others_next starts u a os 0 t old i code new c d x inside at made is remains,
+        ap (λ (l : List Pending). l ++ early_jumps starts u rest d (length new) t) kept
+            ∙ ap (λ (z : Condition). (early ++ this ∷ []) ++ early_jumps starts u rest z (length new) t) is
+            ∙ ap (λ (n : ℕ). (early ++ this ∷ []) ++ early_jumps starts u rest (other_condition starts x c t) n t) (ap length made ∙ length-append code added)
             ∙ append_assoc early (this ∷ []) later
-            ∙ sym (ap (λ (l : List Operation). early ++ early_jumps starts l c (length code) t) here)
+            ∙ sym (ap (λ (l : List Operation). early ++ early_jumps starts u l c (length code) t) here)
             ∙ jumps,
       )
 
-  pub early_end : (a : Expression) (os : List Operation) (t : ℕ) (old : List Instruction) (i : ℕ) (code : List Instruction) (c : Condition) (early : List Pending) → length os ≤ i → EarlyRemain a os t old i code c early
+  pub early_end : (u : LogicalOperator) (a : Expression) (os : List Operation) (t : ℕ) (old : List Instruction) (i : ℕ) (code : List Instruction) (c : Condition) (early : List Pending) → length os ≤ i → EarlyRemain u a os t old i code c early
       → (c ≡ last_condition starts (operations_of os) (condition_of starts a t) t)
-      × (early ≡ early_jumps starts os (condition_of starts a t) (length old + length (condition_code starts a (length old) t)) t)
-      × (code ≡ old ++ tests_code starts logical.AndThen a (operations_of os) 0 (length old) t)
-  early_end a os t old i code c early done (remains, jumps) =
-      let (last, made) = others_end starts logical.AndThen a os 0 t old i code c done remains in
-      (last, sym (append-nil early) ∙ sym (ap (λ (l : List Operation). early ++ early_jumps starts l c (length code) t) (drop_all i os done)) ∙ jumps, made)
+      × (early ≡ early_jumps starts u os (condition_of starts a t) (length old + length (condition_code starts a (length old) t)) t)
+      × (code ≡ old ++ tests_code starts u a (operations_of os) 0 (length old) t)
+  early_end u a os t old i code c early done (remains, jumps) =
+      let (last, made) = others_end starts u a os 0 t old i code c done remains in
+      (last, sym (append-nil early) ∙ sym (ap (λ (l : List Operation). early ++ early_jumps starts u l c (length code) t) (drop_all i os done)) ∙ jumps, made)
 
   -- they are those of the code, which leads elsewhere for them
-  others_aim : (os : List Operation) (c : Condition) (t : ℕ) (old rest : List Instruction) (target : ℕ) → all_test logical.AndThen (operations_of os) ≡ true
-      → failed (early_jumps starts os c (length old) t) target (old ++ (others_code starts logical.AndThen (operations_of os) c 0 (length old) t ++ rest)) ≡ old ++ (others_code starts logical.AndThen (operations_of os) c target (length old) t ++ rest)
-  others_aim [] c t old rest target all = refl
-  others_aim (operation.Test logical.AndThen e ∷ os) c t old rest target all =
+  others_aim : (u : LogicalOperator) (os : List Operation) (c : Condition) (t : ℕ) (old rest : List Instruction) (target : ℕ) → all_test u (operations_of os) ≡ true
+      → failed (early_jumps starts u os c (length old) t) target (old ++ (others_code starts u (operations_of os) c 0 (length old) t ++ rest)) ≡ old ++ (others_code starts u (operations_of os) c target (length old) t ++ rest)
+  others_aim u [] c t old rest target all = refl
+  others_aim u (operation.Test o e ∷ os) c t old rest target all =
       let p = length old in
       let b = view_expression e in
       let operand = condition_code starts b (p + 1) t in
       let next = condition_of starts b t in
       let q = p + suc (length operand) in
-      let first = failing_jump c target in
-      let others : ℕ → List Instruction = λ x. others_code starts logical.AndThen (operations_of os) next x q t in
+      let first = deciding_jump u c target in
+      let others : ℕ → List Instruction = λ x. others_code starts u (operations_of os) next x q t in
       let whole : ℕ → List Instruction = λ x. operand ++ (others x ++ rest) in
       let before = old ++ first ∷ operand in
       let long : length before ≡ q = length-append old (first ∷ operand) in
-      let jumps = early_jumps starts os next q t in
-      ap (λ (l : List Instruction). failed jumps target (set (old ++ failing_jump c 0 ∷ l) p first)) (append_assoc operand (others 0) rest)
-      ∙ ap (failed jumps target) (set-append_seam old (failing_jump c 0) (whole 0) first ∙ sym (append_assoc old (first ∷ operand) (others 0 ++ rest)))
-      ∙ subst (λ (n : ℕ). failed (early_jumps starts os next n t) target (before ++ (others_code starts logical.AndThen (operations_of os) next 0 n t ++ rest)) ≡ before ++ (others_code starts logical.AndThen (operations_of os) next target n t ++ rest)) long (others_aim os next t before rest target all)
+      let jumps = early_jumps starts u os next q t in
+      ap (λ (l : List Instruction). failed jumps target (set (old ++ deciding_jump u c 0 ∷ l) p first)) (append_assoc operand (others 0) rest)
+      ∙ ap (failed jumps target) (set-append_seam old (deciding_jump u c 0) (whole 0) first ∙ sym (append_assoc old (first ∷ operand) (others 0 ++ rest)))
+      ∙ subst (λ (n : ℕ). failed (early_jumps starts u os next n t) target (before ++ (others_code starts u (operations_of os) next 0 n t ++ rest)) ≡ before ++ (others_code starts u (operations_of os) next target n t ++ rest)) long (others_aim u os next t before rest target (and_right (is_same u o) (all_test u (operations_of os)) all))
       ∙ append_assoc old (first ∷ operand) (others target ++ rest)
       ∙ ap (λ (l : List Instruction). old ++ first ∷ l) (sym (append_assoc operand (others target) rest))
-  others_aim (operation.Test logical.OrElse e ∷ os) c t old rest target all = absurd (let z : false ≡ true = all in cc)
-  others_aim (operation.Compute w o e ∷ os) c t old rest target all = absurd (let z : false ≡ true = all in cc)
-  others_aim (operation.Pointer o e ∷ os) c t old rest target all = absurd (let z : false ≡ true = all in cc)
-  others_aim (operation.PointerPeek n o e ∷ os) c t old rest target all = absurd (let z : false ≡ true = all in cc)
+  others_aim u (operation.Compute w o e ∷ os) c t old rest target all = absurd (let z : false ≡ true = all in cc)
+  others_aim u (operation.Pointer o e ∷ os) c t old rest target all = absurd (let z : false ≡ true = all in cc)
+  others_aim u (operation.PointerPeek n o e ∷ os) c t old rest target all = absurd (let z : false ≡ true = all in cc)
 
-  others_before : (os : List Operation) (c : Condition) (p t : ℕ) → all_test logical.AndThen (operations_of os) ≡ true → AreBefore (early_jumps starts os c p t) (p + length (others_code starts logical.AndThen (operations_of os) c 0 p t))
-  others_before [] c p t all = tt
-  others_before (operation.Test logical.AndThen e ∷ os) c p t all =
+  others_before : (u : LogicalOperator) (os : List Operation) (c : Condition) (p t : ℕ) → all_test u (operations_of os) ≡ true → AreBefore (early_jumps starts u os c p t) (p + length (others_code starts u (operations_of os) c 0 p t))
+  others_before u [] c p t all = tt
+  others_before u (operation.Test o e ∷ os) c p t all =
       let b = view_expression e in
       let operand = condition_code starts b (p + 1) t in
       let next = condition_of starts b t in
       let q = p + suc (length operand) in
-      let others = others_code starts logical.AndThen (operations_of os) next 0 q t in
+      let others = others_code starts u (operations_of os) next 0 q t in
       let long = length-append operand others in
-      (omega arith, before_more (early_jumps starts os next q t) (q + length others) (p + suc (length (operand ++ others))) (others_before os next q t all) (omega (arith, long)))
-  others_before (operation.Test logical.OrElse e ∷ os) c p t all = absurd (let z : false ≡ true = all in cc)
-  others_before (operation.Compute w o e ∷ os) c p t all = absurd (let z : false ≡ true = all in cc)
-  others_before (operation.Pointer o e ∷ os) c p t all = absurd (let z : false ≡ true = all in cc)
-  others_before (operation.PointerPeek n o e ∷ os) c p t all = absurd (let z : false ≡ true = all in cc)
+      (omega arith, before_more (early_jumps starts u os next q t) (q + length others) (p + suc (length (operand ++ others))) (others_before u os next q t (and_right (is_same u o) (all_test u (operations_of os)) all)) (omega (arith, long)))
+  others_before u (operation.Compute w o e ∷ os) c p t all = absurd (let z : false ≡ true = all in cc)
+  others_before u (operation.Pointer o e ∷ os) c p t all = absurd (let z : false ≡ true = all in cc)
+  others_before u (operation.PointerPeek n o e ∷ os) c p t all = absurd (let z : false ≡ true = all in cc)
 
-  -- a branch's condition that is a chain of tests by `&&`, and one that is not
-  tests_all : (os : List Operation) → are_tests logical.AndThen (operations_of os) ≡ true → all_test logical.AndThen (operations_of os) ≡ true
-  tests_all [] tests = refl
-  tests_all (operation.Test o e ∷ os) tests = tests
-  tests_all (operation.Compute w o e ∷ os) tests = tests
-  tests_all (operation.Pointer o e ∷ os) tests = tests
-  tests_all (operation.PointerPeek n o e ∷ os) tests = tests
+  -- a branch's condition that is a chain of such tests, and one that is not
+  tests_all : (u : LogicalOperator) (os : List Operation) → are_tests u (operations_of os) ≡ true → all_test u (operations_of os) ≡ true
+  tests_all u [] tests = refl
+  tests_all u (operation.Test o e ∷ os) tests = tests
+  tests_all u (operation.Compute w o e ∷ os) tests = tests
+  tests_all u (operation.Pointer o e ∷ os) tests = tests
+  tests_all u (operation.PointerPeek n o e ∷ os) tests = tests
 
-  tests_aim : (a : Expression) (os : List Operation) (p t : ℕ) → all_test logical.AndThen (operations_of os) ≡ true
-      → Aims (early_jumps starts os (condition_of starts a t) (p + length (condition_code starts a p t)) t) (λ x. tests_code starts logical.AndThen a (operations_of os) x p t) p
-  tests_aim a os p t all = λ old rest target here.
+  tests_aim : (u : LogicalOperator) (a : Expression) (os : List Operation) (p t : ℕ) → all_test u (operations_of os) ≡ true
+      → Aims (early_jumps starts u os (condition_of starts a t) (p + length (condition_code starts a p t)) t) (λ x. tests_code starts u a (operations_of os) x p t) p
+  tests_aim u a os p t all = λ old rest target here.
       let first = condition_code starts a p t in
       let before = old ++ first in
       let c = condition_of starts a t in
       let q = p + length first in
-      let others : ℕ → List Instruction = λ x. others_code starts logical.AndThen (operations_of os) c x q t in
+      let others : ℕ → List Instruction = λ x. others_code starts u (operations_of os) c x q t in
       let apart : (x : ℕ) → old ++ ((first ++ others x) ++ rest) ≡ before ++ (others x ++ rest)
       = λ x. ap (λ (l : List Instruction). old ++ l) (append_assoc first (others x) rest) ∙ sym (append_assoc old first (others x ++ rest)) in
       let long : length before ≡ q = omega (arith, length-append old first, here) in
-      ap (failed (early_jumps starts os c q t) target) (apart 0)
-      ∙ subst (λ (n : ℕ). failed (early_jumps starts os c n t) target (before ++ (others_code starts logical.AndThen (operations_of os) c 0 n t ++ rest)) ≡ before ++ (others_code starts logical.AndThen (operations_of os) c target n t ++ rest)) long (others_aim os c t before rest target all)
+      ap (failed (early_jumps starts u os c q t) target) (apart 0)
+      ∙ subst (λ (n : ℕ). failed (early_jumps starts u os c n t) target (before ++ (others_code starts u (operations_of os) c 0 n t ++ rest)) ≡ before ++ (others_code starts u (operations_of os) c target n t ++ rest)) long (others_aim u os c t before rest target all)
       ∙ sym (apart target)
 
-  pub early_tested : (whole a : Expression) (os : List Operation) (ty : Ty) (t : ℕ) (old new : List Instruction) (tested : Tested) → whole ≡ Binary a (operations_of os) ty → are_tests logical.AndThen (operations_of os) ≡ true
-      → IsEarly starts a os t old new tested → IsBranch starts whole t old new tested
-  early_tested whole a os ty t old new tested is tests (last_is, early_is, made) =
+  pub early_tested : (u : LogicalOperator) (whole a : Expression) (os : List Operation) (ty : Ty) (t : ℕ) (old new : List Instruction) (tested : Tested) → whole ≡ Binary a (operations_of os) ty → are_tests u (operations_of os) ≡ true
+      → IsEarly starts u a os t old new tested → IsBranch starts u whole t old new tested
+  early_tested u whole a os ty t old new tested is tests (last_is, early_is, made) =
       let p = length old in
       let first = condition_code starts a p t in
       let c = condition_of starts a t in
-      let others = others_code starts logical.AndThen (operations_of os) c 0 (p + length first) t in
-      let jumps = early_jumps starts os c (p + length first) t in
-      let all = tests_all os tests in
-      same_tested (last_condition starts (operations_of os) c t) (branch_of starts whole t) (λ x. tests_code starts logical.AndThen a (operations_of os) x p t) (λ x. branch_code starts whole x p t) old new tested
-      (ap (λ (z : Expression). branch_of starts z t) is ∙ ap (λ (b : Bool). if b then last_condition starts (operations_of os) c t else choice_of starts logical.OrElse (Binary a (operations_of os) ty) t) tests)
-      (λ x. ap (λ (z : Expression). branch_code starts z x p t) is ∙ ap (λ (b : Bool). if b then tests_code starts logical.AndThen a (operations_of os) x p t else choice_code starts logical.OrElse (Binary a (operations_of os) ty) p t) tests) (
+      let others = others_code starts u (operations_of os) c 0 (p + length first) t in
+      let jumps = early_jumps starts u os c (p + length first) t in
+      let all = tests_all u os tests in
+      same_tested (last_condition starts (operations_of os) c t) (branch_of starts u whole t) (λ x. tests_code starts u a (operations_of os) x p t) (λ x. branch_code starts u whole x p t) old new tested
+      (ap (λ (z : Expression). branch_of starts u z t) is ∙ ap (λ (b : Bool). if b then last_condition starts (operations_of os) c t else choice_of starts (turned_test u) (Binary a (operations_of os) ty) t) tests)
+      (λ x. ap (λ (z : Expression). branch_code starts u z x p t) is ∙ ap (λ (b : Bool). if b then tests_code starts u a (operations_of os) x p t else choice_code starts (turned_test u) (Binary a (operations_of os) ty) p t) tests) (
         last_is,
-        subst (λ (l : List Pending). Aims l (λ x. tests_code starts logical.AndThen a (operations_of os) x p t) p) (sym early_is) (tests_aim a os p t all),
+        subst (λ (l : List Pending). Aims l (λ x. tests_code starts u a (operations_of os) x p t) p) (sym early_is) (tests_aim u a os p t all),
         subst (λ (l : List Pending). AreBefore l (length new)) (sym early_is)
-            (before_more jumps (p + length first + length others) (length new) (others_before os c (p + length first) t all) (omega (arith, ap length made, length-append old (first ++ others), length-append first others))),
+            (before_more jumps (p + length first + length others) (length new) (others_before u os c (p + length first) t all) (omega (arith, ap length made, length-append old (first ++ others), length-append first others))),
         made,
       )
 
-  pub chain_tested : (whole a : Expression) (os : Operations) (ty : Ty) (t : ℕ) (old new : List Instruction) (tested : Tested) → whole ≡ Binary a os ty → are_tests logical.AndThen os ≡ false
-      → IsSettled starts whole t old new tested → IsBranch starts whole t old new tested
-  chain_tested whole a os ty t old new tested is other made =
+  pub chain_tested : (u : LogicalOperator) (whole a : Expression) (os : Operations) (ty : Ty) (t : ℕ) (old new : List Instruction) (tested : Tested) → whole ≡ Binary a os ty → are_tests u os ≡ false
+      → IsSettled starts (turned_test u) whole t old new tested → IsBranch starts u whole t old new tested
+  chain_tested u whole a os ty t old new tested is other made =
       let p = length old in
-      same_tested (choice_of starts logical.OrElse whole t) (branch_of starts whole t) (λ x. choice_code starts logical.OrElse whole p t) (λ x. branch_code starts whole x p t) old new tested
-      (ap (λ (z : Expression). branch_of starts z t) is ∙ ap (λ (b : Bool). if b then last_condition starts os (condition_of starts a t) t else choice_of starts logical.OrElse (Binary a os ty) t) other ∙ ap (λ (z : Expression). choice_of starts logical.OrElse z t) (sym is))
-      (λ x. ap (λ (z : Expression). branch_code starts z x p t) is ∙ ap (λ (b : Bool). if b then tests_code starts logical.AndThen a os x p t else choice_code starts logical.OrElse (Binary a os ty) p t) other ∙ ap (λ (z : Expression). choice_code starts logical.OrElse z p t) (sym is))
+      same_tested (choice_of starts (turned_test u) whole t) (branch_of starts u whole t) (λ x. choice_code starts (turned_test u) whole p t) (λ x. branch_code starts u whole x p t) old new tested
+      (ap (λ (z : Expression). branch_of starts u z t) is ∙ ap (λ (b : Bool). if b then last_condition starts os (condition_of starts a t) t else choice_of starts (turned_test u) (Binary a os ty) t) other ∙ ap (λ (z : Expression). choice_of starts (turned_test u) z t) (sym is))
+      (λ x. ap (λ (z : Expression). branch_code starts u z x p t) is ∙ ap (λ (b : Bool). if b then tests_code starts u a os x p t else choice_code starts (turned_test u) (Binary a os ty) p t) other ∙ ap (λ (z : Expression). choice_code starts (turned_test u) z p t) (sym is))
       made
+
+  -- what is neither a chain nor negated is made as by the other operator
+  abbrev pub IsBare : LogicalOperator → Expression → (t : ℕ) → Type 0
+  IsBare u a t = (branch_of starts u a t ≡ choice_of starts (turned_test u) a t) × ((x p : ℕ) → branch_code starts u a x p t ≡ choice_code starts (turned_test u) a p t)
+
+  pub unary_bare : (u : LogicalOperator) (value : Expr) (o : UnaryOperator) (b : Box Expr Heap) (t : ℕ) → value ≡ expr.Unary o b → (o ≡ unary.Not → ⊥) → IsBare u (view_expression value) t
+  unary_bare u value unary.Negate b t is other = subst (λ (e : Expr). IsBare u (view_expression e) t) (sym is) (refl, λ x p. refl)
+  unary_bare u value unary.Not b t is other = absurd (other refl)
+  unary_bare u value unary.Complement b t is other = subst (λ (e : Expr). IsBare u (view_expression e) t) (sym is) (refl, λ x p. refl)
+  unary_bare u value unary.Widen b t is other = subst (λ (e : Expr). IsBare u (view_expression e) t) (sym is) (refl, λ x p. refl)
+  unary_bare u value unary.LowByte b t is other = subst (λ (e : Expr). IsBare u (view_expression e) t) (sym is) (refl, λ x p. refl)
+
+  pub node_bare : (u : LogicalOperator) (value : Expr) (t : ℕ) → ((b : Box Expr Heap) (v : Vec Operation Heap) (ty : TyCode) → value ≡ expr.Binary b v ty → ⊥)
+      → ((o : UnaryOperator) (b : Box Expr Heap) → value ≡ expr.Unary o b → ⊥) → IsBare u (view_expression value) t
+  node_bare u (expr.Number n) t chain one = (refl, λ x p. refl)
+  node_bare u expr.NullPointer t chain one = (refl, λ x p. refl)
+  node_bare u expr.HeapRegion t chain one = (refl, λ x p. refl)
+  node_bare u (expr.Counter n) t chain one = (refl, λ x p. refl)
+  node_bare u (expr.Copy l y) t chain one = (refl, λ x p. refl)
+  node_bare u (expr.Move s n y) t chain one = (refl, λ x p. refl)
+  node_bare u (expr.Peek s n y) t chain one = (refl, λ x p. refl)
+  node_bare u (expr.Load' b d) t chain one = (refl, λ x p. refl)
+  node_bare u (expr.AddressOf l y) t chain one = (refl, λ x p. refl)
+  node_bare u (expr.AddressOfCell' b d y) t chain one = (refl, λ x p. refl)
+  node_bare u (expr.NumberOfElements' b e) t chain one = (refl, λ x p. refl)
+  node_bare u (expr.FreeUnique' b e) t chain one = (refl, λ x p. refl)
+  node_bare u (expr.FreeKey' b e) t chain one = (refl, λ x p. refl)
+  node_bare u (expr.Call' s f shape row y) t chain one = (refl, λ x p. refl)
+  node_bare u (expr.Unary' o b e) t chain one = absurd (one _ _ (sym (roll-out-Expr (expr.Unary' o b e)) ∙ ap roll-Expr (expr.outs-Unary' o b e) ∙ expr.rolls-Unary _ _))
+  node_bare u (expr.Binary' b e shape row y) t chain one =
+      absurd (chain _ _ _ (sym (roll-out-Expr (expr.Binary' b e shape row y)) ∙ ap roll-Expr (expr.outs-Binary' b e shape row y) ∙ expr.rolls-Binary _ _ _))
+  node_bare u (expr.Assign' l b f k e y) t chain one = (refl, λ x p. refl)
+  node_bare u (expr.Store' b d b' f k e y) t chain one = (refl, λ x p. refl)
+  node_bare u (expr.New' s w b i y) t chain one = (refl, λ x p. refl)
+
+  pub bare_tested : (u : LogicalOperator) (a : Expression) (t : ℕ) (old new : List Instruction) (tested : Tested) → IsBare u a t → IsSettled starts (turned_test u) a t old new tested → IsBranch starts u a t old new tested
+  bare_tested u a t old new tested (last, code) made =
+      let p = length old in
+      same_tested (choice_of starts (turned_test u) a t) (branch_of starts u a t) (λ x. choice_code starts (turned_test u) a p t) (λ x. branch_code starts u a x p t) old new tested last (λ x. code x p) made
 
 -- these are tests where the first is one and the others are
 pub all_test_step : (u : LogicalOperator) (x : Operation) (xs : List Operation) → all_test u (operations_of (x ∷ xs)) ≡ (is_test u x && all_test u (operations_of xs))

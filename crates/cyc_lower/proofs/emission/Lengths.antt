@@ -28,8 +28,8 @@ use Rattle.cyc_lower.specs.inside.ValueCode.{first_temporary, keeps_words, kind_
 use Rattle.cyc_lower.specs.inside.ValueCode.{divisor_code, operator_code, pointer_instructions, first_two, copy_code, address_code, behind_left, checked_code, span_of, span_in, followed_operand, followed_code, conversion_by, widened_code}
 use Rattle.cyc_lower.specs.inside.ValueCode.{count_code, loaded_code, slot_or, kinds_passed, thinned_code, bounded_code, past_bounded, reached_operand, reached_code, word_by_word, load_word, global_code, masks, failing_comparison}
 use Rattle.cyc_lower.specs.inside.ObjectCode.{begun_code, filled_code, elements_code, ended_code, object_code, right_slot, saved_code, stores_code}
-use Rattle.cyc_lower.specs.inside.ControlCode.{outside_loops, if_code, other_place, failing_jump, holding_jump, deciding_jump, are_tests, compared_of, inside_loop, leave_code, try_code, clause_code, break_target, continue_target}
-use Rattle.cyc_lower.specs.inside.ControlCode.{kept_code, restored_code, behind_record, inside_try, inside_region, opened_code, closed_code, entry_code, entry_length, entered_code, body_target, is_nothing, over_code, over_length}
+use Rattle.cyc_lower.specs.inside.ControlCode.{outside_loops, if_code, other_place, failing_jump, holding_jump, deciding_jump, are_tests, compared_of, inside_loop, leave_code, try_code, clause_code, break_target, continue_target, kept_code}
+use Rattle.cyc_lower.specs.inside.ControlCode.{restored_code, behind_record, inside_try, inside_region, opened_code, closed_code, entry_code, entry_length, entered_code, body_target, is_nothing, over_code, over_length, turned_test}
 use Rattle.cyc_lower.specs.inside.ExpressionCode.{operand_of, left_of, value_slot, slot_with, left_slot, value_operand, source_of, source_slot, converted_operand, load_code, place_operand, place_offset, expression_code}
 use Rattle.cyc_lower.specs.inside.ExpressionCode.{place_code, made_code, arguments_code, converted_code, converted_operand_code, printed_code, initial_code, operations_code, pointer_of, brought_code, is_simple, are_simple}
 use Rattle.cyc_lower.specs.declared.operands.Condition.{Condition}
@@ -373,6 +373,7 @@ module _ (starts : Starts) (raises : ℕ) where
   others_long u (ThenPointerPeek n o b os) c d x y p q t = others_long u os c d x y p q t
 
   choice_long : (u : LogicalOperator) (a : Expression) (p q t : ℕ) → length (choice_code starts u a p t) ≡ length (choice_code (other starts raises) u a q t)
+  choice_long u (Unary unary.Not a) p q t = choice_long (turned_test u) a p q t
   choice_long u (Binary a os ty) p q t = by (are_tests u os)
     where
       by : (tests : Bool) → length (if tests then tests_code starts u a os (behind_tests starts u a os p t) p t else condition_code starts (Binary a os ty) p t)
@@ -381,14 +382,15 @@ module _ (starts : Starts) (raises : ℕ) where
       by false = condition_long (compared_of (Binary a os ty)).left (compared_of (Binary a os ty)).right p q t
   choice_long u a p q t = condition_long (compared_of a).left (compared_of a).right p q t
 
-  branch_long : (a : Expression) (p q t x y : ℕ) → length (branch_code starts a x p t) ≡ length (branch_code (other starts raises) a y q t)
-  branch_long (Binary a os ty) p q t x y = by (are_tests logical.AndThen os)
+  branch_long : (u : LogicalOperator) (a : Expression) (p q t x y : ℕ) → length (branch_code starts u a x p t) ≡ length (branch_code (other starts raises) u a y q t)
+  branch_long u (Unary unary.Not a) p q t x y = branch_long (turned_test u) a p q t x y
+  branch_long u (Binary a os ty) p q t x y = by (are_tests u os)
     where
-      by : (tests : Bool) → length (if tests then tests_code starts logical.AndThen a os x p t else choice_code starts logical.OrElse (Binary a os ty) p t)
-          ≡ length (if tests then tests_code (other starts raises) logical.AndThen a os y q t else choice_code (other starts raises) logical.OrElse (Binary a os ty) q t)
-      by true = lengths_joined _ _ _ _ (condition_long (compared_of a).left (compared_of a).right p q t) (others_long logical.AndThen os _ _ _ _ _ _ t)
-      by false = choice_long logical.OrElse (Binary a os ty) p q t
-  branch_long a p q t x y = choice_long logical.OrElse a p q t
+      by : (tests : Bool) → length (if tests then tests_code starts u a os x p t else choice_code starts (turned_test u) (Binary a os ty) p t)
+          ≡ length (if tests then tests_code (other starts raises) u a os y q t else choice_code (other starts raises) (turned_test u) (Binary a os ty) q t)
+      by true = lengths_joined _ _ _ _ (condition_long (compared_of a).left (compared_of a).right p q t) (others_long u os _ _ _ _ _ _ t)
+      by false = choice_long (turned_test u) (Binary a os ty) p q t
+  branch_long u a p q t x y = choice_long (turned_test u) a p q t
 
   return_long : (v : Option Converted) (p q head leaving : ℕ) (exits : Exits) (t : ℕ) → length (return_code starts v p exits t) ≡ length (return_code (other starts raises) v q (record exits { head = head; leaving = leaving }) t)
   return_long None p q head leaving exits t = refl
@@ -453,15 +455,15 @@ module _ (starts : Starts) (raises : ℕ) where
     statement_long (Evaluate a) p q head leaving exits t = discarded_long a p q t
     statement_long (If a s u) p q head leaving exits t =
         let others = record exits { head = head; leaving = leaving } in
-        let m = p + length (branch_code starts a 0 p t) in
-        let n = q + length (branch_code (other starts raises) a 0 q t) in
+        let m = p + length (branch_code starts logical.AndThen a 0 p t) in
+        let n = q + length (branch_code (other starts raises) logical.AndThen a 0 q t) in
         let first = statement_code starts s (m + 1) exits t in
         let same_first = statement_code (other starts raises) s (n + 1) others t in
         let last = is_nothing u in
         let second = statement_code starts u (m + 1 + length first + over_length last) exits t in
         let same_second = statement_code (other starts raises) u (n + 1 + length same_first + over_length last) others t in
-        if_long last (λ x. branch_code starts a x p t) (λ y. branch_code (other starts raises) a y q t) first second same_first same_second (failing_jump (branch_of starts a t)) (failing_jump (branch_of (other starts raises) a t)) p q
-        (branch_long a p q t) (statement_long s (m + 1) (n + 1) head leaving exits t) (statement_long u (m + 1 + length first + over_length last) (n + 1 + length same_first + over_length last) head leaving exits t)
+        if_long last (λ x. branch_code starts logical.AndThen a x p t) (λ y. branch_code (other starts raises) logical.AndThen a y q t) first second same_first same_second (failing_jump (branch_of starts logical.AndThen a t)) (failing_jump (branch_of (other starts raises) logical.AndThen a t)) p q
+        (branch_long logical.AndThen a p q t) (statement_long s (m + 1) (n + 1) head leaving exits t) (statement_long u (m + 1 + length first + over_length last) (n + 1 + length same_first + over_length last) head leaving exits t)
     statement_long (While w a s) p q head leaving exits t =
         let same = other starts raises in
         let l = p + entry_length (is_guard starts a) (choice_code starts logical.AndThen a p t) in

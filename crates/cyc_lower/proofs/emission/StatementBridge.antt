@@ -22,9 +22,8 @@ use Rattle.cyc_meaning.specs.FrameCount.{operand_words}
 use Rattle.cyc_lower.specs.inside.Slots.{Types, starts_of, slot_of, global_of}
 use Rattle.cyc_lower.specs.inside.ValueCode.{passed_words, move_of, operand_or, slot_or, code_unless_slot, left_with, conversion_code, failing_comparison, address_code, span_of, global_code, kind_passed}
 use Rattle.cyc_lower.specs.inside.ObjectCode.{right_slot, saved_code, load_at}
-use Rattle.cyc_lower.specs.inside.ControlCode.{compared_or, compared_of, failing_jump, holding_jump, all_test, are_tests, break_target, continue_target, body_target, inside_loop, leave_code, other_jump, clause_code, kept_code, kept_code_in, restored_code}
-use Rattle.cyc_lower.specs.inside.ControlCode.{restored_code_in, behind_record, inside_try, closed_code, handlers_code, marks_code, try_code, opened_code, inside_region, dynamic_code, entry_code, entry_length, is_nothing, over_code, over_length, null_compared}
-use Rattle.cyc_lower.specs.inside.ControlCode.{nulled_or}
+use Rattle.cyc_lower.specs.inside.ControlCode.{compared_of, failing_jump, holding_jump, all_test, are_tests, break_target, continue_target, body_target, inside_loop, leave_code, other_jump, clause_code, kept_code, kept_code_in, restored_code, restored_code_in, behind_record}
+use Rattle.cyc_lower.specs.inside.ControlCode.{inside_try, closed_code, handlers_code, marks_code, try_code, opened_code, inside_region, dynamic_code, entry_code, entry_length, is_nothing, over_code, over_length, null_compared, pointers_failing, nulled_or}
 use Rattle.cyc_lower.specs.inside.ExpressionCode.{source_of, operand_of, value_slot, slot_with, value_operand, converted_operand, printed_operand, expression_code, converted_operand_code, printed_code, place_operand, place_offset, place_code, brought_code, is_simple}
 use Rattle.cyc_lower.specs.inside.Lowering.{assignment_code, assigned_operand, discarded_code, first_operand, first_code, second_code, pair_code, condition_code, condition_of, others_code, last_condition, tests_code, behind_tests, choice_code, choice_of}
 use Rattle.cyc_lower.specs.inside.Lowering.{branch_code, branch_of, return_code, declaration_code, statement_code, items_code, results_of, side_code, read_side, write_side, exchange_code, swap_code, thrown_code, thrown_operand, caught_code, clauses_code, is_guard}
@@ -38,6 +37,7 @@ use Rattle.cyc_lower.proofs.slots.Widths.{kind_of_result, type_words, HasLocal}
 use Rattle.cyc_lower.proofs.relation.code.Fitting.{FitsPlace, Fits, FitOperations, FitsConverted, FitsReturn, FitsInitial, FitsStatement, FitItems, FitsSide, FitsThrown, FitsCaught, FitClauses}
 use Rattle.cyc_lower.proofs.place_steps.Sources.{stored_apart}
 use Rattle.cyc_lower.proofs.relation.code.Tested.{compared_whole}
+use Rattle.cyc_lower.proofs.value_steps.ValueWords.{opposite_twice}
 use Rattle.cyc_lower.proofs.emission.Conditions.{tests_same, branch_same}
 use Rattle.cyc_lower.proofs.emission.Loops.{entry_long, over_length_is}
 use Rattle.cyc_lower.proofs.emission.Blocks.{BlocksStand}
@@ -104,23 +104,21 @@ module _ (code : List Instruction) (b : Numbering) (types : Types) (raised : Blo
             (cut p q front back end) (has_back code p front back has) (λ e h. expression_stands code b types raised c (value_slot (starts_of types) c (suc t)) (suc t) m q numbered_c e h),
       )
 
+  -- what a condition compares
+  sides_numbered : (null beside : Option Comparison) (a c whole : Expression) → Fits b types a → Fits b types c → Fits b types whole
+      → Fits b types (nulled_or null beside a c whole).left × Fits b types (nulled_or null beside a c whole).right
+  sides_numbered (Some failing) beside a c whole first second all = (first, tt)
+  sides_numbered None (Some failing) a c whole first second all = (first, second)
+  sides_numbered None None a c whole first second all = (all, tt)
+
   compared_numbered : (a : Expression) → Fits b types a → Fits b types (compared_of a).left × Fits b types (compared_of a).right
   compared_numbered (Unary unary.Not a) numbered = compared_numbered a numbered
-  compared_numbered (Binary a (ThenCompute o c NoOperations) ty) (first, (second, none)) = by (failing_comparison o)
-    where
-      by : (f : Option Comparison) → Fits b types (compared_or f a c (Binary a (ThenCompute o c NoOperations) ty)).left × Fits b types (compared_or f a c (Binary a (ThenCompute o c NoOperations) ty)).right
-      by (Some failing) = (first, second)
-      by None = ((first, (second, none)), tt)
-  compared_numbered (Binary a (ThenPointer o c NoOperations) ty) (first, rest) = by (null_compared o c)
-    where
-      by : (f : Option Comparison) → Fits b types (nulled_or f a (Binary a (ThenPointer o c NoOperations) ty)).left × Fits b types (nulled_or f a (Binary a (ThenPointer o c NoOperations) ty)).right
-      by (Some failing) = (first, tt)
-      by None = ((first, rest), tt)
-  compared_numbered (Binary a (ThenPointerPeek n o c NoOperations) ty) (first, rest) = by (null_compared o c)
-    where
-      by : (f : Option Comparison) → Fits b types (nulled_or f a (Binary a (ThenPointerPeek n o c NoOperations) ty)).left × Fits b types (nulled_or f a (Binary a (ThenPointerPeek n o c NoOperations) ty)).right
-      by (Some failing) = (first, tt)
-      by None = ((first, rest), tt)
+  compared_numbered (Binary a (ThenCompute o c NoOperations) ty) (first, (second, none)) =
+      sides_numbered None (failing_comparison o) a c (Binary a (ThenCompute o c NoOperations) ty) first second (first, (second, none))
+  compared_numbered (Binary a (ThenPointer o c NoOperations) ty) (first, (wide, second, none)) =
+      sides_numbered (null_compared o c) (pointers_failing o) a c (Binary a (ThenPointer o c NoOperations) ty) first second (first, (wide, second, none))
+  compared_numbered (Binary a (ThenPointerPeek n o c NoOperations) ty) (first, (wide, second, none)) =
+      sides_numbered (null_compared o c) (pointers_failing o) a c (Binary a (ThenPointerPeek n o c NoOperations) ty) first second (first, (wide, second, none))
   compared_numbered a numbered = (numbered, tt)
 
   condition_stands : (a : Expression) (t p q : ℕ) → Fits b types a → p + length (condition_code (starts_of types) a p t) ≡ q → HasAt code p (condition_code (starts_of types) a p t)
@@ -177,32 +175,6 @@ module _ (code : List Instruction) (b : Numbering) (types : Types) (raised : Blo
   tests_stand a (ThenPointer u c os) ty f t p q all fits end has jump = absurd (let z : false ≡ true = all in cc)
   tests_stand a (ThenPointerPeek n u c os) ty f t p q all fits end has jump = absurd (let z : false ≡ true = all in cc)
 
-  -- a condition with the jump that is taken where it fails
-  choice_stands : (a : Expression) (f t p q : ℕ) → Fits b types a → p + length (choice_code (starts_of types) logical.OrElse a p t) ≡ q → HasAt code p (choice_code (starts_of types) logical.OrElse a p t)
-      → At code q (failing_jump (choice_of (starts_of types) logical.OrElse a t) f) → BranchesAt code b types a f (q + 1) t p
-  choice_stands a f t p q fits end has jump = by a fits end has jump
-    where
-      whole : (a : Expression) → Fits b types a → p + length (condition_code (starts_of types) a p t) ≡ q → HasAt code p (condition_code (starts_of types) a p t)
-          → At code q (failing_jump (condition_of (starts_of types) a t) f) → BranchesAt code b types a f (q + 1) t p
-      whole a fits end has jump =
-          compared_whole code b types a f (q + 1) t p ((condition_of (starts_of types) a t).left, (condition_of (starts_of types) a t).right, q, condition_stands a t p q fits end has, inl (jump, refl))
-
-      chain : (a : Expression) (os : Operations) (ty : Ty) (tests : Bool) → are_tests logical.OrElse os ≡ tests → Fits b types (Binary a os ty)
-          → p + length (if tests then tests_code (starts_of types) logical.OrElse a os (behind_tests (starts_of types) logical.OrElse a os p t) p t else condition_code (starts_of types) (Binary a os ty) p t) ≡ q
-          → HasAt code p (if tests then tests_code (starts_of types) logical.OrElse a os (behind_tests (starts_of types) logical.OrElse a os p t) p t else condition_code (starts_of types) (Binary a os ty) p t)
-          → At code q (failing_jump (if tests then last_condition (starts_of types) os (condition_of (starts_of types) a t) t else condition_of (starts_of types) (Binary a os ty) t) f)
-          → BranchesAt code b types (Binary a os ty) f (q + 1) t p
-      chain a os ty false is fits end has jump = whole (Binary a os ty) fits end has jump
-      chain a os ty true is fits end has jump =
-          let made : ℕ → List Instruction = λ x. tests_code (starts_of types) logical.OrElse a os x p t in
-          let there : behind_tests (starts_of types) logical.OrElse a os p t ≡ q + 1 = omega (arith, end, tests_same (starts_of types) logical.OrElse a os 0 (behind_tests (starts_of types) logical.OrElse a os p t) p t) in
-          tests_stand a os ty f t p q is fits (subst (λ x. p + length (made x) ≡ q) there end) (subst (λ x. HasAt code p (made x)) there has) jump
-
-      by : (a : Expression) → Fits b types a → p + length (choice_code (starts_of types) logical.OrElse a p t) ≡ q → HasAt code p (choice_code (starts_of types) logical.OrElse a p t)
-          → At code q (failing_jump (choice_of (starts_of types) logical.OrElse a t) f) → BranchesAt code b types a f (q + 1) t p
-      by (Binary a os ty) fits end has jump = chain a os ty (are_tests logical.OrElse os) refl fits end has jump
-      by a fits end has jump = whole a fits end has jump
-
   -- the same of tests by `&&`, with the jump that is taken where the last one holds: behind them all goes on where one fails
   all_over : (os : Operations) (f h t : ℕ) → all_test logical.AndThen os ≡ true → TestsAt code b types os true t f (Ends code b types f h)
   all_over NoOperations f h t all = refl
@@ -250,31 +222,55 @@ module _ (code : List Instruction) (b : Numbering) (types : Types) (raised : Blo
   tests_follow a (ThenPointer u c os) ty h t p q all fits end has jump = absurd (let z : false ≡ true = all in cc)
   tests_follow a (ThenPointerPeek n u c os) ty h t p q all fits end has jump = absurd (let z : false ≡ true = all in cc)
 
-  -- a condition with the jump that is taken where it holds
-  choice_follows : (a : Expression) (h t p q : ℕ) → Fits b types a → p + length (choice_code (starts_of types) logical.AndThen a p t) ≡ q → HasAt code p (choice_code (starts_of types) logical.AndThen a p t)
-      → At code q (holding_jump (choice_of (starts_of types) logical.AndThen a t) h) → BranchesAt code b types a (q + 1) h t p
-  choice_follows a h t p q fits end has jump = by a fits end has jump
-    where
-      whole : (a : Expression) → Fits b types a → p + length (condition_code (starts_of types) a p t) ≡ q → HasAt code p (condition_code (starts_of types) a p t)
-          → At code q (holding_jump (condition_of (starts_of types) a t) h) → BranchesAt code b types a (q + 1) h t p
-      whole a fits end has jump =
-          compared_whole code b types a (q + 1) h t p ((condition_of (starts_of types) a t).left, (condition_of (starts_of types) a t).right, q, condition_stands a t p q fits end has, inr (jump, refl))
+  -- a condition that is compared whole, with the jump that is taken where it fails, or where it holds
+  whole_stands : (a : Expression) (f t p q : ℕ) → Fits b types a → p + length (condition_code (starts_of types) a p t) ≡ q → HasAt code p (condition_code (starts_of types) a p t)
+      → At code q (failing_jump (condition_of (starts_of types) a t) f) → BranchesAt code b types a f (q + 1) t p
+  whole_stands a f t p q fits end has jump =
+      compared_whole code b types a f (q + 1) t p ((condition_of (starts_of types) a t).left, (condition_of (starts_of types) a t).right, q, condition_stands a t p q fits end has, inl (jump, refl))
 
-      chain : (a : Expression) (os : Operations) (ty : Ty) (tests : Bool) → are_tests logical.AndThen os ≡ tests → Fits b types (Binary a os ty)
-          → p + length (if tests then tests_code (starts_of types) logical.AndThen a os (behind_tests (starts_of types) logical.AndThen a os p t) p t else condition_code (starts_of types) (Binary a os ty) p t) ≡ q
-          → HasAt code p (if tests then tests_code (starts_of types) logical.AndThen a os (behind_tests (starts_of types) logical.AndThen a os p t) p t else condition_code (starts_of types) (Binary a os ty) p t)
-          → At code q (holding_jump (if tests then last_condition (starts_of types) os (condition_of (starts_of types) a t) t else condition_of (starts_of types) (Binary a os ty) t) h)
-          → BranchesAt code b types (Binary a os ty) (q + 1) h t p
-      chain a os ty false is fits end has jump = whole (Binary a os ty) fits end has jump
-      chain a os ty true is fits end has jump =
-          let made : ℕ → List Instruction = λ x. tests_code (starts_of types) logical.AndThen a os x p t in
-          let there : behind_tests (starts_of types) logical.AndThen a os p t ≡ q + 1 = omega (arith, end, tests_same (starts_of types) logical.AndThen a os 0 (behind_tests (starts_of types) logical.AndThen a os p t) p t) in
-          tests_follow a os ty h t p q is fits (subst (λ x. p + length (made x) ≡ q) there end) (subst (λ x. HasAt code p (made x)) there has) jump
+  whole_follows : (a : Expression) (h t p q : ℕ) → Fits b types a → p + length (condition_code (starts_of types) a p t) ≡ q → HasAt code p (condition_code (starts_of types) a p t)
+      → At code q (holding_jump (condition_of (starts_of types) a t) h) → BranchesAt code b types a (q + 1) h t p
+  whole_follows a h t p q fits end has jump =
+      compared_whole code b types a (q + 1) h t p ((condition_of (starts_of types) a t).left, (condition_of (starts_of types) a t).right, q, condition_stands a t p q fits end has, inr (jump, refl))
 
-      by : (a : Expression) → Fits b types a → p + length (choice_code (starts_of types) logical.AndThen a p t) ≡ q → HasAt code p (choice_code (starts_of types) logical.AndThen a p t)
-          → At code q (holding_jump (choice_of (starts_of types) logical.AndThen a t) h) → BranchesAt code b types a (q + 1) h t p
-      by (Binary a os ty) fits end has jump = chain a os ty (are_tests logical.AndThen os) refl fits end has jump
-      by a fits end has jump = whole a fits end has jump
+  mutual
+    -- the same of one that may be tests, where the jump is taken where it fails
+    choice_stands : (a : Expression) (f t p q : ℕ) → Fits b types a → p + length (choice_code (starts_of types) logical.OrElse a p t) ≡ q → HasAt code p (choice_code (starts_of types) logical.OrElse a p t)
+        → At code q (failing_jump (choice_of (starts_of types) logical.OrElse a t) f) → BranchesAt code b types a f (q + 1) t p
+    choice_stands (Unary unary.Not a) f t p q fits end has jump = inr (choice_follows a f t p q fits end has jump)
+    choice_stands (Binary a os ty) f t p q fits end has jump = chain (are_tests logical.OrElse os) refl end has jump
+      where
+        chain : (tests : Bool) → are_tests logical.OrElse os ≡ tests
+            → p + length (if tests then tests_code (starts_of types) logical.OrElse a os (behind_tests (starts_of types) logical.OrElse a os p t) p t else condition_code (starts_of types) (Binary a os ty) p t) ≡ q
+            → HasAt code p (if tests then tests_code (starts_of types) logical.OrElse a os (behind_tests (starts_of types) logical.OrElse a os p t) p t else condition_code (starts_of types) (Binary a os ty) p t)
+            → At code q (failing_jump (if tests then last_condition (starts_of types) os (condition_of (starts_of types) a t) t else condition_of (starts_of types) (Binary a os ty) t) f)
+            → BranchesAt code b types (Binary a os ty) f (q + 1) t p
+        chain false is end has jump = whole_stands (Binary a os ty) f t p q fits end has jump
+        chain true is end has jump =
+            let made : ℕ → List Instruction = λ x. tests_code (starts_of types) logical.OrElse a os x p t in
+            let there : behind_tests (starts_of types) logical.OrElse a os p t ≡ q + 1 = omega (arith, end, tests_same (starts_of types) logical.OrElse a os 0 (behind_tests (starts_of types) logical.OrElse a os p t) p t) in
+            tests_stand a os ty f t p q is fits (subst (λ x. p + length (made x) ≡ q) there end) (subst (λ x. HasAt code p (made x)) there has) jump
+    choice_stands a f t p q fits end has jump = whole_stands a f t p q fits end has jump
+
+    -- and where it holds
+    choice_follows : (a : Expression) (h t p q : ℕ) → Fits b types a → p + length (choice_code (starts_of types) logical.AndThen a p t) ≡ q → HasAt code p (choice_code (starts_of types) logical.AndThen a p t)
+        → At code q (holding_jump (choice_of (starts_of types) logical.AndThen a t) h) → BranchesAt code b types a (q + 1) h t p
+    choice_follows (Unary unary.Not a) h t p q fits end has jump =
+        let made = choice_of (starts_of types) logical.OrElse a t in
+        inr (choice_stands a h t p q fits end has (subst (λ (c : Comparison). At code q (instructions.Branch c made.left made.right h)) (opposite_twice made.failing) jump))
+    choice_follows (Binary a os ty) h t p q fits end has jump = chain (are_tests logical.AndThen os) refl end has jump
+      where
+        chain : (tests : Bool) → are_tests logical.AndThen os ≡ tests
+            → p + length (if tests then tests_code (starts_of types) logical.AndThen a os (behind_tests (starts_of types) logical.AndThen a os p t) p t else condition_code (starts_of types) (Binary a os ty) p t) ≡ q
+            → HasAt code p (if tests then tests_code (starts_of types) logical.AndThen a os (behind_tests (starts_of types) logical.AndThen a os p t) p t else condition_code (starts_of types) (Binary a os ty) p t)
+            → At code q (holding_jump (if tests then last_condition (starts_of types) os (condition_of (starts_of types) a t) t else condition_of (starts_of types) (Binary a os ty) t) h)
+            → BranchesAt code b types (Binary a os ty) (q + 1) h t p
+        chain false is end has jump = whole_follows (Binary a os ty) h t p q fits end has jump
+        chain true is end has jump =
+            let made : ℕ → List Instruction = λ x. tests_code (starts_of types) logical.AndThen a os x p t in
+            let there : behind_tests (starts_of types) logical.AndThen a os p t ≡ q + 1 = omega (arith, end, tests_same (starts_of types) logical.AndThen a os 0 (behind_tests (starts_of types) logical.AndThen a os p t) p t) in
+            tests_follow a os ty h t p q is fits (subst (λ x. p + length (made x) ≡ q) there end) (subst (λ x. HasAt code p (made x)) there has) jump
+    choice_follows a h t p q fits end has jump = whole_follows a h t p q fits end has jump
 
   -- The condition of a branch with the jump that is taken where it fails. Of tests by `&&` each operand that fails leads there.
   others_fail : (os : Operations) (ty : Ty) (words : ℕ) (o : Condition) (f t p q : ℕ) → all_test logical.AndThen os ≡ true → FitOperations b types words ty os
@@ -315,18 +311,75 @@ module _ (code : List Instruction) (b : Numbering) (types : Types) (raised : Blo
   tests_fail a (ThenPointer u c os) ty f t p q all fits end has jump = absurd (let z : false ≡ true = all in cc)
   tests_fail a (ThenPointerPeek n u c os) ty f t p q all fits end has jump = absurd (let z : false ≡ true = all in cc)
 
-  branch_stands : (a : Expression) (f t p q : ℕ) → Fits b types a → p + length (branch_code (starts_of types) a f p t) ≡ q → HasAt code p (branch_code (starts_of types) a f p t)
-      → At code q (failing_jump (branch_of (starts_of types) a t) f) → BranchesAt code b types a f (q + 1) t p
-  branch_stands (Binary a os ty) f t p q fits end has jump = chain (are_tests logical.AndThen os) refl end has jump
-    where
-      chain : (tests : Bool) → are_tests logical.AndThen os ≡ tests
-          → p + length (if tests then tests_code (starts_of types) logical.AndThen a os f p t else choice_code (starts_of types) logical.OrElse (Binary a os ty) p t) ≡ q
-          → HasAt code p (if tests then tests_code (starts_of types) logical.AndThen a os f p t else choice_code (starts_of types) logical.OrElse (Binary a os ty) p t)
-          → At code q (failing_jump (if tests then last_condition (starts_of types) os (condition_of (starts_of types) a t) t else choice_of (starts_of types) logical.OrElse (Binary a os ty) t) f)
-          → BranchesAt code b types (Binary a os ty) f (q + 1) t p
-      chain true is end has jump = tests_fail a os ty f t p q is fits end has jump
-      chain false is end has jump = choice_stands (Binary a os ty) f t p q fits end has jump
-  branch_stands a f t p q fits end has jump = choice_stands a f t p q fits end has jump
+  -- the same where the jump is taken where it holds, of tests by `||`
+  others_hold : (os : Operations) (ty : Ty) (words : ℕ) (o : Condition) (h t p q : ℕ) → all_test logical.OrElse os ≡ true → FitOperations b types words ty os
+      → p + length (others_code (starts_of types) logical.OrElse os o h p t) ≡ q → HasAt code p (others_code (starts_of types) logical.OrElse os o h p t)
+      → At code q (holding_jump (last_condition (starts_of types) os o t) h)
+      → (x : ℕ) × (y : ℕ) × ForkAt code b types o.failing o.left o.right p x y × TestsAt code b types os true t x (Ends code b types (q + 1) h) × TestsAt code b types os false t y (Ends code b types (q + 1) h)
+  others_hold NoOperations ty words o h t p q all fits end has jump =
+      let here : p ≡ q = omega (arith, end) in
+      (q + 1, h, inr (subst (λ n. At code n (holding_jump o h)) (sym here) jump, ap (λ n. n + 1) here), refl, refl)
+  others_hold (ThenTest logical.OrElse a os) ty words o h t p q all (first, fits) end has jump =
+      let next = condition_of (starts_of types) a t in
+      let operand = condition_code (starts_of types) a (p + 1) t in
+      let front = holding_jump o h ∷ operand in
+      let m = p + length front in
+      let rest = others_code (starts_of types) logical.OrElse os next h m t in
+      let (leads, has_operand) = has_front code p front rest has in
+      let (x, y, fork, fails, passes) = others_hold os ty (words_of ty) next h t m q all fits (cut p q front rest end) (has_back code p front rest has) jump in
+      let there = condition_stands a t (p + 1) m first (omega arith) has_operand in
+      let tried : BranchesAt code b types a x y t (p + 1) = compared_whole code b types a x y t (p + 1) (next.left, next.right, m, there, fork) in
+      (p + 1, h, inr (leads, refl), (x, y, tried, fails, passes), all_through os (q + 1) h t all)
+  others_hold (ThenTest logical.AndThen a os) ty words o h t p q all fits end has jump = absurd (let z : false ≡ true = all in cc)
+  others_hold (ThenCompute u a os) ty words o h t p q all fits end has jump = absurd (let z : false ≡ true = all in cc)
+  others_hold (ThenPointer u a os) ty words o h t p q all fits end has jump = absurd (let z : false ≡ true = all in cc)
+  others_hold (ThenPointerPeek n u a os) ty words o h t p q all fits end has jump = absurd (let z : false ≡ true = all in cc)
+
+  tests_hold : (a : Expression) (os : Operations) (ty : Ty) (h t p q : ℕ) → are_tests logical.OrElse os ≡ true → Fits b types (Binary a os ty)
+      → p + length (tests_code (starts_of types) logical.OrElse a os h p t) ≡ q → HasAt code p (tests_code (starts_of types) logical.OrElse a os h p t)
+      → At code q (holding_jump (last_condition (starts_of types) os (condition_of (starts_of types) a t) t) h) → BranchesAt code b types (Binary a os ty) (q + 1) h t p
+  tests_hold a (ThenTest u c os) ty h t p q all (first, fits) end has jump =
+      let front = condition_code (starts_of types) a p t in
+      let m = p + length front in
+      let next = condition_of (starts_of types) a t in
+      let rest = others_code (starts_of types) logical.OrElse (ThenTest u c os) next h m t in
+      let (x, y, fork, fails, passes) = others_hold (ThenTest u c os) ty (operand_words (type_of a)) next h t m q all fits (cut p q front rest end) (has_back code p front rest has) jump in
+      inr (x, y, compared_whole code b types a x y t p (next.left, next.right, m, condition_stands a t p m first refl (has_front code p front rest has), fork), fails, passes)
+  tests_hold a NoOperations ty h t p q all fits end has jump = absurd (let z : false ≡ true = all in cc)
+  tests_hold a (ThenCompute u c os) ty h t p q all fits end has jump = absurd (let z : false ≡ true = all in cc)
+  tests_hold a (ThenPointer u c os) ty h t p q all fits end has jump = absurd (let z : false ≡ true = all in cc)
+  tests_hold a (ThenPointerPeek n u c os) ty h t p q all fits end has jump = absurd (let z : false ≡ true = all in cc)
+
+  mutual
+    branch_stands : (a : Expression) (f t p q : ℕ) → Fits b types a → p + length (branch_code (starts_of types) logical.AndThen a f p t) ≡ q → HasAt code p (branch_code (starts_of types) logical.AndThen a f p t)
+        → At code q (failing_jump (branch_of (starts_of types) logical.AndThen a t) f) → BranchesAt code b types a f (q + 1) t p
+    branch_stands (Unary unary.Not a) f t p q fits end has jump = inr (branch_follows a f t p q fits end has jump)
+    branch_stands (Binary a os ty) f t p q fits end has jump = chain (are_tests logical.AndThen os) refl end has jump
+      where
+        chain : (tests : Bool) → are_tests logical.AndThen os ≡ tests
+            → p + length (if tests then tests_code (starts_of types) logical.AndThen a os f p t else choice_code (starts_of types) logical.OrElse (Binary a os ty) p t) ≡ q
+            → HasAt code p (if tests then tests_code (starts_of types) logical.AndThen a os f p t else choice_code (starts_of types) logical.OrElse (Binary a os ty) p t)
+            → At code q (failing_jump (if tests then last_condition (starts_of types) os (condition_of (starts_of types) a t) t else choice_of (starts_of types) logical.OrElse (Binary a os ty) t) f)
+            → BranchesAt code b types (Binary a os ty) f (q + 1) t p
+        chain true is end has jump = tests_fail a os ty f t p q is fits end has jump
+        chain false is end has jump = choice_stands (Binary a os ty) f t p q fits end has jump
+    branch_stands a f t p q fits end has jump = choice_stands a f t p q fits end has jump
+
+    branch_follows : (a : Expression) (h t p q : ℕ) → Fits b types a → p + length (branch_code (starts_of types) logical.OrElse a h p t) ≡ q → HasAt code p (branch_code (starts_of types) logical.OrElse a h p t)
+        → At code q (holding_jump (branch_of (starts_of types) logical.OrElse a t) h) → BranchesAt code b types a (q + 1) h t p
+    branch_follows (Unary unary.Not a) h t p q fits end has jump =
+        let made = branch_of (starts_of types) logical.AndThen a t in
+        inr (branch_stands a h t p q fits end has (subst (λ (c : Comparison). At code q (instructions.Branch c made.left made.right h)) (opposite_twice made.failing) jump))
+    branch_follows (Binary a os ty) h t p q fits end has jump = chain (are_tests logical.OrElse os) refl end has jump
+      where
+        chain : (tests : Bool) → are_tests logical.OrElse os ≡ tests
+            → p + length (if tests then tests_code (starts_of types) logical.OrElse a os h p t else choice_code (starts_of types) logical.AndThen (Binary a os ty) p t) ≡ q
+            → HasAt code p (if tests then tests_code (starts_of types) logical.OrElse a os h p t else choice_code (starts_of types) logical.AndThen (Binary a os ty) p t)
+            → At code q (holding_jump (if tests then last_condition (starts_of types) os (condition_of (starts_of types) a t) t else choice_of (starts_of types) logical.AndThen (Binary a os ty) t) h)
+            → BranchesAt code b types (Binary a os ty) (q + 1) h t p
+        chain true is end has jump = tests_hold a os ty h t p q is fits end has jump
+        chain false is end has jump = choice_follows (Binary a os ty) h t p q fits end has jump
+    branch_follows a h t p q fits end has jump = choice_follows a h t p q fits end has jump
 
   -- ---- statements
 
@@ -507,15 +560,15 @@ module _ (code : List Instruction) (b : Numbering) (types : Types) (raised : Blo
     statement_stands (Evaluate a) in_loop exits t p q numbered end has = discarded_stands a t p q numbered end has
     statement_stands (Swap x y) in_loop exits t p q (fits_x, fits_y) end has = swap_stands x y t p q fits_x fits_y end has
     statement_stands (If a s u) in_loop exits t p q (numbered_a, numbered_s, numbered_u) end has =
-        let m = p + length (branch_code (starts_of types) a 0 p t) in
+        let m = p + length (branch_code (starts_of types) logical.AndThen a 0 p t) in
         let first = statement_code (starts_of types) s (m + 1) exits t in
         let r = m + 1 + length first in
         let last = is_nothing u in
         let other = r + over_length last in
-        let condition = branch_code (starts_of types) a other p t in
-        let same = branch_same (starts_of types) a 0 other p t in
+        let condition = branch_code (starts_of types) logical.AndThen a other p t in
+        let same = branch_same (starts_of types) logical.AndThen a 0 other p t in
         let second = statement_code (starts_of types) u other exits t in
-        let jump_first = failing_jump (branch_of (starts_of types) a t) other ∷ first in
+        let jump_first = failing_jump (branch_of (starts_of types) logical.AndThen a t) other ∷ first in
         let over = over_code last (other + length second) in
         let front = condition ++ jump_first in
         let long : length front ≡ length condition + suc (length first) = length-append condition jump_first in

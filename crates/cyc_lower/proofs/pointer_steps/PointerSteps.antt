@@ -35,12 +35,12 @@ use Rattle.cyc_objects.proofs.Comparing.{thin-compared}
 use Rattle.cyc_types.specs.Texts.{is_comparison}
 use Rattle.cyc_lower.specs.inside.ValueCode.{left_kind, behind_left, pointer_operator}
 use Rattle.cyc_lower.specs.inside.Lowering.{lower_program}
-use Rattle.cyc_lower.specs.inside.ControlCode.{null_failing}
+use Rattle.cyc_lower.specs.inside.ControlCode.{null_failing, pointers_failing}
 use Rattle.cyc_lower.proofs.slots.Widths.{same_kind, Outside}
 use Rattle.cyc_lower.proofs.relation.contents.Moves.{copied_elsewhere}
 use Rattle.cyc_lower.proofs.relation.code.Stands.{FirstTwoAt, IndexAt, PointerAt, ValueAt}
 use Rattle.cyc_lower.proofs.relation.contents.HeldValues.{IsIn, Holds, held, callers}
-use Rattle.cyc_lower.proofs.relation.simulation.Relation.{types_on, silent, DataIn, SharedAt, ConditionStack, LandsStack, in_temporary, in_local, EvaluatingAt, as_operand, Matches, code_of, bounds_at, top, floor}
+use Rattle.cyc_lower.proofs.relation.simulation.Relation.{types_on, silent, DataIn, SharedAt, ConditionStack, LandsStack, in_temporary, in_local, to_slot, EvaluatingAt, as_operand, Matches, code_of, bounds_at, top, floor}
 use Rattle.cyc_lower.proofs.relation.contents.Data.{height-least, in_words}
 use Rattle.cyc_lower.proofs.relation.contents.HandlerData.{floor-least}
 use Rattle.cyc_lower.proofs.relation.simulation.Accesses.{IsWell}
@@ -72,6 +72,14 @@ left_words pointers.NullIsNot kind takes = kind_of_one kind takes
 left_words pointers.EqualThin kind takes = kind_of_one kind takes
 left_words pointers.NotEqualThin kind takes = kind_of_one kind takes
 
+-- two pointers that are compared by a jump have one word each
+pub one_word : (u : PointerOperator) (failing : Comparison) (kind : Kind) → pointers_failing u ≡ Some failing → takes_kind u kind ≡ true → words_of_kind kind ≡ 1
+one_word pointers.EqualThin failing kind is takes = kind_of_one kind takes
+one_word pointers.NotEqualThin failing kind is takes = kind_of_one kind takes
+one_word pointers.NullIs failing kind is takes = kind_of_one kind takes
+one_word pointers.NullIsNot failing kind is takes = kind_of_one kind takes
+one_word u failing kind is takes = absurd (none-some failing is)
+
 -- ---- what a comparison tells
 
 -- of two words: whether they are equal, or whether they differ
@@ -85,6 +93,21 @@ is_negated pointers.FatIsNotNull = true
 is_negated pointers.NullIsNot = true
 is_negated pointers.NotEqualThin = true
 is_negated u = false
+
+-- by what a jump tells of two pointers
+pointers_compare : (u : PointerOperator) (failing : Comparison) → pointers_failing u ≡ Some failing → is_comparison u ≡ true
+pointers_compare pointers.EqualThin failing is = refl
+pointers_compare pointers.NotEqualThin failing is = refl
+pointers_compare pointers.NullIs failing is = refl
+pointers_compare pointers.NullIsNot failing is = refl
+pointers_compare u failing is = absurd (none-some failing is)
+
+pointers_fail : (u : PointerOperator) (failing : Comparison) (a b : ℕ) → pointers_failing u ≡ Some failing → (told (is_negated u) a b == 0) ≡ compares failing a b
+pointers_fail pointers.EqualThin failing a b is = fails_by operators.Equal failing a b is
+pointers_fail pointers.NotEqualThin failing a b is = fails_by operators.NotEqual failing a b is
+pointers_fail pointers.NullIs failing a b is = fails_by operators.Equal failing a b is
+pointers_fail pointers.NullIsNot failing a b is = fails_by operators.NotEqual failing a b is
+pointers_fail u failing a b is = absurd (none-some failing is)
 
 -- the first word of a pointer is 0 where it is null
 data HasWord (word : ℕ) : Value → Type 0 where
@@ -451,6 +474,26 @@ module _ (source : Program) (pages calls : ℕ) where
       (shared, given_compared source pages calls shared.tables (record { kind = kinds.Int; value = Int n }) failing l (operands.Word 0) k e w c (compares failing (words p) 0) (ap Some fails) (ap (λ x. compares failing x 0) (sym same)) facts holds stack)
       (omega arith)
 
+  -- nor are two pointers
+  pub tests_pointers : (peek : Option ℕ) (u : PointerOperator) (left v : Kinded) (failing : Comparison) (l r : Operand) (k : List Entry) (e : Environment) (w : World) (c : Configuration)
+      → AreNamed source e.locals (callers k) w c.active.function c.active.base c.frames c.store → pointers_failing u ≡ Some failing
+      → IsWell (step source (Running (Given v) (Needs (ApplyPointer peek u left) ∷ k) e w)) → (shared : SharedAt source pages calls k e w c) → DataIn source shared.tables c.active.slots k e w c
+      → IsIn shared.tables left c.active.slots l → IsIn shared.tables v c.active.slots r
+      → Holds shared.tables c.active.slots (floor source c.active.function k) (held k) → ConditionStack source c.active.function failing l r c.active.next c.frames k
+      → IsMatched source pages calls (Running (Given v) (Needs (ApplyPointer peek u left) ∷ k) e w) (plain.Running c)
+  tests_pointers peek u left v failing l r k e w c names is well shared facts is_left is_right holds stack =
+      let slots = c.active.slots in
+      let (words, p, same, at) = in_words shared.tables left slots l is_left in
+      let (others, q, same_right, at_right) = in_words shared.tables v slots r is_right in
+      let n = told (is_negated u) (words p) (others q) in
+      let does = applies_told k e w shared.tables c.store shared.related (variables-apart source slots c.globals names shared.related facts.0) u left.kind v.kind left.value v.value words others p q (pointers_compare u failing is) at at_right well in
+      silently source pages calls (Running (Given v) (Needs (ApplyPointer peek u left) ∷ k) e w) (Running (Given (record { kind = kinds.Int; value = Int n })) k e w) (plain.Running c) does (
+        shared,
+        given_compared source pages calls shared.tables (record { kind = kinds.Int; value = Int n }) failing l r k e w c (compares failing (words p) (others q)) (ap Some (pointers_fail u failing (words p) (others q) is))
+            (ap (λ x. compares failing x (operand_word slots r)) (sym same) ∙ ap (compares failing (words p)) (sym same_right)) facts holds stack,
+      )
+      (omega arith)
+
   -- the right operand stands behind the left one
   pub right_follows : (peek : Option ℕ) (u : PointerOperator) (b : Expression) (os : Operations) (v : Kinded) (k : List Entry) (e : Environment) (w : World) (c : Configuration) (r : Operand) (m d q : ℕ) → takes_kind u v.kind ≡ true
       → (t : Tables) → Is t v.kind v.value c.active.slots (top source c.active.function k) → Holds t c.active.slots (floor source c.active.function k) (held k)
@@ -462,4 +505,4 @@ module _ (source : Program) (pages calls : ℕ) where
       let g = c.active.function in
       as_operand r m
       (subst (λ n. ValueAt (code_of source g) (bounds_at source g) (types_on source g k) b n r c.active.next m) (ap (λ n. top source g k + n) (sym (left_words u v.kind takes))) at_b)
-      (is, holds) (d, q, (takes, here), lands)
+      (is, holds) (to_slot (d, q, (takes, here), lands))

@@ -28,8 +28,8 @@ use Rattle.cyc_lower.proofs.slots.Widths.{kind_few, type_words}
 use Rattle.cyc_lower.specs.inside.ValueCode.{passed_words, move_of, code_unless, slot_or, code_unless_slot, conversion_code, failing_comparison, left_with, first_temporary, blocks, span_of, word_by_word, global_code, blank_code, kind_passed}
 use Rattle.cyc_lower.specs.inside.ObjectCode.{right_slot, saved_code, load_at}
 use Rattle.cyc_lower.specs.declared.operands.Condition.{Condition}
-use Rattle.cyc_lower.specs.inside.ControlCode.{compared_or, failing_jump, holding_jump, deciding_jump, are_tests, break_target, continue_target, body_target, outside_loops, inside_loop, leave_code, tag_operand, other_jump, clause_code, opened_code}
-use Rattle.cyc_lower.specs.inside.ControlCode.{closed_code, named_code, dynamic_code, kept_code, restored_code, behind_record, inside_try, inside_region, entry_code, entry_length, is_nothing, over_code, over_length, null_compared, nulled_or}
+use Rattle.cyc_lower.specs.inside.ControlCode.{compared_or, failing_jump, holding_jump, deciding_jump, are_tests, break_target, continue_target, body_target, outside_loops, inside_loop, leave_code, tag_operand, other_jump, clause_code, opened_code, closed_code}
+use Rattle.cyc_lower.specs.inside.ControlCode.{named_code, dynamic_code, kept_code, restored_code, behind_record, inside_try, inside_region, entry_code, entry_length, is_nothing, over_code, over_length, null_compared, pointers_failing, nulled_or, turned_test}
 use Rattle.cyc_lower.specs.inside.ExpressionCode.{source_of, operand_of, value_slot, value_operand, converted_operand, printed_operand, expression_code, converted_operand_code, printed_code, slot_with, brought_code, is_simple}
 use Rattle.cyc_lower.specs.inside.Lowering.{assignment_code, discarded_code, first_code, second_code, pair_code, condition_code, condition_of, others_code, tests_code, behind_tests, choice_code, choice_of, branch_code, branch_of, return_code, declaration_code}
 use Rattle.cyc_lower.specs.inside.Lowering.{statement_code, items_code, lower_function, store_address_code, side_code, read_side, write_side, exchange_code, swap_code, caught_code, clauses_code, starts_with, raises_of, farthest, is_guard, is_light, compares_light}
@@ -69,26 +69,25 @@ module _ (starts : Starts) where
   alone_size : (a : Expression) (p t : ℕ) → code_size (pair_code starts a (Number 0) p t) ≤ size_per_weight * expression_weight a
   alone_size a p t = omega (arith, code_size-append (first_code starts a (Number 0) p t) [], first_size a (Number 0) p t)
 
+  pair_size : (a b : Expression) (p t : ℕ) → code_size (pair_code starts a b p t) ≤ size_per_weight * expression_weight a + size_per_weight * expression_weight b
+  pair_size a b p t =
+      let front = first_code starts a b p t in
+      let q = p + length front in
+      omega (arith, code_size-append front (second_code starts b q t), first_size a b p t, second_size b q t)
+
+  compared_size : (null beside : Option Comparison) (a b whole : Expression) (p t : ℕ) → expression_weight a + expression_weight b ≤ expression_weight whole
+      → code_size (pair_code starts (nulled_or null beside a b whole).left (nulled_or null beside a b whole).right p t) ≤ size_per_weight * expression_weight whole
+  compared_size (Some failing) beside a b whole p t less = omega (arith, alone_size a p t, less)
+  compared_size None (Some failing) a b whole p t less = omega (arith, pair_size a b p t, less)
+  compared_size None None a b whole p t less = alone_size whole p t
+
   condition_size : (a : Expression) (p t : ℕ) → code_size (condition_code starts a p t) ≤ size_per_weight * expression_weight a
   condition_size (Unary unary.Not a) p t = omega (arith, condition_size a p t)
-  condition_size (Binary a (ThenCompute o b NoOperations) ty) p t = by (failing_comparison o)
-    where
-      by : (f : Option Comparison) → code_size (pair_code starts (compared_or f a b (Binary a (ThenCompute o b NoOperations) ty)).left (compared_or f a b (Binary a (ThenCompute o b NoOperations) ty)).right p t) ≤ size_per_weight * expression_weight (Binary a (ThenCompute o b NoOperations) ty)
-      by (Some failing) =
-          let front = first_code starts a b p t in
-          let q = p + length front in
-          omega (arith, code_size-append front (second_code starts b q t), first_size a b p t, second_size b q t)
-      by None = alone_size (Binary a (ThenCompute o b NoOperations) ty) p t
-  condition_size (Binary a (ThenPointer o b NoOperations) ty) p t = by (null_compared o b)
-    where
-      by : (f : Option Comparison) → code_size (pair_code starts (nulled_or f a (Binary a (ThenPointer o b NoOperations) ty)).left (nulled_or f a (Binary a (ThenPointer o b NoOperations) ty)).right p t) ≤ size_per_weight * expression_weight (Binary a (ThenPointer o b NoOperations) ty)
-      by (Some failing) = omega (arith, alone_size a p t)
-      by None = alone_size (Binary a (ThenPointer o b NoOperations) ty) p t
-  condition_size (Binary a (ThenPointerPeek n o b NoOperations) ty) p t = by (null_compared o b)
-    where
-      by : (f : Option Comparison) → code_size (pair_code starts (nulled_or f a (Binary a (ThenPointerPeek n o b NoOperations) ty)).left (nulled_or f a (Binary a (ThenPointerPeek n o b NoOperations) ty)).right p t) ≤ size_per_weight * expression_weight (Binary a (ThenPointerPeek n o b NoOperations) ty)
-      by (Some failing) = omega (arith, alone_size a p t)
-      by None = alone_size (Binary a (ThenPointerPeek n o b NoOperations) ty) p t
+  condition_size (Binary a (ThenCompute o b NoOperations) ty) p t = compared_size None (failing_comparison o) a b (Binary a (ThenCompute o b NoOperations) ty) p t (omega arith)
+  condition_size (Binary a (ThenPointer o b NoOperations) ty) p t =
+      compared_size (null_compared o b) (pointers_failing o) a b (Binary a (ThenPointer o b NoOperations) ty) p t (omega arith)
+  condition_size (Binary a (ThenPointerPeek n o b NoOperations) ty) p t =
+      compared_size (null_compared o b) (pointers_failing o) a b (Binary a (ThenPointerPeek n o b NoOperations) ty) p t (omega arith)
   condition_size a p t = alone_size a p t
 
   -- the operands of tests
@@ -108,6 +107,7 @@ module _ (starts : Starts) where
   others_size u (ThenPointerPeek n o b os) c x p t = omega (arith, others_size u os c x p t)
 
   choice_size : (u : LogicalOperator) (a : Expression) (p t : ℕ) → code_size (choice_code starts u a p t) ≤ size_per_weight * expression_weight a
+  choice_size u (Unary unary.Not a) p t = omega (arith, choice_size (turned_test u) a p t)
   choice_size u (Binary a os ty) p t = by (are_tests u os)
     where
       by : (tests : Bool) → code_size (if tests then tests_code starts u a os (behind_tests starts u a os p t) p t else condition_code starts (Binary a os ty) p t) ≤ size_per_weight * expression_weight (Binary a os ty)
@@ -118,16 +118,17 @@ module _ (starts : Starts) where
       by false = condition_size (Binary a os ty) p t
   choice_size u a p t = condition_size a p t
 
-  branch_size : (a : Expression) (x p t : ℕ) → code_size (branch_code starts a x p t) ≤ size_per_weight * expression_weight a
-  branch_size (Binary a os ty) x p t = by (are_tests logical.AndThen os)
+  branch_size : (u : LogicalOperator) (a : Expression) (x p t : ℕ) → code_size (branch_code starts u a x p t) ≤ size_per_weight * expression_weight a
+  branch_size u (Unary unary.Not a) x p t = omega (arith, branch_size (turned_test u) a x p t)
+  branch_size u (Binary a os ty) x p t = by (are_tests u os)
     where
-      by : (tests : Bool) → code_size (if tests then tests_code starts logical.AndThen a os x p t else choice_code starts logical.OrElse (Binary a os ty) p t) ≤ size_per_weight * expression_weight (Binary a os ty)
+      by : (tests : Bool) → code_size (if tests then tests_code starts u a os x p t else choice_code starts (turned_test u) (Binary a os ty) p t) ≤ size_per_weight * expression_weight (Binary a os ty)
       by true =
           let first = condition_code starts a p t in
-          let rest = others_code starts logical.AndThen os (condition_of starts a t) x (p + length first) t in
-          omega (arith, code_size-append first rest, condition_size a p t, others_size logical.AndThen os (condition_of starts a t) x (p + length first) t)
-      by false = choice_size logical.OrElse (Binary a os ty) p t
-  branch_size a x p t = choice_size logical.OrElse a p t
+          let rest = others_code starts u os (condition_of starts a t) x (p + length first) t in
+          omega (arith, code_size-append first rest, condition_size a p t, others_size u os (condition_of starts a t) x (p + length first) t)
+      by false = choice_size (turned_test u) (Binary a os ty) p t
+  branch_size u a x p t = choice_size (turned_test u) a p t
 
   -- the code of a condition that may stand twice is half as large
   light_first_size : (a b : Expression) (p t : ℕ) → is_light starts a ≡ true → code_size (first_code starts a b p t) ≤ 50 * expression_weight a
@@ -196,6 +197,7 @@ module _ (starts : Starts) where
   guard_size a p t guard = light_alone_size a p t guard
 
   guard_choice_size : (u : LogicalOperator) (a : Expression) (p t : ℕ) → is_guard starts a ≡ true → code_size (choice_code starts u a p t) ≤ 50 * expression_weight a
+  guard_choice_size u (Unary unary.Not a) p t guard = omega (arith, guard_choice_size (turned_test u) a p t guard)
   guard_choice_size u (Binary a (ThenCompute o b os) ty) p t guard = guard_size (Binary a (ThenCompute o b os) ty) p t guard
   guard_choice_size u (Binary a os ty) p t guard = absurd (let f : false ≡ true = guard in cc)
   guard_choice_size u a p t guard = guard_size a p t guard
@@ -311,13 +313,13 @@ module _ (starts : Starts) where
     statement_size (Evaluate a) p exits t = omega (arith, discarded_size a p t)
     statement_size (Swap x y) p exits t = swap_size x y p t
     statement_size (If a s u) p exits t =
-        let m = p + length (branch_code starts a 0 p t) in
+        let m = p + length (branch_code starts logical.AndThen a 0 p t) in
         let first = statement_code starts s (m + 1) exits t in
         let last = is_nothing u in
         let r = m + 1 + length first + over_length last in
-        let condition = branch_code starts a r p t in
+        let condition = branch_code starts logical.AndThen a r p t in
         let second = statement_code starts u r exits t in
-        let jump_first = failing_jump (branch_of starts a t) r ∷ first in
+        let jump_first = failing_jump (branch_of starts logical.AndThen a t) r ∷ first in
         let over = over_code last (r + length second) in
         omega (
           arith,
@@ -325,8 +327,8 @@ module _ (starts : Starts) where
           code_size-append condition jump_first,
           code_size-append over second,
           over_size last (r + length second),
-          cons (failing_jump (branch_of starts a t) r) first,
-          branch_size a r p t,
+          cons (failing_jump (branch_of starts logical.AndThen a t) r) first,
+          branch_size logical.AndThen a r p t,
           statement_size s (m + 1) exits t,
           else_size u r exits t (statement_size u r exits t),
         )

@@ -26,8 +26,8 @@ use Rattle.cyc_lower.specs.inside.Slots.{starts_of, slot_of, Types, global_of}
 use Rattle.cyc_lower.specs.inside.ValueCode.{passed_words, operand_or, slot_or, code_unless_slot, left_with, conversion_code, failing_comparison, span_of, word_by_word, global_code, keeps_words, kind_passed}
 use Rattle.cyc_lower.specs.inside.ObjectCode.{right_slot, load_at}
 use Rattle.cyc_lower.specs.declared.operands.Condition.{Condition}
-use Rattle.cyc_lower.specs.inside.ControlCode.{compared_or, failing_jump, holding_jump, deciding_jump, are_tests, body_target, inside_loop, leave_code, tag_operand, clause_code, opened_code, closed_code, named_code, dynamic_code, handlers_code, marks_code}
-use Rattle.cyc_lower.specs.inside.ControlCode.{kept_code, kept_code_in, restored_code, restored_code_in, behind_record, behind_record_in, inside_try, inside_region, outermost, entry_code, entry_length, is_nothing, over_code, over_length, null_compared, nulled_or}
+use Rattle.cyc_lower.specs.inside.ControlCode.{failing_jump, holding_jump, deciding_jump, are_tests, body_target, inside_loop, leave_code, tag_operand, clause_code, opened_code, closed_code, named_code, dynamic_code, handlers_code, marks_code, kept_code, kept_code_in}
+use Rattle.cyc_lower.specs.inside.ControlCode.{restored_code, restored_code_in, behind_record, behind_record_in, inside_try, inside_region, outermost, entry_code, entry_length, is_nothing, over_code, over_length, null_compared, pointers_failing, nulled_or, turned_test}
 use Rattle.cyc_lower.specs.inside.ExpressionCode.{source_of, operand_of, value_slot, slot_with, value_operand, converted_operand, printed_operand, expression_code, converted_operand_code, printed_code, brought_code, is_simple}
 use Rattle.cyc_lower.specs.inside.Lowering.{spare_slots, assignment_code, discarded_code, first_operand, first_code, second_code, pair_code, condition_code, condition_of, others_code, last_condition, tests_code, behind_tests, choice_code, choice_of, branch_code}
 use Rattle.cyc_lower.specs.inside.Lowering.{branch_of, return_code, declaration_code, statement_code, items_code, results_of, side_code, read_side, write_side, exchange_code, swap_code, thrown_code, thrown_operand, caught_code, clauses_code, is_guard}
@@ -81,53 +81,50 @@ module _ (program : PlainProgram) (r : Routine) (b : Numbering) (types : Types) 
       (λ less. expression_in program r b called results types locals levels globals behind a p slot t numbered (slot_with_in program r b types locals levels globals called results behind (is_simple (starts_of types) c) a t numbered (omega (arith, few, kind_few (kind_at program r b types locals levels globals called results behind a)))) (omega (arith, few)) less))
       (second (omega (arith, short, long)))
 
+  -- what a condition compares
+  sides_in : (null beside : Option Comparison) (a c whole : Expression) (p t : ℕ) → Fits b types a → Fits b types c → Fits b types whole
+      → t + expression_need a + spare_slots ≤ r.slots → suc t + expression_need c + spare_slots ≤ r.slots → t + expression_need whole + spare_slots ≤ r.slots
+      → p + length (pair_code (starts_of types) (nulled_or null beside a c whole).left (nulled_or null beside a c whole).right p t) < length r.code
+      → AreIn program r b types locals levels globals called results behind (pair_code (starts_of types) (nulled_or null beside a c whole).left (nulled_or null beside a c whole).right p t)
+  sides_in (Some failing) beside a c whole p t first second all few few_second few_all short = pair_in a (Number 0) p t first few short (λ less. tt)
+  sides_in None (Some failing) a c whole p t first second all few few_second few_all short =
+      let next = p + length (first_code (starts_of types) a c p t) in
+      let free : suc t + words_of_kind (kind_at program r b types locals levels globals called results behind c) ≤ r.slots = omega (arith, few_second, kind_few (kind_at program r b types locals levels globals called results behind c)) in
+      pair_in a c p t first few short
+      (λ less. unless_in program r b types locals levels globals called results behind (operand_of (starts_of types) c) (expression_code (starts_of types) c next (value_slot (starts_of types) c (suc t)) (suc t)) next less
+      (λ fits. expression_in program r b called results types locals levels globals behind c next (value_slot (starts_of types) c (suc t)) (suc t) second (slot_fits program r b types locals levels globals called results behind c (suc t) second free) (omega (arith, few_second)) fits))
+  sides_in None None a c whole p t first second all few few_second few_all short = pair_in whole (Number 0) p t all few_all short (λ less. tt)
+
   condition_in : (a : Expression) (p t : ℕ) → Fits b types a → t + expression_need a + spare_slots ≤ r.slots → p + length (condition_code (starts_of types) a p t) < length r.code → AreIn program r b types locals levels globals called results behind (condition_code (starts_of types) a p t)
   condition_in (Unary unary.Not a) p t numbered few short = condition_in a p t numbered (omega (arith, few)) short
-  condition_in (Binary a (ThenCompute o c NoOperations) ty) p t (first, (second, none)) few short = by (failing_comparison o) short
-    where
-      by : (f : Option Comparison) → p + length (pair_code (starts_of types) (compared_or f a c (Binary a (ThenCompute o c NoOperations) ty)).left (compared_or f a c (Binary a (ThenCompute o c NoOperations) ty)).right p t) < length r.code
-          → AreIn program r b types locals levels globals called results behind (pair_code (starts_of types) (compared_or f a c (Binary a (ThenCompute o c NoOperations) ty)).left (compared_or f a c (Binary a (ThenCompute o c NoOperations) ty)).right p t)
-      by (Some failing) short =
-          let next = p + length (first_code (starts_of types) a c p t) in
-          let some = operand_positive (type_of a) in
-          let free : suc t + words_of_kind (kind_at program r b types locals levels globals called results behind c) ≤ r.slots = omega (arith, few, some, operand_positive (type_of c), words_positive ty, kind_few (kind_at program r b types locals levels globals called results behind c)) in
-          pair_in a c p t first (omega (arith, few)) short
-          (λ less. unless_in program r b types locals levels globals called results behind (operand_of (starts_of types) c) (expression_code (starts_of types) c next (value_slot (starts_of types) c (suc t)) (suc t)) next less
-          (λ fits. expression_in program r b called results types locals levels globals behind c next (value_slot (starts_of types) c (suc t)) (suc t) second (slot_fits program r b types locals levels globals called results behind c (suc t) second free) (omega (arith, few, some)) fits))
-      by None short = pair_in (Binary a (ThenCompute o c NoOperations) ty) (Number 0) p t (first, (second, none)) few short (λ less. tt)
-  condition_in (Binary a (ThenPointer o c NoOperations) ty) p t (first, rest) few short = by (null_compared o c) short
-    where
-      by : (f : Option Comparison) → p + length (pair_code (starts_of types) (nulled_or f a (Binary a (ThenPointer o c NoOperations) ty)).left (nulled_or f a (Binary a (ThenPointer o c NoOperations) ty)).right p t) < length r.code
-          → AreIn program r b types locals levels globals called results behind (pair_code (starts_of types) (nulled_or f a (Binary a (ThenPointer o c NoOperations) ty)).left (nulled_or f a (Binary a (ThenPointer o c NoOperations) ty)).right p t)
-      by (Some failing) short = pair_in a (Number 0) p t first (omega (arith, few)) short (λ less. tt)
-      by None short = pair_in (Binary a (ThenPointer o c NoOperations) ty) (Number 0) p t (first, rest) few short (λ less. tt)
-  condition_in (Binary a (ThenPointerPeek n o c NoOperations) ty) p t (first, rest) few short = by (null_compared o c) short
-    where
-      by : (f : Option Comparison) → p + length (pair_code (starts_of types) (nulled_or f a (Binary a (ThenPointerPeek n o c NoOperations) ty)).left (nulled_or f a (Binary a (ThenPointerPeek n o c NoOperations) ty)).right p t) < length r.code
-          → AreIn program r b types locals levels globals called results behind (pair_code (starts_of types) (nulled_or f a (Binary a (ThenPointerPeek n o c NoOperations) ty)).left (nulled_or f a (Binary a (ThenPointerPeek n o c NoOperations) ty)).right p t)
-      by (Some failing) short = pair_in a (Number 0) p t first (omega (arith, few)) short (λ less. tt)
-      by None short = pair_in (Binary a (ThenPointerPeek n o c NoOperations) ty) (Number 0) p t (first, rest) few short (λ less. tt)
+  condition_in (Binary a (ThenCompute o c NoOperations) ty) p t (first, (second, none)) few short =
+      sides_in None (failing_comparison o) a c (Binary a (ThenCompute o c NoOperations) ty) p t first second (first, (second, none)) (omega (arith, few)) (omega (arith, few, operand_positive (type_of a), operand_positive (type_of c), words_positive ty)) few short
+  condition_in (Binary a (ThenPointer o c NoOperations) ty) p t (first, (wide, second, none)) few short =
+      sides_in (null_compared o c) (pointers_failing o) a c (Binary a (ThenPointer o c NoOperations) ty) p t first second (first, (wide, second, none)) (omega (arith, few)) (omega (arith, few, operand_positive (type_of a), operand_positive (type_of c), words_positive ty)) few short
+  condition_in (Binary a (ThenPointerPeek n o c NoOperations) ty) p t (first, (wide, second, none)) few short =
+      sides_in (null_compared o c) (pointers_failing o) a c (Binary a (ThenPointerPeek n o c NoOperations) ty) p t first second (first, (wide, second, none)) (omega (arith, few)) (omega (arith, few, operand_positive (type_of a), operand_positive (type_of c), words_positive ty)) few short
   condition_in a p t numbered few short = pair_in a (Number 0) p t numbered few short (λ less. tt)
+
+  sides_are_operands : (null beside : Option Comparison) (a c whole : Expression) (t : ℕ) → Fits b types a → Fits b types c → Fits b types whole
+      → t + expression_need a + spare_slots ≤ r.slots → suc t + expression_need c + spare_slots ≤ r.slots → t + expression_need whole + spare_slots ≤ r.slots
+      → IsOperand r (first_operand (starts_of types) (nulled_or null beside a c whole).left (nulled_or null beside a c whole).right t) × IsOperand r (value_operand (starts_of types) (nulled_or null beside a c whole).right (suc t))
+  sides_are_operands (Some failing) beside a c whole t first second all few few_second few_all =
+      (value_in program r b types locals levels globals called results behind a t first (omega (arith, few, kind_few (kind_at program r b types locals levels globals called results behind a))), tt)
+  sides_are_operands None (Some failing) a c whole t first second all few few_second few_all = (
+    left_with_in program r b types locals levels globals called results behind (is_simple (starts_of types) c) a t first (omega (arith, few, kind_few (kind_at program r b types locals levels globals called results behind a))),
+    value_in program r b types locals levels globals called results behind c (suc t) second (omega (arith, few_second, kind_few (kind_at program r b types locals levels globals called results behind c))),
+  )
+  sides_are_operands None None a c whole t first second all few few_second few_all =
+      (value_in program r b types locals levels globals called results behind whole t all (omega (arith, few_all, kind_few (kind_at program r b types locals levels globals called results behind whole))), tt)
 
   compared_in : (a : Expression) (t : ℕ) → Fits b types a → t + expression_need a + spare_slots ≤ r.slots → IsOperand r (condition_of (starts_of types) a t).left × IsOperand r (condition_of (starts_of types) a t).right
   compared_in (Unary unary.Not a) t numbered few = compared_in a t numbered (omega (arith, few))
-  compared_in (Binary a (ThenCompute o c NoOperations) ty) t (first, (second, none)) few = by (failing_comparison o)
-    where
-      by : (f : Option Comparison) → IsOperand r (first_operand (starts_of types) (compared_or f a c (Binary a (ThenCompute o c NoOperations) ty)).left (compared_or f a c (Binary a (ThenCompute o c NoOperations) ty)).right t) × IsOperand r (value_operand (starts_of types) (compared_or f a c (Binary a (ThenCompute o c NoOperations) ty)).right (suc t))
-      by (Some failing) =
-          let free : suc t + words_of_kind (kind_at program r b types locals levels globals called results behind c) ≤ r.slots = omega (arith, few, operand_positive (type_of a), operand_positive (type_of c), words_positive ty, kind_few (kind_at program r b types locals levels globals called results behind c)) in
-          (left_with_in program r b types locals levels globals called results behind (is_simple (starts_of types) c) a t first (omega (arith, few, kind_few (kind_at program r b types locals levels globals called results behind a))), value_in program r b types locals levels globals called results behind c (suc t) second free)
-      by None = (value_in program r b types locals levels globals called results behind (Binary a (ThenCompute o c NoOperations) ty) t (first, (second, none)) (omega (arith, few)), tt)
-  compared_in (Binary a (ThenPointer o c NoOperations) ty) t (first, rest) few = by (null_compared o c)
-    where
-      by : (f : Option Comparison) → IsOperand r (first_operand (starts_of types) (nulled_or f a (Binary a (ThenPointer o c NoOperations) ty)).left (nulled_or f a (Binary a (ThenPointer o c NoOperations) ty)).right t) × IsOperand r (value_operand (starts_of types) (nulled_or f a (Binary a (ThenPointer o c NoOperations) ty)).right (suc t))
-      by (Some failing) = (value_in program r b types locals levels globals called results behind a t first (omega (arith, few, kind_few (kind_at program r b types locals levels globals called results behind a))), tt)
-      by None = (value_in program r b types locals levels globals called results behind (Binary a (ThenPointer o c NoOperations) ty) t (first, rest) (omega (arith, few, kind_few (kind_at program r b types locals levels globals called results behind (Binary a (ThenPointer o c NoOperations) ty)))), tt)
-  compared_in (Binary a (ThenPointerPeek n o c NoOperations) ty) t (first, rest) few = by (null_compared o c)
-    where
-      by : (f : Option Comparison) → IsOperand r (first_operand (starts_of types) (nulled_or f a (Binary a (ThenPointerPeek n o c NoOperations) ty)).left (nulled_or f a (Binary a (ThenPointerPeek n o c NoOperations) ty)).right t) × IsOperand r (value_operand (starts_of types) (nulled_or f a (Binary a (ThenPointerPeek n o c NoOperations) ty)).right (suc t))
-      by (Some failing) = (value_in program r b types locals levels globals called results behind a t first (omega (arith, few, kind_few (kind_at program r b types locals levels globals called results behind a))), tt)
-      by None = (value_in program r b types locals levels globals called results behind (Binary a (ThenPointerPeek n o c NoOperations) ty) t (first, rest) (omega (arith, few, kind_few (kind_at program r b types locals levels globals called results behind (Binary a (ThenPointerPeek n o c NoOperations) ty)))), tt)
+  compared_in (Binary a (ThenCompute o c NoOperations) ty) t (first, (second, none)) few =
+      sides_are_operands None (failing_comparison o) a c (Binary a (ThenCompute o c NoOperations) ty) t first second (first, (second, none)) (omega (arith, few)) (omega (arith, few, operand_positive (type_of a), operand_positive (type_of c), words_positive ty)) few
+  compared_in (Binary a (ThenPointer o c NoOperations) ty) t (first, (wide, second, none)) few =
+      sides_are_operands (null_compared o c) (pointers_failing o) a c (Binary a (ThenPointer o c NoOperations) ty) t first second (first, (wide, second, none)) (omega (arith, few)) (omega (arith, few, operand_positive (type_of a), operand_positive (type_of c), words_positive ty)) few
+  compared_in (Binary a (ThenPointerPeek n o c NoOperations) ty) t (first, (wide, second, none)) few =
+      sides_are_operands (null_compared o c) (pointers_failing o) a c (Binary a (ThenPointerPeek n o c NoOperations) ty) t first second (first, (wide, second, none)) (omega (arith, few)) (omega (arith, few, operand_positive (type_of a), operand_positive (type_of c), words_positive ty)) few
   compared_in a t numbered few = (value_in program r b types locals levels globals called results behind a t numbered (omega (arith, few, kind_few (kind_at program r b types locals levels globals called results behind a))), tt)
 
   -- ---- regions
@@ -359,6 +356,7 @@ module _ (program : PlainProgram) (r : Routine) (b : Numbering) (types : Types) 
 
   -- a condition with a jump behind it, and something behind that
   choice_in : (u : LogicalOperator) (a : Expression) (p t : ℕ) → Fits b types a → t + expression_need a + spare_slots ≤ r.slots → p + length (choice_code (starts_of types) u a p t) + 1 < length r.code → AreIn program r b types locals levels globals called results behind (choice_code (starts_of types) u a p t)
+  choice_in u (Unary unary.Not a) p t numbered few short = choice_in (turned_test u) a p t numbered (omega (arith, few)) short
   choice_in u (Binary a os ty) p t (first, fits) few short = by (are_tests u os) short
     where
       by : (tests : Bool) → p + length (if tests then tests_code (starts_of types) u a os (behind_tests (starts_of types) u a os p t) p t else condition_code (starts_of types) (Binary a os ty) p t) + 1 < length r.code
@@ -375,6 +373,7 @@ module _ (program : PlainProgram) (r : Routine) (b : Numbering) (types : Types) 
   choice_in u a p t numbered few short = condition_in a p t numbered few (omega (arith, short))
 
   chosen_in : (u : LogicalOperator) (a : Expression) (t : ℕ) → Fits b types a → t + expression_need a + spare_slots ≤ r.slots → IsOperand r (choice_of (starts_of types) u a t).left × IsOperand r (choice_of (starts_of types) u a t).right
+  chosen_in u (Unary unary.Not a) t numbered few = chosen_in (turned_test u) a t numbered (omega (arith, few))
   chosen_in u (Binary a os ty) t (first, fits) few = by (are_tests u os)
     where
       by : (tests : Bool) → IsOperand r (if tests then last_condition (starts_of types) os (condition_of (starts_of types) a t) t else condition_of (starts_of types) (Binary a os ty) t).left
@@ -384,29 +383,31 @@ module _ (program : PlainProgram) (r : Routine) (b : Numbering) (types : Types) 
   chosen_in u a t numbered few = compared_in a t numbered few
 
   -- the condition of a branch, whose operands lead to a place in the code
-  branch_in : (a : Expression) (x p t : ℕ) → Fits b types a → t + expression_need a + spare_slots ≤ r.slots → x < length r.code → p + length (branch_code (starts_of types) a x p t) + 1 < length r.code
-      → AreIn program r b types locals levels globals called results behind (branch_code (starts_of types) a x p t)
-  branch_in (Binary a os ty) x p t (first, fits) few inside short = by (are_tests logical.AndThen os) short
+  branch_in : (u : LogicalOperator) (a : Expression) (x p t : ℕ) → Fits b types a → t + expression_need a + spare_slots ≤ r.slots → x < length r.code → p + length (branch_code (starts_of types) u a x p t) + 1 < length r.code
+      → AreIn program r b types locals levels globals called results behind (branch_code (starts_of types) u a x p t)
+  branch_in u (Unary unary.Not a) x p t numbered few inside short = branch_in (turned_test u) a x p t numbered (omega (arith, few)) inside short
+  branch_in u (Binary a os ty) x p t (first, fits) few inside short = by (are_tests u os) short
     where
-      by : (tests : Bool) → p + length (if tests then tests_code (starts_of types) logical.AndThen a os x p t else choice_code (starts_of types) logical.OrElse (Binary a os ty) p t) + 1 < length r.code
-          → AreIn program r b types locals levels globals called results behind (if tests then tests_code (starts_of types) logical.AndThen a os x p t else choice_code (starts_of types) logical.OrElse (Binary a os ty) p t)
+      by : (tests : Bool) → p + length (if tests then tests_code (starts_of types) u a os x p t else choice_code (starts_of types) (turned_test u) (Binary a os ty) p t) + 1 < length r.code
+          → AreIn program r b types locals levels globals called results behind (if tests then tests_code (starts_of types) u a os x p t else choice_code (starts_of types) (turned_test u) (Binary a os ty) p t)
       by true short =
           let front = condition_code (starts_of types) a p t in
-          let rest = others_code (starts_of types) logical.AndThen os (condition_of (starts_of types) a t) x (p + length front) t in
+          let rest = others_code (starts_of types) u os (condition_of (starts_of types) a t) x (p + length front) t in
           let long = length-append front rest in
           append program r b types locals levels globals called results behind front rest (condition_in a p t first (omega (arith, few)) (omega (arith, short, long)))
-          (others_in logical.AndThen os ty (operand_words (type_of a)) (condition_of (starts_of types) a t) x (p + length front) t fits (compared_in a t first (omega (arith, few))) inside (omega (arith, few)) (omega (arith, short, long)))
-      by false short = choice_in logical.OrElse (Binary a os ty) p t (first, fits) few short
-  branch_in a x p t numbered few inside short = choice_in logical.OrElse a p t numbered few short
+          (others_in u os ty (operand_words (type_of a)) (condition_of (starts_of types) a t) x (p + length front) t fits (compared_in a t first (omega (arith, few))) inside (omega (arith, few)) (omega (arith, short, long)))
+      by false short = choice_in (turned_test u) (Binary a os ty) p t (first, fits) few short
+  branch_in u a x p t numbered few inside short = choice_in (turned_test u) a p t numbered few short
 
-  branched_in : (a : Expression) (t : ℕ) → Fits b types a → t + expression_need a + spare_slots ≤ r.slots → IsOperand r (branch_of (starts_of types) a t).left × IsOperand r (branch_of (starts_of types) a t).right
-  branched_in (Binary a os ty) t (first, fits) few = by (are_tests logical.AndThen os)
+  branched_in : (u : LogicalOperator) (a : Expression) (t : ℕ) → Fits b types a → t + expression_need a + spare_slots ≤ r.slots → IsOperand r (branch_of (starts_of types) u a t).left × IsOperand r (branch_of (starts_of types) u a t).right
+  branched_in u (Unary unary.Not a) t numbered few = branched_in (turned_test u) a t numbered (omega (arith, few))
+  branched_in u (Binary a os ty) t (first, fits) few = by (are_tests u os)
     where
-      by : (tests : Bool) → IsOperand r (if tests then last_condition (starts_of types) os (condition_of (starts_of types) a t) t else choice_of (starts_of types) logical.OrElse (Binary a os ty) t).left
-          × IsOperand r (if tests then last_condition (starts_of types) os (condition_of (starts_of types) a t) t else choice_of (starts_of types) logical.OrElse (Binary a os ty) t).right
+      by : (tests : Bool) → IsOperand r (if tests then last_condition (starts_of types) os (condition_of (starts_of types) a t) t else choice_of (starts_of types) (turned_test u) (Binary a os ty) t).left
+          × IsOperand r (if tests then last_condition (starts_of types) os (condition_of (starts_of types) a t) t else choice_of (starts_of types) (turned_test u) (Binary a os ty) t).right
       by true = last_in os ty (operand_words (type_of a)) (condition_of (starts_of types) a t) t fits (compared_in a t first (omega (arith, few))) (omega (arith, few))
-      by false = chosen_in logical.OrElse (Binary a os ty) t (first, fits) few
-  branched_in a t numbered few = chosen_in logical.OrElse a t numbered few
+      by false = chosen_in (turned_test u) (Binary a os ty) t (first, fits) few
+  branched_in u a t numbered few = chosen_in (turned_test u) a t numbered few
 
   exits_behind : (exits : Exits) (slot : ℕ) → HasExits exits → slot < r.slots → HasExits (inside_region exits slot)
   exits_behind exits slot ((loop_record, loop_mark), (first_record, first_mark)) room =
@@ -432,23 +433,23 @@ module _ (program : PlainProgram) (r : Routine) (b : Numbering) (types : Types) 
     statement_in (Evaluate a) in_loop p exits t numbered around outside few short = discarded_in a p t numbered (omega (arith, few)) short
     statement_in (Swap x y) in_loop p exits t (fits_x, fits_y) around outside few short = swap_in x y p t fits_x fits_y (omega (arith, few)) short
     statement_in (If a s u) in_loop p exits t (numbered_a, numbered_s, numbered_u) around outside few short =
-        let m = p + length (branch_code (starts_of types) a 0 p t) in
+        let m = p + length (branch_code (starts_of types) logical.AndThen a 0 p t) in
         let first = statement_code (starts_of types) s (m + 1) exits t in
         let last = is_nothing u in
         let q = m + 1 + length first + over_length last in
-        let condition = branch_code (starts_of types) a q p t in
-        let same = branch_same (starts_of types) a 0 q p t in
+        let condition = branch_code (starts_of types) logical.AndThen a q p t in
+        let same = branch_same (starts_of types) logical.AndThen a 0 q p t in
         let second = statement_code (starts_of types) u q exits t in
-        let jump_first = failing_jump (branch_of (starts_of types) a t) q ∷ first in
+        let jump_first = failing_jump (branch_of (starts_of types) logical.AndThen a t) q ∷ first in
         let over = over_code last (q + length second) in
         let long = length-append (condition ++ jump_first) (over ++ second) in
         let long_front = length-append condition jump_first in
         let long_back = length-append over second in
         let long_over = over_length_is last (q + length second) in
-        let (left, right) = branched_in a t numbered_a (omega (arith, few)) in
+        let (left, right) = branched_in logical.AndThen a t numbered_a (omega (arith, few)) in
         let inside : q < length r.code = omega (arith, short, long, long_front, long_back, long_over, same) in
         append program r b types locals levels globals called results behind (condition ++ jump_first) (over ++ second)
-        (append program r b types locals levels globals called results behind condition jump_first (branch_in a q p t numbered_a (omega (arith, few)) inside (omega (arith, short, long, long_front)))
+        (append program r b types locals levels globals called results behind condition jump_first (branch_in logical.AndThen a q p t numbered_a (omega (arith, few)) inside (omega (arith, short, long, long_front)))
         ((left, right, inside), statement_in s in_loop (m + 1) exits t numbered_s around outside (omega (arith, few)) (omega (arith, short, long, long_front, long_back, long_over, same))))
         (append program r b types locals levels globals called results behind over second (over_in last (q + length second) (omega (arith, short, long, long_front, long_back, long_over, same))) (statement_in u in_loop q exits t numbered_u around outside (omega (arith, few)) (omega (arith, short, long, long_front, long_back, long_over, same))))
     statement_in (While w a s) in_loop p exits t (numbered_a, numbered_s) around outside few short =

@@ -32,8 +32,8 @@ use Rattle.cyc_meaning.specs.Values.{words_of_kind, kind_of}
 use Rattle.cyc_lower.specs.inside.ValueCode.{passed_words, code_unless, slot_or, code_unless_slot, left_with, conversion_code, failing_comparison, first_temporary, blocks, span_of, word_by_word, kind_passed, masks}
 use Rattle.cyc_lower.specs.inside.ObjectCode.{right_slot, load_at}
 use Rattle.cyc_lower.specs.declared.operands.Condition.{Condition}
-use Rattle.cyc_lower.specs.inside.ControlCode.{compared_or, compared_of, deciding_jump, are_tests, outside_loops, inside_loop, leave_code, clause_code, opened_code, closed_code, named_code, dynamic_code, handlers_code, marks_code, kept_code}
-use Rattle.cyc_lower.specs.inside.ControlCode.{kept_code_in, restored_code, restored_code_in, behind_record, inside_try, inside_region, body_target, entry_code, entry_length, holding_jump, is_nothing, over_code, other_place, null_compared, nulled_or}
+use Rattle.cyc_lower.specs.inside.ControlCode.{compared_of, deciding_jump, are_tests, outside_loops, inside_loop, leave_code, clause_code, opened_code, closed_code, named_code, dynamic_code, handlers_code, marks_code, kept_code, kept_code_in, restored_code}
+use Rattle.cyc_lower.specs.inside.ControlCode.{restored_code_in, behind_record, inside_try, inside_region, body_target, entry_code, entry_length, holding_jump, is_nothing, over_code, other_place, null_compared, pointers_failing, nulled_or, turned_test}
 use Rattle.cyc_lower.specs.inside.ExpressionCode.{source_of, operand_of, value_slot, value_operand, converted_operand, expression_code, converted_operand_code, printed_code, slot_with, brought_code, is_simple}
 use Rattle.cyc_lower.specs.inside.Lowering.{assignment_code, discarded_code, first_code, second_code, pair_code, condition_code, condition_of, others_code, last_condition, tests_code, behind_tests, choice_code, choice_of}
 use Rattle.cyc_lower.specs.inside.Lowering.{branch_code, branch_of, return_code, declaration_code, statement_code, items_code, initial_word, lower_function, lower_program, store_address_code, caught_code, clauses_code}
@@ -59,23 +59,21 @@ module _ (starts : Starts) where
 
   -- ---- statements
 
+  -- what a condition compares
+  sides_words : (null beside : Option Comparison) (a b whole : Expression) → IsOfWords a → IsOfWords b → IsOfWords whole
+      → IsOfWords (nulled_or null beside a b whole).left × IsOfWords (nulled_or null beside a b whole).right
+  sides_words (Some failing) beside a b whole first second all = (first, omega arith)
+  sides_words None (Some failing) a b whole first second all = (first, second)
+  sides_words None None a b whole first second all = (all, omega arith)
+
   compared_words : (a : Expression) → IsOfWords a → IsOfWords (compared_of a).left × IsOfWords (compared_of a).right
   compared_words (Unary unary.Not a) words = compared_words a words
-  compared_words (Binary a (ThenCompute o b NoOperations) ty) (first, (second, none)) = by (failing_comparison o)
-    where
-      by : (f : Option Comparison) → IsOfWords (compared_or f a b (Binary a (ThenCompute o b NoOperations) ty)).left × IsOfWords (compared_or f a b (Binary a (ThenCompute o b NoOperations) ty)).right
-      by (Some failing) = (first, second)
-      by None = ((first, (second, none)), omega arith)
-  compared_words (Binary a (ThenPointer o b NoOperations) ty) (first, rest) = by (null_compared o b)
-    where
-      by : (f : Option Comparison) → IsOfWords (nulled_or f a (Binary a (ThenPointer o b NoOperations) ty)).left × IsOfWords (nulled_or f a (Binary a (ThenPointer o b NoOperations) ty)).right
-      by (Some failing) = (first, omega arith)
-      by None = ((first, rest), omega arith)
-  compared_words (Binary a (ThenPointerPeek n o b NoOperations) ty) (first, rest) = by (null_compared o b)
-    where
-      by : (f : Option Comparison) → IsOfWords (nulled_or f a (Binary a (ThenPointerPeek n o b NoOperations) ty)).left × IsOfWords (nulled_or f a (Binary a (ThenPointerPeek n o b NoOperations) ty)).right
-      by (Some failing) = (first, omega arith)
-      by None = ((first, rest), omega arith)
+  compared_words (Binary a (ThenCompute o b NoOperations) ty) (first, (second, none)) =
+      sides_words None (failing_comparison o) a b (Binary a (ThenCompute o b NoOperations) ty) first second (first, (second, none))
+  compared_words (Binary a (ThenPointer o b NoOperations) ty) (first, (alone, second, none)) =
+      sides_words (null_compared o b) (pointers_failing o) a b (Binary a (ThenPointer o b NoOperations) ty) first second (first, (alone, second, none))
+  compared_words (Binary a (ThenPointerPeek n o b NoOperations) ty) (first, (alone, second, none)) =
+      sides_words (null_compared o b) (pointers_failing o) a b (Binary a (ThenPointerPeek n o b NoOperations) ty) first second (first, (alone, second, none))
   compared_words a words = (words, omega arith)
 
   -- two operands that are compared
@@ -120,6 +118,7 @@ module _ (starts : Starts) where
   last_word (ThenPointerPeek n o b os) c t words (alone, first, all) = last_word os c t words all
 
   choice_words : (u : LogicalOperator) (a : Expression) (p t : ℕ) → IsOfWords a → HaveWords (choice_code starts u a p t)
+  choice_words u (Unary unary.Not a) p t words = choice_words (turned_test u) a p t words
   choice_words u (Binary a os ty) p t (first, all) = by (are_tests u os)
     where
       by : (tests : Bool) → HaveWords (if tests then tests_code starts u a os (behind_tests starts u a os p t) p t else condition_code starts (Binary a os ty) p t)
@@ -128,6 +127,7 @@ module _ (starts : Starts) where
   choice_words u a p t words = condition_words a p t words
 
   choice_word : (u : LogicalOperator) (a : Expression) (t : ℕ) → IsOfWords a → IsOfWord (choice_of starts u a t).left × IsOfWord (choice_of starts u a t).right
+  choice_word u (Unary unary.Not a) t words = choice_word (turned_test u) a t words
   choice_word u (Binary a os ty) t (first, all) = by (are_tests u os)
     where
       by : (tests : Bool) → IsOfWord (if tests then last_condition starts os (condition_of starts a t) t else condition_of starts (Binary a os ty) t).left
@@ -136,22 +136,24 @@ module _ (starts : Starts) where
       by false = condition_word (Binary a os ty) t (first, all)
   choice_word u a t words = condition_word a t words
 
-  branch_words : (a : Expression) (x p t : ℕ) → IsOfWords a → HaveWords (branch_code starts a x p t)
-  branch_words (Binary a os ty) x p t (first, all) = by (are_tests logical.AndThen os)
+  branch_words : (u : LogicalOperator) (a : Expression) (x p t : ℕ) → IsOfWords a → HaveWords (branch_code starts u a x p t)
+  branch_words u (Unary unary.Not a) x p t words = branch_words (turned_test u) a x p t words
+  branch_words u (Binary a os ty) x p t (first, all) = by (are_tests u os)
     where
-      by : (tests : Bool) → HaveWords (if tests then tests_code starts logical.AndThen a os x p t else choice_code starts logical.OrElse (Binary a os ty) p t)
-      by true = append (condition_code starts a p t) _ (condition_words a p t first) (others_words logical.AndThen os (condition_of starts a t) x _ t (condition_word a t first) all)
-      by false = choice_words logical.OrElse (Binary a os ty) p t (first, all)
-  branch_words a x p t words = choice_words logical.OrElse a p t words
+      by : (tests : Bool) → HaveWords (if tests then tests_code starts u a os x p t else choice_code starts (turned_test u) (Binary a os ty) p t)
+      by true = append (condition_code starts a p t) _ (condition_words a p t first) (others_words u os (condition_of starts a t) x _ t (condition_word a t first) all)
+      by false = choice_words (turned_test u) (Binary a os ty) p t (first, all)
+  branch_words u a x p t words = choice_words (turned_test u) a p t words
 
-  branch_word : (a : Expression) (t : ℕ) → IsOfWords a → IsOfWord (branch_of starts a t).left × IsOfWord (branch_of starts a t).right
-  branch_word (Binary a os ty) t (first, all) = by (are_tests logical.AndThen os)
+  branch_word : (u : LogicalOperator) (a : Expression) (t : ℕ) → IsOfWords a → IsOfWord (branch_of starts u a t).left × IsOfWord (branch_of starts u a t).right
+  branch_word u (Unary unary.Not a) t words = branch_word (turned_test u) a t words
+  branch_word u (Binary a os ty) t (first, all) = by (are_tests u os)
     where
-      by : (tests : Bool) → IsOfWord (if tests then last_condition starts os (condition_of starts a t) t else choice_of starts logical.OrElse (Binary a os ty) t).left
-          × IsOfWord (if tests then last_condition starts os (condition_of starts a t) t else choice_of starts logical.OrElse (Binary a os ty) t).right
+      by : (tests : Bool) → IsOfWord (if tests then last_condition starts os (condition_of starts a t) t else choice_of starts (turned_test u) (Binary a os ty) t).left
+          × IsOfWord (if tests then last_condition starts os (condition_of starts a t) t else choice_of starts (turned_test u) (Binary a os ty) t).right
       by true = last_word os (condition_of starts a t) t (condition_word a t first) all
-      by false = choice_word logical.OrElse (Binary a os ty) t (first, all)
-  branch_word a t words = choice_word logical.OrElse a t words
+      by false = choice_word (turned_test u) (Binary a os ty) t (first, all)
+  branch_word u a t words = choice_word (turned_test u) a t words
 
   -- ---- regions
 
@@ -269,14 +271,14 @@ module _ (starts : Starts) where
     statement_words (Evaluate a) p exits t words = discarded_words a p t words
     statement_words (Swap x y) p exits t (words_x, words_y) = swap_words x y p t words_x words_y
     statement_words (If a s u) p exits t (first, second, third) =
-        let first_part = statement_code starts s (p + length (branch_code starts a 0 p t) + 1) exits t in
+        let first_part = statement_code starts s (p + length (branch_code starts logical.AndThen a 0 p t) + 1) exits t in
         let last = is_nothing u in
-        let q = other_place last (branch_code starts a 0 p t) first_part p in
-        let condition = branch_code starts a q p t in
+        let q = other_place last (branch_code starts logical.AndThen a 0 p t) first_part p in
+        let condition = branch_code starts logical.AndThen a q p t in
         let second_part = statement_code starts u q exits t in
         let over = over_code last (q + length second_part) in
         append (condition ++ _ ∷ first_part) (over ++ second_part)
-        (append condition (_ ∷ first_part) (branch_words a q p t first) (branch_word a t first, statement_words s (p + length (branch_code starts a 0 p t) + 1) exits t second))
+        (append condition (_ ∷ first_part) (branch_words logical.AndThen a q p t first) (branch_word logical.AndThen a t first, statement_words s (p + length (branch_code starts logical.AndThen a 0 p t) + 1) exits t second))
         (append over second_part (over_words last (q + length second_part)) (statement_words u q exits t third))
     statement_words (While w a s) p exits t (first, second) =
         let guarded = is_guard starts a in

@@ -28,7 +28,7 @@ use Rattle.cyc_lower.specs.inside.Slots.{field_in, Types, Starts}
 use Rattle.cyc_meaning.specs.Places.{locates_member}
 use Rattle.cyc_lower.proofs.place_steps.PlaceWords.{field_bytes}
 use Rattle.cyc_lower.specs.inside.ValueCode.{failing_comparison, left_with, followed_operand, span_in, reached_operand}
-use Rattle.cyc_lower.specs.inside.ControlCode.{compared_or, opposite, compared_of, null_compared, nulled_or}
+use Rattle.cyc_lower.specs.inside.ControlCode.{compared_or, opposite, compared_of, null_compared, pointers_failing, nulled_or}
 use Rattle.cyc_lower.specs.inside.ExpressionCode.{operand_of, value_slot, slot_with, pointer_of, is_simple, are_simple}
 use Rattle.cyc_lower.proofs.relation.code.Stands.{OperandBy, ExpressionAt, ValueAt, PairAt, ConditionAt, ReturnedAt, ReachedAt, BranchesAt, TestsAt, ForkAt, ComparedAt, Ends}
 use Rattle.cyc_objects.specs.inside.Tables.{Tables}
@@ -65,7 +65,7 @@ module _ (source : Program) (pages calls : ℕ) where
       → CountersHold e.counters slots (floor source g k) k
   counters_beside t e g o p slots frames (Needs (Apply u left) ∷ k) counted (l, is, low, inl (holds, applied)) = counters_hold t e.counters slots (floor source g k) k counted holds
   counters_beside t e g o p slots frames (Needs (Apply u left) ∷ k) counted (l, is, low, inr (q, at, beside)) = counters_beside t e g (operands.Slot (top source g k)) q slots frames k counted beside
-  counters_beside t e g o p slots frames (Needs (ApplyPointer peek u left) ∷ k) counted (l, failing, is, low, holds, fails, stack) = counters_hold t e.counters slots (floor source g k) k counted holds
+  counters_beside t e g o p slots frames (Needs (ApplyPointer peek u left) ∷ k) counted (l, failing, is, low, holds, either) = counters_hold t e.counters slots (floor source g k) k counted holds
   counters_beside t e g o p slots frames (Needs (Advance peek target base) ∷ k) counted (n, q, is, low, holds, advances) = counters_hold t e.counters slots (floor source g k) k counted holds
   counters_beside t e g o p slots frames (Needs (Chain os) ∷ k) counted (q, low, simple, at, beside) = counters_beside t e g (operands.Slot (top source g k)) q slots frames k counted beside
   counters_beside t e g o p slots frames (Needs (Operate unary.Widen) ∷ k) counted beside = counters_beside t e g o p slots frames k counted beside
@@ -184,23 +184,27 @@ module _ (source : Program) (pages calls : ℕ) where
       chain_begins source pages calls (is_simple (starts_on source c.active.function k) b) a (ThenCompute o b NoOperations) t k e w c l m known at_a (λ low. (low, to_jump (inl (failing, r, q, (is, at_b), stack))))
   compares None o a b t k e w c l r q is known at stack = not_zero (Binary a (ThenCompute o b NoOperations) t) k e w c l r q known at stack
 
-  compares_null : (f : Option Comparison) (o : PointerOperator) (a b : Expression) (t : Ty) (k : List Entry) (e : Environment) (w : World) (c : Configuration) (l r : Operand) (q : ℕ) → null_compared o b ≡ f
+  compares_null : (f g : Option Comparison) (o : PointerOperator) (a b : Expression) (t : Ty) (k : List Entry) (e : Environment) (w : World) (c : Configuration) (l r : Operand) (q : ℕ) → null_compared o b ≡ f → pointers_failing o ≡ g
       → At_step source pages calls (Binary a (ThenPointer o b NoOperations) t) k e w c
-      → PairAt (code_of source c.active.function) (bounds_at source c.active.function) (types_on source c.active.function k) (nulled_or f a (Binary a (ThenPointer o b NoOperations) t)).left
-      (nulled_or f a (Binary a (ThenPointer o b NoOperations) t)).right l r (top source c.active.function k) c.active.next q
-      → ConditionStack source c.active.function (nulled_or f a (Binary a (ThenPointer o b NoOperations) t)).failing l r q c.frames k → IsBegun source pages calls (Binary a (ThenPointer o b NoOperations) t) k e w c
-  compares_null (Some failing) o a b t k e w c l r q is known (m, at_a, (same, end)) stack =
-      chain_begins source pages calls true a (ThenPointer o b NoOperations) t k e w c l m known at_a (λ low. (low, to_jump (inl (failing, r, q, (is, same, end), stack))))
-  compares_null None o a b t k e w c l r q is known at stack = not_zero (Binary a (ThenPointer o b NoOperations) t) k e w c l r q known at stack
+      → PairAt (code_of source c.active.function) (bounds_at source c.active.function) (types_on source c.active.function k) (nulled_or f g a b (Binary a (ThenPointer o b NoOperations) t)).left
+      (nulled_or f g a b (Binary a (ThenPointer o b NoOperations) t)).right l r (top source c.active.function k) c.active.next q
+      → ConditionStack source c.active.function (nulled_or f g a b (Binary a (ThenPointer o b NoOperations) t)).failing l r q c.frames k → IsBegun source pages calls (Binary a (ThenPointer o b NoOperations) t) k e w c
+  compares_null (Some failing) g o a b t k e w c l r q is none known (m, at_a, (same, end)) stack =
+      chain_begins source pages calls true a (ThenPointer o b NoOperations) t k e w c l m known at_a (λ low. (low, to_jump (inl (failing, r, q, inl (is, same, end), stack))))
+  compares_null None (Some failing) o a b t k e w c l r q none is known (m, at_a, at_b) stack =
+      chain_begins source pages calls (is_simple (starts_on source c.active.function k) b) a (ThenPointer o b NoOperations) t k e w c l m known at_a (λ low. (low, to_jump (inl (failing, r, q, inr (is, at_b), stack))))
+  compares_null None None o a b t k e w c l r q is none known at stack = not_zero (Binary a (ThenPointer o b NoOperations) t) k e w c l r q known at stack
 
-  compares_peek : (f : Option Comparison) (n : ℕ) (o : PointerOperator) (a b : Expression) (t : Ty) (k : List Entry) (e : Environment) (w : World) (c : Configuration) (l r : Operand) (q : ℕ) → null_compared o b ≡ f
+  compares_peek : (f g : Option Comparison) (n : ℕ) (o : PointerOperator) (a b : Expression) (t : Ty) (k : List Entry) (e : Environment) (w : World) (c : Configuration) (l r : Operand) (q : ℕ) → null_compared o b ≡ f → pointers_failing o ≡ g
       → At_step source pages calls (Binary a (ThenPointerPeek n o b NoOperations) t) k e w c
-      → PairAt (code_of source c.active.function) (bounds_at source c.active.function) (types_on source c.active.function k) (nulled_or f a (Binary a (ThenPointerPeek n o b NoOperations) t)).left
-      (nulled_or f a (Binary a (ThenPointerPeek n o b NoOperations) t)).right l r (top source c.active.function k) c.active.next q
-      → ConditionStack source c.active.function (nulled_or f a (Binary a (ThenPointerPeek n o b NoOperations) t)).failing l r q c.frames k → IsBegun source pages calls (Binary a (ThenPointerPeek n o b NoOperations) t) k e w c
-  compares_peek (Some failing) n o a b t k e w c l r q is known (m, at_a, (same, end)) stack =
-      chain_begins source pages calls true a (ThenPointerPeek n o b NoOperations) t k e w c l m known at_a (λ low. (low, to_jump (inl (failing, r, q, (is, same, end), stack))))
-  compares_peek None n o a b t k e w c l r q is known at stack = not_zero (Binary a (ThenPointerPeek n o b NoOperations) t) k e w c l r q known at stack
+      → PairAt (code_of source c.active.function) (bounds_at source c.active.function) (types_on source c.active.function k) (nulled_or f g a b (Binary a (ThenPointerPeek n o b NoOperations) t)).left
+      (nulled_or f g a b (Binary a (ThenPointerPeek n o b NoOperations) t)).right l r (top source c.active.function k) c.active.next q
+      → ConditionStack source c.active.function (nulled_or f g a b (Binary a (ThenPointerPeek n o b NoOperations) t)).failing l r q c.frames k → IsBegun source pages calls (Binary a (ThenPointerPeek n o b NoOperations) t) k e w c
+  compares_peek (Some failing) g n o a b t k e w c l r q is none known (m, at_a, (same, end)) stack =
+      chain_begins source pages calls true a (ThenPointerPeek n o b NoOperations) t k e w c l m known at_a (λ low. (low, to_jump (inl (failing, r, q, inl (is, same, end), stack))))
+  compares_peek None (Some failing) n o a b t k e w c l r q none is known (m, at_a, at_b) stack =
+      chain_begins source pages calls (is_simple (starts_on source c.active.function k) b) a (ThenPointerPeek n o b NoOperations) t k e w c l m known at_a (λ low. (low, to_jump (inl (failing, r, q, inr (is, at_b), stack))))
+  compares_peek None None n o a b t k e w c l r q is none known at stack = not_zero (Binary a (ThenPointerPeek n o b NoOperations) t) k e w c l r q known at stack
 
   -- a condition that is negated leads to the same places the other way round
   turned : (g : ℕ) (failing : Comparison) (l r : Operand) (p : ℕ) (frames : List Frame) (k : List Entry) → ConditionStack source g (opposite failing) l r p frames k
@@ -219,8 +223,8 @@ module _ (source : Program) (pages calls : ℕ) where
       (shared, facts, as_condition f h (compared_whole (code_of source g) (bounds_at source g) (types_on source g k) a f h (top source g k) c.active.next (l, r, q, at, fork)) holds first second)
       (omega arith)
   compared_begins (Binary a (ThenCompute o b NoOperations) t) k e w c l r q known at stack = compares (failing_comparison o) o a b t k e w c l r q refl known at stack
-  compared_begins (Binary a (ThenPointer o b NoOperations) t) k e w c l r q known at stack = compares_null (null_compared o b) o a b t k e w c l r q refl known at stack
-  compared_begins (Binary a (ThenPointerPeek n o b NoOperations) t) k e w c l r q known at stack = compares_peek (null_compared o b) n o a b t k e w c l r q refl known at stack
+  compared_begins (Binary a (ThenPointer o b NoOperations) t) k e w c l r q known at stack = compares_null (null_compared o b) (pointers_failing o) o a b t k e w c l r q refl refl known at stack
+  compared_begins (Binary a (ThenPointerPeek n o b NoOperations) t) k e w c l r q known at stack = compares_peek (null_compared o b) (pointers_failing o) n o a b t k e w c l r q refl refl known at stack
   compared_begins a k e w c l r q known at stack = not_zero a k e w c l r q known at stack
 
   -- a condition that leads to two places

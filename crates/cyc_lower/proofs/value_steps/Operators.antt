@@ -42,7 +42,7 @@ use Rattle.cyc_lower.specs.inside.ValueCode.{binary_operator, failing_comparison
 use Rattle.cyc_lower.specs.inside.ExpressionCode.{operand_of, value_slot, is_simple}
 use Rattle.cyc_lower.specs.inside.Lowering.{lower_program}
 use Rattle.cyc_types.specs.declared.typed.PointerOperator.{PointerOperator}
-use Rattle.cyc_lower.specs.inside.ControlCode.{null_failing, null_compared}
+use Rattle.cyc_lower.specs.inside.ControlCode.{null_failing, null_compared, pointers_failing}
 use Rattle.cyc_lower.proofs.relation.code.Stands.{OperandBy, CheckAt, CheckedAt, OperatorAt, TruthAt, ExpressionAt, OperationsAt, LeftBy}
 use Rattle.cyc_objects.specs.inside.Tables.{Tables}
 use Rattle.cyc_objects.specs.inside.Words.{Is}
@@ -55,7 +55,7 @@ use Rattle.cyc_lower.proofs.relation.contents.HandlerData.{data_written}
 use Rattle.cyc_lower.proofs.relation.simulation.Accesses.{IsWell}
 use Rattle.cyc_lower.proofs.relation.simulation.Matched.{silently, by_one, by_two}
 use Rattle.cyc_lower.proofs.handler_steps.Handling.{raised}
-use Rattle.cyc_lower.proofs.pointer_steps.PointerSteps.{right_follows}
+use Rattle.cyc_lower.proofs.pointer_steps.PointerSteps.{right_follows, one_word}
 use Rattle.cyc_lower.proofs.value_steps.Beginnings.{only_computed}
 use Rattle.cyc_lower.proofs.value_steps.Evaluations.{known_simple}
 use Rattle.cyc_lower.proofs.value_steps.Landings.{landed, landed_word, lands_at}
@@ -210,8 +210,8 @@ module _ (source : Program) (pages calls : ℕ) where
       (l, low_same t left l (top source g k) slots other low same is, low, inl (Holds-same t slots other (floor source g k) (held k) (λ m below. same m (omega (arith, below))) holds, applied))
   beside_same t locals g o p slots other frames (Needs (Apply u left) ∷ k) same (l, is, low, inr (q, at, beside)) =
       (l, low_same t left l (top source g k) slots other low same is, low, inr (q, at, beside_same t locals g (operands.Slot (top source g k)) q slots other frames k (λ m below. same m (omega (arith, below))) beside))
-  beside_same t locals g o p slots other frames (Needs (ApplyPointer peek u left) ∷ k) same (l, failing, is, low, holds, fails, stack) =
-      (l, failing, low_same t left l (top source g k) slots other low same is, low, Holds-same t slots other (floor source g k) (held k) (λ m below. same m (omega (arith, below))) holds, fails, stack)
+  beside_same t locals g o p slots other frames (Needs (ApplyPointer peek u left) ∷ k) same (l, failing, is, low, holds, either) =
+      (l, failing, low_same t left l (top source g k) slots other low same is, low, Holds-same t slots other (floor source g k) (held k) (λ m below. same m (omega (arith, below))) holds, either)
   beside_same t locals g o p slots other frames (Needs (Advance peek target base) ∷ k) same (n, q, is, low, holds, advances) = (
     n,
     q,
@@ -438,7 +438,7 @@ module _ (source : Program) (pages calls : ℕ) where
         c.active.next,
         refl,
         (refl, refl),
-        (o, failing, is, low, holds, fails, subst (λ (x : Operand). ConditionStack source g failing o x c.active.next c.frames k) same (subst (λ (p : ℕ). ConditionStack source g failing o r p c.frames k) (sym end) stack)),
+        (o, failing, is, low, holds, inl (fails, subst (λ (x : Operand). ConditionStack source g failing o x c.active.next c.frames k) same (subst (λ (p : ℕ). ConditionStack source g failing o r p c.frames k) (sym end) stack))),
       )
 
   null_goes_on : (u : PointerOperator) (b : Expression) (v : Kinded) (o r : Operand) (failing : Comparison) (q : ℕ) (k : List Entry) (e : Environment) (w : World) (c : Configuration) → IsWell (step source (Running (Given v) (Needs (Chain (ThenPointer u b NoOperations)) ∷ k) e w))
@@ -460,6 +460,51 @@ module _ (source : Program) (pages calls : ℕ) where
       (shared, facts, null_beside (Some n) u v o r failing q k e w c fails same end shared.tables is low holds stack)
       (omega arith)
   peek_goes_on n u b v o r failing q k e w c well stands low fails same end stack = absurd (none-some failing fails)
+
+  -- the right one of two pointers: the left one stays where it was if that is simple
+  pointer_beside : (simple : Bool) (peek : Option ℕ) (u : PointerOperator) (b : Expression) (v : Kinded) (l r : Operand) (failing : Comparison) (m : ℕ) (k : List Entry) (e : Environment) (w : World) (c : Configuration)
+      → pointers_failing u ≡ Some failing → takes_kind u v.kind ≡ true → is_simple (starts_on source c.active.function k) b ≡ simple → IsLow l (top source c.active.function k)
+      → (t : Tables) → IsIn t v c.active.slots l → Holds t c.active.slots (floor source c.active.function k) (held k)
+      → OperandBy (code_of source c.active.function) (bounds_at source c.active.function) (types_on source c.active.function k) (operand_of (starts_on source c.active.function k) b)
+      (LeftBy (code_of source c.active.function) (bounds_at source c.active.function) (types_on source c.active.function k) simple (l ≡ operands.Slot (top source c.active.function k))
+      × ExpressionAt (code_of source c.active.function) (bounds_at source c.active.function) (types_on source c.active.function k) b (value_slot (starts_on source c.active.function k) b (suc (top source c.active.function k))) (suc (top source c.active.function k)) c.active.next m)
+      (value_slot (starts_on source c.active.function k) b (suc (top source c.active.function k))) r c.active.next m
+      → ConditionStack source c.active.function failing l r m c.frames k
+      → EvaluatingAt source t b e.locals c.active.function c.active.next c.active.slots c.frames (Needs (ApplyPointer peek u v) ∷ Needs (Chain NoOperations) ∷ k)
+  pointer_beside simple peek u b v l r failing m k e w c fails takes is_it low tables is holds at stack = by simple is_it at
+    where
+      g : ℕ
+      g = c.active.function
+
+      t : ℕ
+      t = top source g k
+
+      starts : Starts
+      starts = starts_on source g k
+
+      next : suc t ≡ top source g (Needs (ApplyPointer peek u v) ∷ Needs (Chain NoOperations) ∷ k)
+      next = omega (arith, one_word u failing v.kind fails takes)
+
+      Right : (n : ℕ) → Type 0
+      Right n = OperandBy (code_of source g) (bounds_at source g) (types_on source g k) (operand_of starts b) (ExpressionAt (code_of source g) (bounds_at source g) (types_on source g k) b (value_slot starts b n) n c.active.next m) (value_slot starts b n) r c.active.next m
+
+      by : (simple : Bool) → is_simple starts b ≡ simple
+          → OperandBy (code_of source g) (bounds_at source g) (types_on source g k) (operand_of starts b)
+          (LeftBy (code_of source g) (bounds_at source g) (types_on source g k) simple (l ≡ operands.Slot t) × ExpressionAt (code_of source g) (bounds_at source g) (types_on source g k) b (value_slot starts b (suc t)) (suc t) c.active.next m) (value_slot starts b (suc t)) r c.active.next m
+          → EvaluatingAt source tables b e.locals g c.active.next c.active.slots c.frames (Needs (ApplyPointer peek u v) ∷ Needs (Chain NoOperations) ∷ k)
+      by true is_simple_right at =
+          as_right (
+            r,
+            m,
+            is_simple_right,
+            subst Right next (only_computed source pages calls (code_of source g) (bounds_at source g) (types_on source g k) (operand_of starts b) _ _ _ r c.active.next m at),
+            (l, failing, is, low, holds, inr (fails, stack)),
+          )
+      by false other at =
+          let there = left_there (code_of source g) (bounds_at source g) (types_on source g k) (operand_of starts b) _ _ _ r c.active.next m (unknown starts b other) at in
+          as_operand r m (subst Right next (only_computed source pages calls (code_of source g) (bounds_at source g) (types_on source g k) (operand_of starts b) _ _ _ r c.active.next m at))
+          (subst (IsIn tables v c.active.slots) there is, holds)
+          (to_jump (failing, fails, subst (λ x. ConditionStack source g failing x r m c.frames k) there stack))
 
   pub chains : (os : Operations) (v : Kinded) (o : Operand) (k : List Entry) (e : Environment) (w : World) (c : Configuration)
       → IsWell (step source (Running (Given v) (Needs (Chain os) ∷ k) e w)) → Stands source pages calls v o k e w c
@@ -496,8 +541,18 @@ module _ (source : Program) (pages calls : ℕ) where
             (subst (IsIn shared.tables v c.active.slots) there is) holds at_b here (chain_lands os (operator_kind u) g e.locals d s q c.frames k ops lands),
       )
       (omega arith)
-  chains (ThenPointer u b NoOperations) v o k e w c well stands (low, to_jump (inl (failing, r, q, (fails, same, end), stack))) = null_goes_on u b v o r failing q k e w c well stands low fails same end stack
-  chains (ThenPointerPeek n u b NoOperations) v o k e w c well stands (low, to_jump (inl (failing, r, q, (fails, same, end), stack))) = peek_goes_on n u b v o r failing q k e w c well stands low fails same end stack
+  chains (ThenPointer u b NoOperations) v o k e w c well stands (low, to_jump (inl (failing, r, q, inl (fails, same, end), stack))) = null_goes_on u b v o r failing q k e w c well stands low fails same end stack
+  chains (ThenPointer u b NoOperations) v o k e w c well (shared, facts, is, holds) (low, to_jump (inl (failing, r, q, inr (fails, at_b), stack))) =
+      silently source pages calls (Running (Given v) (Needs (Chain (ThenPointer u b NoOperations)) ∷ k) e w) (Running (Evaluating b) (Needs (ApplyPointer None u v) ∷ Needs (Chain NoOperations) ∷ k) e w) (plain.Running c)
+      (awaited (takes_kind u v.kind) (ApplyPointer None u v) b NoOperations k e w well)
+      (shared, facts, pointer_beside (is_simple (starts_on source c.active.function k) b) None u b v o r failing q k e w c fails (awaited_fits (takes_kind u v.kind) (ApplyPointer None u v) b NoOperations k e w well) refl low shared.tables is holds at_b stack)
+      (omega arith)
+  chains (ThenPointerPeek n u b NoOperations) v o k e w c well stands (low, to_jump (inl (failing, r, q, inl (fails, same, end), stack))) = peek_goes_on n u b v o r failing q k e w c well stands low fails same end stack
+  chains (ThenPointerPeek n u b NoOperations) v o k e w c well (shared, facts, is, holds) (low, to_jump (inl (failing, r, q, inr (fails, at_b), stack))) =
+      silently source pages calls (Running (Given v) (Needs (Chain (ThenPointerPeek n u b NoOperations)) ∷ k) e w) (Running (Evaluating b) (Needs (ApplyPointer (Some n) u v) ∷ Needs (Chain NoOperations) ∷ k) e w) (plain.Running c)
+      (awaited (takes_kind u v.kind) (ApplyPointer (Some n) u v) b NoOperations k e w well)
+      (shared, facts, pointer_beside (is_simple (starts_on source c.active.function k) b) (Some n) u b v o r failing q k e w c fails (awaited_fits (takes_kind u v.kind) (ApplyPointer (Some n) u v) b NoOperations k e w well) refl low shared.tables is holds at_b stack)
+      (omega arith)
   chains (ThenTest u b os) v o k e w c well (shared, facts, is, holds) (low, to_jump (inr stack)) =
       tested_given source pages calls v o (Needs (Chain (ThenTest u b os)) ∷ k) e w c (λ none. well (ap (λ z. status_in (status_of (tested z u b os k e w))) none)) shared facts is holds stack
   chains os v o k e w c well stands (low, to_jump (inl (failing, r, q, at, stack))) = absurd at

@@ -43,7 +43,7 @@ use Rattle.cyc_objects.proofs.Pointers.{pointer-word}
 use Rattle.cyc_objects.proofs.Values.{Grows-row, Is-grows}
 use Rattle.cyc_lower.proofs.relation.contents.Sharing.{shared_declared, row_declared}
 use Rattle.cyc_lower.proofs.relation.contents.HeldValues.{IsIn, with_kind, Holds, kept, callers, row_of, IsLow}
-use Rattle.cyc_lower.proofs.relation.simulation.Relation.{types_on, starts_on, types_at, starts_at, DataIn, SharedAt, ValueStack, DroppedStack, AheadStack, HandsOnStack, ReadyAt, as_right, in_operand, nowhere}
+use Rattle.cyc_lower.proofs.relation.simulation.Relation.{types_on, starts_on, types_at, starts_at, DataIn, SharedAt, to_slot, to_jump, ValueStack, DroppedStack, AheadStack, HandsOnStack, ReadyAt, as_right, in_operand, nowhere}
 use Rattle.cyc_lower.proofs.relation.simulation.Relation.{ahead, decided, with_left, behind_statement, Matches, code_of, bounds_at, top, floor, PlaceStack, call_slots, BesideAt, PartsAt, in_parts, StatementStack}
 use Rattle.cyc_lower.proofs.object_steps.Handles.{kept_holds}
 use Rattle.cyc_lower.proofs.relation.contents.Data.{in_words, data_declared, null_is, points_in}
@@ -53,7 +53,7 @@ use Rattle.cyc_lower.proofs.relation.simulation.Accesses.{IsWell, is_fitting, is
 use Rattle.cyc_lower.proofs.place_steps.PlaceWords.{stays, member_there}
 use Rattle.cyc_lower.proofs.relation.simulation.Matched.{silently, by_one}
 use Rattle.cyc_lower.proofs.handler_steps.Handling.{leaving, shared_leaving, record_left, raised}
-use Rattle.cyc_lower.proofs.pointer_steps.PointerSteps.{applies_pointers, tests_null}
+use Rattle.cyc_lower.proofs.pointer_steps.PointerSteps.{applies_pointers, tests_null, tests_pointers}
 use Rattle.cyc_lower.proofs.object_steps.UniqueBlocks.{frees_value}
 use Rattle.cyc_lower.proofs.region_steps.Keys.{closes_by_key}
 use Rattle.cyc_lower.proofs.pointer_steps.FatSteps.{counts}
@@ -300,8 +300,10 @@ module _ (source : Program) (pages calls : ℕ) where
   stands_given v o (Needs (Chain os) ∷ k) e w c of_words words names well stands stack = chains source pages calls os v o k e w c well stands stack
   stands_given v o (Needs (Apply u left) ∷ k) e w c of_words words names well (shared, facts, is, (is_left, holds)) applied =
       applies source pages calls u left v k e w c well shared facts (o, is, (operands.Slot (top source c.active.function k), is_left, omega arith, inl (holds, applied)))
-  stands_given v o (Needs (ApplyPointer peek u left) ∷ k) e w c of_words words names well (shared, facts, is, (is_left, holds)) (d, q, here, lands) =
+  stands_given v o (Needs (ApplyPointer peek u left) ∷ k) e w c of_words words names well (shared, facts, is, (is_left, holds)) (to_slot (d, q, here, lands)) =
       applies_pointers source pages calls u peek left v o d q k e w c names well shared facts is is_left holds here lands
+  stands_given v o (Needs (ApplyPointer peek u left) ∷ k) e w c of_words words names well (shared, facts, is, (is_left, holds)) (to_jump (failing, fails, stack)) =
+      tests_pointers source pages calls peek u left v failing (operands.Slot (top source c.active.function k)) o k e w c names fails well shared facts is_left is holds stack
   stands_given v o (Needs CountElements ∷ k) e w c of_words words names well (shared, facts, is, holds) (d, q, here, lands) = counts source pages calls v o d q k e w c words well shared facts is holds here lands
   stands_given v o (Needs Decide ∷ k) e w c of_words words names well stands stack = decides_truth source pages calls v o k e w c well stands stack
   stands_given v o (Needs (Store place) ∷ k) e w c of_words words names well stands stack = stores_at source pages calls place v o k e w c well stands stack
@@ -430,13 +432,15 @@ module _ (source : Program) (pages calls : ℕ) where
       next_same NoOperations t = refl
       next_same os t = refl
 
-  left_given : (v : Kinded) (k : List Entry) (e : Environment) (w : World) (c : Configuration) → IsWell (step source (Running (Given v) k e w)) → (shared : SharedAt source pages calls k e w c) → DataIn source shared.tables c.active.slots k e w c
+  left_given : (v : Kinded) (k : List Entry) (e : Environment) (w : World) (c : Configuration) → AreNamed source e.locals (callers k) w c.active.function c.active.base c.frames c.store → IsWell (step source (Running (Given v) k e w)) → (shared : SharedAt source pages calls k e w c) → DataIn source shared.tables c.active.slots k e w c
       → ReadyAt source shared.tables v e.locals c.active.function c.active.next c.active.slots c.frames k → GoesBehind source pages calls v k e w c
-  left_given v (Needs (Apply u left) ∷ k) e w c well shared facts ready = applies source pages calls u left v k e w c well shared facts ready
-  left_given v (Needs (ApplyPointer peek u left) ∷ k) e w c well shared facts (o, is, (l, failing, is_left, low, holds, fails, stack)) =
+  left_given v (Needs (Apply u left) ∷ k) e w c names well shared facts ready = applies source pages calls u left v k e w c well shared facts ready
+  left_given v (Needs (ApplyPointer peek u left) ∷ k) e w c names well shared facts (o, is, (l, failing, is_left, low, holds, inl (fails, stack))) =
       tests_null source pages calls peek u left v failing l k e w c fails well shared facts is_left holds stack
-  left_given v (Needs (Advance peek target base) ∷ k) e w c well shared facts ready = advances_pointer source pages calls peek target base v.kind v.value k e w c well shared facts ready
-  left_given v (Needs (Chain NoOperations) ∷ k) e w c well shared facts (o, is, (q, low, simple, (there, end), beside)) =
+  left_given v (Needs (ApplyPointer peek u left) ∷ k) e w c names well shared facts (o, is, (l, failing, is_left, low, holds, inr (fails, stack))) =
+      tests_pointers source pages calls peek u left v failing l o k e w c names fails well shared facts is_left is holds stack
+  left_given v (Needs (Advance peek target base) ∷ k) e w c names well shared facts ready = advances_pointer source pages calls peek target base v.kind v.value k e w c well shared facts ready
+  left_given v (Needs (Chain NoOperations) ∷ k) e w c names well shared facts (o, is, (q, low, simple, (there, end), beside)) =
       let g = c.active.function in
       silently source pages calls (Running (Given v) (Needs (Chain NoOperations) ∷ k) e w) (Running (Given v) k e w) (plain.Running c) refl (
         shared,
@@ -447,9 +451,9 @@ module _ (source : Program) (pages calls : ℕ) where
         ),
       )
       (omega arith)
-  left_given v (Needs (Chain (ThenCompute u b os)) ∷ k) e w c well shared facts (o, is, (q, low, simple, at, beside)) = simple_goes_on u b os v o q k e w c well shared facts is low simple at beside
-  left_given v (Needs (Chain os) ∷ k) e w c well shared facts (o, is, (q, low, simple, at, beside)) = absurd (let f : false ≡ true = simple in cc)
-  left_given v (Needs (Operate unary.Widen) ∷ k) e w c well shared facts (o, is, beside) = by v.kind v.value well is
+  left_given v (Needs (Chain (ThenCompute u b os)) ∷ k) e w c names well shared facts (o, is, (q, low, simple, at, beside)) = simple_goes_on u b os v o q k e w c well shared facts is low simple at beside
+  left_given v (Needs (Chain os) ∷ k) e w c names well shared facts (o, is, (q, low, simple, at, beside)) = absurd (let f : false ≡ true = simple in cc)
+  left_given v (Needs (Operate unary.Widen) ∷ k) e w c names well shared facts (o, is, beside) = by v.kind v.value well is
     where
       by : (i : Kind) (u : Value) → IsWell (step source (Running (Given (of_kind i u)) (Needs (Operate unary.Widen) ∷ k) e w)) → IsIn shared.tables (of_kind i u) c.active.slots o → GoesBehind source pages calls (of_kind i u) (Needs (Operate unary.Widen) ∷ k) e w c
       by i (Int a) well is =
@@ -457,10 +461,10 @@ module _ (source : Program) (pages calls : ℕ) where
           (shared, with_left facts (o, int_in shared.tables i a c.active.slots o is, beside))
           (omega arith)
       by i u well is = absurd (well refl)
-  left_given v (Needs (Operate u) ∷ k) e w c well shared facts (o, is, (at, beside)) =
+  left_given v (Needs (Operate u) ∷ k) e w c names well shared facts (o, is, (at, beside)) =
       operates_value source pages calls u v.kind v.value o (top source c.active.function k) k e w c well shared is at
       (λ value x x_is. stays_beside source pages calls (of_kind (unary_kind u) value) x k e w c (c.active.next + 1) (c.active.next + 1) shared facts refl x_is beside)
-  left_given v k e w c well shared facts (o, is, beside) = absurd beside
+  left_given v k e w c names well shared facts (o, is, beside) = absurd beside
 
   -- a fat pointer that has moved
   parts_given : (v : Kinded) (k : List Entry) (e : Environment) (w : World) (c : Configuration) → IsWell (step source (Running (Given v) k e w)) → (shared : SharedAt source pages calls k e w c) → DataIn source shared.tables c.active.slots k e w c
@@ -475,5 +479,5 @@ module _ (source : Program) (pages calls : ℕ) where
   given v k e w c of_words words names well (shared, nowhere facts stack) = dropped_given v k e w c shared facts stack
   given v k e w c of_words words names well (shared, ahead n (old, same, facts) is holds stack) = ahead_given v n old k e w c well shared same facts is holds stack
   given v k e w c of_words words names well (shared, decided fails p facts zero holds leads stack) = decided_given source pages calls v fails p k e w c shared facts zero holds leads stack
-  given v k e w c of_words words names well (shared, with_left facts ready) = left_given v k e w c well shared facts ready
+  given v k e w c of_words words names well (shared, with_left facts ready) = left_given v k e w c names well shared facts ready
   given v k e w c of_words words names well (shared, in_parts facts parts) = parts_given v k e w c well shared facts parts

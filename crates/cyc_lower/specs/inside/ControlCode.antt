@@ -59,9 +59,17 @@ abbrev pub null_compared : PointerOperator → (right : Expression) → Option C
 null_compared o NullPointer = null_failing o
 null_compared o b = None
 
-abbrev pub nulled_or : Option Comparison → (left whole : Expression) → Compared
-nulled_or (Some failing) left whole = record { failing = failing; left = left; right = Number 0 }
-nulled_or None left whole = with_zero whole
+-- The comparison of two pointers' first words that holds where that of the pointers fails, of which both are thin, or the left one is null.
+abbrev pub pointers_failing : PointerOperator → Option Comparison
+pointers_failing pointers.EqualThin = Some comparisons.NotEqual
+pointers_failing pointers.NotEqualThin = Some comparisons.Equal
+pointers_failing pointers.NullIs = Some comparisons.NotEqual
+pointers_failing pointers.NullIsNot = Some comparisons.Equal
+pointers_failing o = None
+
+abbrev pub nulled_or : (null beside : Option Comparison) → (left right whole : Expression) → Compared
+nulled_or (Some failing) beside left right whole = record { failing = failing; left = left; right = Number 0 }
+nulled_or None beside left right whole = compared_or beside left right whole
 
 -- one that is negated compares the same, and fails where that holds
 abbrev pub negated : Compared → Compared
@@ -71,9 +79,10 @@ abbrev pub compared_of : Expression → Compared
 compared_of (Unary unary.Not a) = negated (compared_of a)
 compared_of (Binary a (ThenCompute o b NoOperations) ty) =
     compared_or (failing_comparison o) a b (Binary a (ThenCompute o b NoOperations) ty)
-compared_of (Binary a (ThenPointer o b NoOperations) ty) = nulled_or (null_compared o b) a (Binary a (ThenPointer o b NoOperations) ty)
+compared_of (Binary a (ThenPointer o b NoOperations) ty) =
+    nulled_or (null_compared o b) (pointers_failing o) a b (Binary a (ThenPointer o b NoOperations) ty)
 compared_of (Binary a (ThenPointerPeek n o b NoOperations) ty) =
-    nulled_or (null_compared o b) a (Binary a (ThenPointerPeek n o b NoOperations) ty)
+    nulled_or (null_compared o b) (pointers_failing o) a b (Binary a (ThenPointerPeek n o b NoOperations) ty)
 compared_of a = with_zero a
 
 abbrev pub negated_condition : Condition → Condition
@@ -86,10 +95,13 @@ failing_jump c target = instructions.Branch c.failing c.left c.right target
 abbrev pub holding_jump : Condition → (target : ℕ) → Instruction
 holding_jump c target = instructions.Branch (opposite c.failing) c.left c.right target
 
--- where its left operand decides what a test gives
+-- the condition that fails where its left operand decides what a test gives, and the jump there
+abbrev pub deciding_condition : LogicalOperator → Condition → Condition
+deciding_condition logical.AndThen c = c
+deciding_condition logical.OrElse c = negated_condition c
+
 abbrev pub deciding_jump : LogicalOperator → Condition → (target : ℕ) → Instruction
-deciding_jump logical.AndThen c target = failing_jump c target
-deciding_jump logical.OrElse c target = holding_jump c target
+deciding_jump u c target = failing_jump (deciding_condition u c) target
 
 -- a chain has tests by this operator alone, and one at least
 abbrev pub is_same : (u o : LogicalOperator) → Bool
@@ -105,6 +117,11 @@ all_test u os = false
 abbrev pub are_tests : LogicalOperator → Operations → Bool
 are_tests u NoOperations = false
 are_tests u os = all_test u os
+
+-- what `!` negates is tests by the other operator
+abbrev pub turned_test : LogicalOperator → LogicalOperator
+turned_test logical.AndThen = logical.OrElse
+turned_test logical.OrElse = logical.AndThen
 
 -- The jump over what stands behind `else`. Where nothing does, it is left out.
 abbrev pub is_nothing : Statement → Bool

@@ -19,10 +19,10 @@ use Rattle.cyc_plain.specs.declared.instruction.Instruction.{Instruction}
 use Rattle.cyc_plain.specs.declared.instruction.Instruction.TheVariants.{WriteByte, Throw, Jump}
 use Rattle.cyc_frame_count.specs.inside.Needs.{most_frame_count}
 use Rattle.cyc_lower.specs.inside.Slots.{Starts, slot_of}
-use Rattle.cyc_lower.specs.inside.ValueCode.{code_unless, slot_or, code_unless_slot, conversion_code, compute_code, test_code, behind_left, pointer_code, span_of}
-use Rattle.cyc_lower.specs.inside.ControlCode.{is_same, deciding_jump, failing_jump, holding_jump, inside_loop, tag_operand, clause_code, opened_code, named_code, dynamic_code, inside_region, entry_code, looped_code, body_target, null_compared}
+use Rattle.cyc_lower.specs.inside.ValueCode.{code_unless, slot_or, code_unless_slot, conversion_code, compute_code, test_code, behind_left, pointer_code, span_of, failing_comparison}
+use Rattle.cyc_lower.specs.inside.ControlCode.{is_same, deciding_condition, deciding_jump, failing_jump, holding_jump, inside_loop, tag_operand, clause_code, opened_code, named_code, dynamic_code, inside_region, entry_code, looped_code, body_target, null_compared, pointers_failing}
 use Rattle.cyc_lower.specs.inside.ExpressionCode.{operand_of, source_of, source_slot, printed_operand, printed_code, left_of, value_slot, left_slot, value_operand, expression_code, brought_code, are_simple, is_simple}
-use Rattle.cyc_lower.specs.inside.Lowering.{is_guard, condition_code, choice_code, choice_of, tests_code, last_condition, branch_code, branch_of, statement_code, declaration_code, condition_of, thrown_operand, thrown_code, caught_code, items_code, clauses_code}
+use Rattle.cyc_lower.specs.inside.Lowering.{is_guard, first_operand, condition_code, choice_code, choice_of, tests_code, last_condition, branch_code, branch_of, statement_code, declaration_code, condition_of, thrown_operand, thrown_code, caught_code, items_code, clauses_code}
 use Rattle.cyc_meaning.specs.FrameCount.{frame_count}
 use Rattle.cyc_plain.specs.declared.instruction.Comparison.{Comparison}
 use Rattle.cyc_plain.specs.declared.instruction.Comparison.TheVariants as comparisons
@@ -66,6 +66,20 @@ null_operation (operation.Pointer o e) = null_compared o (view_expression e)
 null_operation (operation.PointerPeek n o e) = null_compared o (view_expression e)
 null_operation o = None
 
+-- whether an operator compares its two operands, and by what that fails
+abbrev pub pair_operation : Operation → Option Comparison
+pair_operation (operation.Compute w o e) = failing_comparison o
+pair_operation (operation.Pointer o e) = pointers_failing o
+pair_operation (operation.PointerPeek n o e) = pointers_failing o
+pair_operation (operation.Test o e) = None
+
+-- what stands on the right of one
+abbrev pub right_of : Operation → Expression
+right_of (operation.Compute w o e) = view_expression e
+right_of (operation.Test o e) = view_expression e
+right_of (operation.Pointer o e) = view_expression e
+right_of (operation.PointerPeek n o e) = view_expression e
+
 -- jumps whose targets are not yet known come to lead to a place where their conditions fail
 abbrev pub failed : List Pending → (target : ℕ) → List Instruction → List Instruction
 failed [] target code = code
@@ -98,6 +112,10 @@ module _ (starts : Starts) where
   -- the same where another comparison holds where it fails
   abbrev pub null_condition : Comparison → Expression → (t : ℕ) → Condition
   null_condition failing a t = record { failing = failing; left = value_operand starts a t; right = Word 0 }
+
+  -- a condition that is a comparison of two
+  abbrev pub pair_condition : Comparison → (a b : Expression) → (t : ℕ) → Condition
+  pair_condition failing a b t = record { failing = failing; left = first_operand starts a b t; right = value_operand starts b (suc t) }
 
   -- `putchar` of its argument
   abbrev pub print_code : Arguments → (p t : ℕ) → List Instruction
@@ -156,25 +174,26 @@ module _ (starts : Starts) where
   other_condition (operation.Test o e) c t = condition_of starts (view_expression e) t
   other_condition o c t = c
 
-  -- The jumps of tests by `&&` behind an operand that is made, each at the place behind what it decides on.
-  abbrev pub early_jumps : List Operation → Condition → (p t : ℕ) → List Pending
-  early_jumps [] c p t = []
-  early_jumps (o ∷ os) c p t =
-      record { place = p; condition = c } ∷ early_jumps os (other_condition o c t) (p + length (other_code logical.AndThen o c 0 p t)) t
+  -- The jumps of tests by an operator behind an operand that is made, each at the place behind what it decides on.
+  abbrev pub early_jumps : LogicalOperator → List Operation → Condition → (p t : ℕ) → List Pending
+  early_jumps u [] c p t = []
+  early_jumps u (o ∷ os) c p t =
+      record { place = p; condition = deciding_condition u c }
+      ∷ early_jumps u os (other_condition o c t) (p + length (other_code u o c 0 p t)) t
 
-  -- what is made of tests by `&&` where it is not known where one leads that fails
-  abbrev pub IsEarly : Expression → List Operation → (t : ℕ) → (old new : List Instruction) → Tested → Type 0
-  IsEarly a os t old new tested =
+  -- what is made of such tests where it is not known where one leads that decides
+  abbrev pub IsEarly : LogicalOperator → Expression → List Operation → (t : ℕ) → (old new : List Instruction) → Tested → Type 0
+  IsEarly u a os t old new tested =
       (tested.last ≡ last_condition starts (operations_of os) (condition_of starts a t) t)
-      × (tested.early.items ≡ early_jumps os (condition_of starts a t) (length old + length (condition_code starts a (length old) t)) t)
-      × (new ≡ old ++ tests_code starts logical.AndThen a (operations_of os) 0 (length old) t)
+      × (tested.early.items ≡ early_jumps u os (condition_of starts a t) (length old + length (condition_code starts a (length old) t)) t)
+      × (new ≡ old ++ tests_code starts u a (operations_of os) 0 (length old) t)
 
   -- what is made of a branch's condition, and of one whose jumps all lead where they are to
-  abbrev pub IsBranch : Expression → (t : ℕ) → (old new : List Instruction) → Tested → Type 0
-  IsBranch a t old new tested = IsTested (branch_of starts a t) (λ other. branch_code starts a other (length old) t) old new tested
+  abbrev pub IsBranch : LogicalOperator → Expression → (t : ℕ) → (old new : List Instruction) → Tested → Type 0
+  IsBranch u a t old new tested = IsTested (branch_of starts u a t) (λ other. branch_code starts u a other (length old) t) old new tested
 
-  abbrev pub IsSettled : Expression → (t : ℕ) → (old new : List Instruction) → Tested → Type 0
-  IsSettled a t old new tested = IsTested (choice_of starts logical.OrElse a t) (λ other. choice_code starts logical.OrElse a (length old) t) old new tested
+  abbrev pub IsSettled : LogicalOperator → Expression → (t : ℕ) → (old new : List Instruction) → Tested → Type 0
+  IsSettled u a t old new tested = IsTested (choice_of starts u a t) (λ other. choice_code starts u a (length old) t) old new tested
 
   -- an exception is thrown
   abbrev pub throw_code : (tag : ℕ) → Option Expression → (p t : ℕ) → List Instruction

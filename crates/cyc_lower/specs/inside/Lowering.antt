@@ -31,7 +31,7 @@ use Rattle.cyc_lower.specs.declared.operands.Condition.{Condition}
 use Rattle.cyc_lower.specs.declared.statements.Exits.{Exits}
 use Rattle.cyc_lower.specs.inside.ValueCode.{slot_types, first_temporary, operand_or, code_unless, slot_or, code_unless_slot, left_with, blocks, failing_comparison, move_of, conversion_code, span_of, addressed_by, word_by_word, global_code, passed_words, kind_passed, blank_code}
 use Rattle.cyc_lower.specs.inside.ObjectCode.{stores_code, stored_by, load_at, right_slot}
-use Rattle.cyc_lower.specs.inside.ControlCode.{compared_of, failing_jump, holding_jump, deciding_jump, are_tests, if_code, break_target, continue_target, named_code, opened_code, closed_code, dynamic_code, leave_code}
+use Rattle.cyc_lower.specs.inside.ControlCode.{compared_of, negated_condition, turned_test, failing_jump, holding_jump, deciding_jump, are_tests, if_code, break_target, continue_target, named_code, opened_code, closed_code, dynamic_code, leave_code}
 use Rattle.cyc_lower.specs.inside.ControlCode.{behind_record, kept_code, tag_operand, handled_code, clause_code, goes_on, outside_loops, inside_loop, inside_try, inside_region, body_target, looped_code, is_nothing, other_place}
 use Rattle.cyc_lower.specs.inside.ExpressionCode.{operand_of, value_slot, slot_with, value_operand, source_of, converted_operand, printed_operand, place_operand, place_offset, load_code, expression_code, place_code, converted_operand_code, printed_code, initial_code, brought_code, is_simple}
 
@@ -110,30 +110,35 @@ module _ (starts : Starts) where
   tests_code u a os behind p t = condition_code a p t ++ others_code u os (condition_of a t) behind (p + length (condition_code a p t)) t
 
   -- A condition with tests by one operator: the last operand alone is left to the jump behind it. Where one before it decides, all go on
-  -- behind that jump. How long the code is does not depend on where that is: so it is made twice, and at first for any place.
+  -- behind that jump. How long the code is does not depend on where that is: so it is made twice, and at first for any place. Of what is
+  -- negated the tests are by the other operator, since where one of them decides, the whole does.
   abbrev pub behind_tests : LogicalOperator → Expression → Operations → (p t : ℕ) → ℕ
   behind_tests u a os p t = p + length (tests_code u a os 0 p t) + 1
 
   abbrev pub choice_code : LogicalOperator → Expression → (p t : ℕ) → List Instruction
+  choice_code u (Unary unary.Not a) p t = choice_code (turned_test u) a p t
   choice_code u (Binary a os ty) p t =
       if are_tests u os then tests_code u a os (behind_tests u a os p t) p t else condition_code (Binary a os ty) p t
   choice_code u a p t = condition_code a p t
 
   abbrev pub choice_of : LogicalOperator → Expression → (t : ℕ) → Condition
+  choice_of u (Unary unary.Not a) t = negated_condition (choice_of (turned_test u) a t)
   choice_of u (Binary a os ty) t = if are_tests u os then last_condition os (condition_of a t) t else condition_of (Binary a os ty) t
   choice_of u a t = condition_of a t
 
-  -- The condition of a branch. Of tests by `&&` each that fails leads to place `other`, where the other statement stands, and the last one
-  -- does so by the jump behind the code.
-  abbrev pub branch_code : Expression → (other p t : ℕ) → List Instruction
-  branch_code (Binary a os ty) other p t =
-      if are_tests logical.AndThen os then tests_code logical.AndThen a os other p t else choice_code logical.OrElse (Binary a os ty) p t
-  branch_code a other p t = choice_code logical.OrElse a p t
+  -- The condition of a branch. Of tests by this operator each that decides leads to place `other`, where the other statement stands, and
+  -- the last one does so by the jump behind the code: so does each by `&&` that fails, or by `||` that holds if all is negated.
+  abbrev pub branch_code : LogicalOperator → Expression → (other p t : ℕ) → List Instruction
+  branch_code u (Unary unary.Not a) other p t = branch_code (turned_test u) a other p t
+  branch_code u (Binary a os ty) other p t =
+      if are_tests u os then tests_code u a os other p t else choice_code (turned_test u) (Binary a os ty) p t
+  branch_code u a other p t = choice_code (turned_test u) a p t
 
-  abbrev pub branch_of : Expression → (t : ℕ) → Condition
-  branch_of (Binary a os ty) t =
-      if are_tests logical.AndThen os then last_condition os (condition_of a t) t else choice_of logical.OrElse (Binary a os ty) t
-  branch_of a t = choice_of logical.OrElse a t
+  abbrev pub branch_of : LogicalOperator → Expression → (t : ℕ) → Condition
+  branch_of u (Unary unary.Not a) t = negated_condition (branch_of (turned_test u) a t)
+  branch_of u (Binary a os ty) t =
+      if are_tests u os then last_condition os (condition_of a t) t else choice_of (turned_test u) (Binary a os ty) t
+  branch_of u a t = choice_of (turned_test u) a t
 
   -- An expression with little code: it is simple, or loads by a pointer that has none, at an index that is simple.
   abbrev pub is_light_place : Dereference → Bool
@@ -222,9 +227,9 @@ module _ (starts : Starts) where
     statement_code (Evaluate a) p exits t = discarded_code a p t
     statement_code (Swap a b) p exits t = swap_code a b p t
     statement_code (If a s u) p exits t =
-        if_code (is_nothing u) (λ other. branch_code a other p t) (failing_jump (branch_of a t))
-        (statement_code s (p + length (branch_code a 0 p t) + 1) exits t)
-        (statement_code u (other_place (is_nothing u) (branch_code a 0 p t) (statement_code s (p + length (branch_code a 0 p t) + 1) exits t) p) exits t)
+        if_code (is_nothing u) (λ other. branch_code logical.AndThen a other p t) (failing_jump (branch_of logical.AndThen a t))
+        (statement_code s (p + length (branch_code logical.AndThen a 0 p t) + 1) exits t)
+        (statement_code u (other_place (is_nothing u) (branch_code logical.AndThen a 0 p t) (statement_code s (p + length (branch_code logical.AndThen a 0 p t) + 1) exits t) p) exits t)
         p
     statement_code (While w a s) p exits t =
         looped_code (is_guard a) (λ q. choice_code logical.AndThen a q t) (λ leaving. statement_code s (body_target leaving) (inside_loop p leaving exits) t) (holding_jump (choice_of logical.AndThen a t)) p

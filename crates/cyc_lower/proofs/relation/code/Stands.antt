@@ -38,7 +38,7 @@ use Rattle.cyc_lower.specs.inside.Slots.{counted, Types, starts_of, slot_of, fie
 use Rattle.cyc_lower.specs.inside.ValueCode.{binary_operator, failing_comparison, left_with, next_slot, is_in, move_of, test_jump, converts_there, passed_words, all_passed, kinds_passed, low_byte, behind_left, pointer_operator, raising}
 use Rattle.cyc_lower.specs.inside.ValueCode.{jump_if_zero, span_of, span_in, followed_operand, scale_of, reached_operand, load_word, store_word, address_of_global, unary_instruction, keeps_words, masks, kind_passed, load_of, store_of}
 use Rattle.cyc_lower.specs.inside.ObjectCode.{most_elements, slots_of_kinds, right_slot, load_at}
-use Rattle.cyc_lower.specs.inside.ControlCode.{opposite, compared_of, break_target, continue_target, body_target, inside_loop, inside_try, behind_record_in, tag_operand, other_jump, goes_on, inside_region, null_compared}
+use Rattle.cyc_lower.specs.inside.ControlCode.{opposite, compared_of, break_target, continue_target, body_target, inside_loop, inside_try, behind_record_in, tag_operand, other_jump, goes_on, inside_region, null_compared, pointers_failing}
 use Rattle.cyc_lower.specs.inside.ExpressionCode.{operand_of, source_of, source_slot, left_of, value_slot, slot_with, left_slot, pointer_of, is_simple}
 use Rattle.cyc_lower.specs.inside.Lowering.{results_of}
 use Rattle.cyc_lower.proofs.slots.Widths.{kind_of_result, given, HasRoom, HasField, HasGlobal, words_in, HasLocal}
@@ -514,11 +514,16 @@ module _ (code : List Instruction) (bounds : Numbering) (types : Types) where
       BranchesAt a exits.leaving (body_target exits.leaving) t (continue_target exits)
       ⊎ (At code (continue_target exits) (instructions.Jump test) × (continue_target exits < test))
 
+  -- the only operator on pointers of a condition: the left one is compared with null, or with the right one
+  abbrev pub PointersAt : PointerOperator → Expression → Comparison → (l r : Operand) → (t p q : ℕ) → Type 0
+  PointersAt o b failing l r t p q =
+      ((null_compared o b ≡ Some failing) × (r ≡ operands.Word 0) × (p ≡ q)) ⊎ ((pointers_failing o ≡ Some failing) × SecondAt b l r t p q)
+
   -- the only operator of a condition, which compares, with its right operand
   abbrev pub ComparesAt : Operations → Comparison → (l r : Operand) → (t p q : ℕ) → Type 0
   ComparesAt (ThenCompute o b NoOperations) failing l r t p q = (failing_comparison o ≡ Some failing) × SecondAt b l r t p q
-  ComparesAt (ThenPointer o b NoOperations) failing l r t p q = (null_compared o b ≡ Some failing) × (r ≡ operands.Word 0) × (p ≡ q)
-  ComparesAt (ThenPointerPeek n o b NoOperations) failing l r t p q = (null_compared o b ≡ Some failing) × (r ≡ operands.Word 0) × (p ≡ q)
+  ComparesAt (ThenPointer o b NoOperations) failing l r t p q = PointersAt o b failing l r t p q
+  ComparesAt (ThenPointerPeek n o b NoOperations) failing l r t p q = PointersAt o b failing l r t p q
   ComparesAt os failing l r t p q = ⊥
 
   -- what is assigned comes to its place, and then stands in an operand too

@@ -50,7 +50,7 @@ use Rattle.cyc_meaning.specs.Pointers.{takes_kind, result_kind as operator_kind}
 use Rattle.cyc_lower.specs.inside.Slots.{Types, Starts, starts_of, slot_of, global_of, global_types}
 use Rattle.cyc_lower.specs.inside.ValueCode.{failing_comparison, move_of, low_byte, masks, converts_there, all_passed, kinds_passed, slot_types, followed_operand, reached_operand, unary_instruction}
 use Rattle.cyc_lower.specs.inside.ObjectCode.{right_slot}
-use Rattle.cyc_lower.specs.inside.ControlCode.{break_target, continue_target, body_target, outside_loops, tag_operand, nothing_opened, with_handler, with_mark, inside_try, inside_region, null_failing}
+use Rattle.cyc_lower.specs.inside.ControlCode.{break_target, continue_target, body_target, outside_loops, tag_operand, nothing_opened, with_handler, with_mark, inside_try, inside_region, null_failing, pointers_failing}
 use Rattle.cyc_lower.specs.inside.ExpressionCode.{are_simple, is_simple}
 use Rattle.cyc_lower.specs.inside.Lowering.{results_of, lower_program, raises_of, globals_of, scopes_of}
 use Rattle.cyc_lower.proofs.slots.Widths.{kind_of_result, given, called_kind, HasRoom, Outside, chain_kind, HasGlobal, made_kind, HasLocal, kind_in}
@@ -350,9 +350,11 @@ module _ (source : Program) where
         ((failing : Comparison) × (failing_comparison operator ≡ Some failing)
         × Forks (code_of g) (bounds_at g) (types_on g k) failing (operands.Slot (top g k)) o p (λ fails q. DecidedStack g fails q frames k))
     ValueStack g locals kind o p frames (Needs (ApplyPointer peek operator left) ∷ k) =
-        (d : ℕ) × (q : ℕ) × ((takes_kind operator left.kind ≡ true) × PointerAt (code_of g) (bounds_at g) (types_on g k) operator o (top g k) d p q)
+        Yields ((d : ℕ) × (q : ℕ) × ((takes_kind operator left.kind ≡ true) × PointerAt (code_of g) (bounds_at g) (types_on g k) operator o (top g k) d p q)
         × Lands (base_of g) (top g k) d (words_of_kind (operator_kind operator)) (ValueStack g locals (operator_kind operator) (operands.Slot d) q frames k)
-        (AheadStack g locals (operator_kind operator) d q frames k)
+        (AheadStack g locals (operator_kind operator) d q frames k))
+        ((failing : Comparison) × (pointers_failing operator ≡ Some failing)
+        × Forks (code_of g) (bounds_at g) (types_on g k) failing (operands.Slot (top g k)) o p (λ fails q. DecidedStack g fails q frames k))
     ValueStack g locals kind o p frames (Needs CountElements ∷ k) =
         (d : ℕ) × (q : ℕ) × CountAt (code_of g) (bounds_at g) (types_on g k) o d p q
         × Lands (base_of g) (top g k) d 1 (ValueStack g locals kinds.Int (operands.Slot d) q frames k) (AheadStack g locals kinds.Int d q frames k)
@@ -568,10 +570,11 @@ module _ (source : Program) where
       (l : Operand) × IsIn t left slots l × IsLow l (top g k)
       × ((Holds t slots (floor g k) (held k) × AppliedStack g locals operator l o p frames k)
       ⊎ ((q : ℕ) × OperatorAt (code_of g) (bounds_at g) (types_on g k) operator (top g k) l o p q × BesideAt t locals g (operands.Slot (top g k)) q slots frames k))
-  -- a pointer that is compared with null, by the next jump
+  -- a pointer that is compared by the next jump, with null or with the right one
   BesideAt t locals g o p slots frames (Needs (ApplyPointer peek operator left) ∷ k) =
       (l : Operand) × (failing : Comparison) × IsIn t left slots l × IsLow l (top g k) × Holds t slots (floor g k) (held k)
-      × (null_failing operator ≡ Some failing) × ConditionStack g failing l (operands.Word 0) p frames k
+      × (((null_failing operator ≡ Some failing) × ConditionStack g failing l (operands.Word 0) p frames k)
+      ⊎ ((pointers_failing operator ≡ Some failing) × ConditionStack g failing l o p frames k))
   BesideAt t locals g o p slots frames (Needs (Advance peek target base) ∷ k) =
       (n : ℕ) × (q : ℕ) × Is t base.kind base.value slots n × (n ≤ top g k) × Holds t slots (floor g k) (held k)
       × AdvancesAt g locals base.kind (option_map bytes_of_kind target) n o p q frames k

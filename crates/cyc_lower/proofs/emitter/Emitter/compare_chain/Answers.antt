@@ -1,10 +1,11 @@
-use Rattle.std.proofs.Common.{◌≡◌, ap, sym, ◌∙◌, arith}
+use Rattle.std.proofs.Common.{rules, ◌≡◌, None, length, ap, sym, subst, ◌∙◌, arith}
 use Rattle.std.proofs.lemmas.Result.{IfOk-weaker}
 use Rattle.cyc_types.specs.TypedTrees.{Expression}
 use Rattle.cyc_types.specs.TypedTreeView.{view_expression}
 use Rattle.cyc_lower.specs.inside.ControlCode.{with_zero, compared_of}
-use Rattle.cyc_lower.specs.inside.Emission.{view_starts}
-use Rattle.cyc_lower.proofs.emission.Conditions.{not_single, made_alone, made_compared, made_null}
+use Rattle.cyc_lower.specs.inside.Lowering.{pair_code}
+use Rattle.cyc_lower.specs.inside.Emission.{Gives, pair_condition, view_starts}
+use Rattle.cyc_lower.proofs.emission.Conditions.{not_single, made_alone, made_null, made_pair}
 use Rattle.cyc_lower.proofs.emitter.Emitter.compare_chain.Goals as goal
 
 pub returns-then-rest-ne1 : goal.returns-then-rest-ne1
@@ -25,10 +26,12 @@ returns-in-Some-null_operation c =
     chain (omega (arith, c.if-rest-ne1.false)) c.in-Some.ensures.value (sym c.null_operation.ensures ∙ c.in-Some-null_operation.is) made)
     c.compare_with_null.ensures
 
-pub returns-in-Some-failing_comparison : goal.returns-in-Some-failing_comparison
-returns-in-Some-failing_comparison c =
+pub returns-in-Some-pair_operation : goal.returns-in-Some-pair_operation
+returns-in-Some-pair_operation c =
     let (ty, chain) = c.requires.chain in
-    made_compared (view_starts c.args.starts.now) (view_expression c.args.value.now) (view_expression c.args.first.now) c.args.rest.now c.in-Some-Compute.field-0.now c.in-Some-Compute.operator c.in-Some-Compute.operand ty c.in-Some-failing_comparison.failing c.in_ok-left.left c.in_ok-right.right
-    c.args.self.now.code.items c.lower_left.new.self.code.items c.lower_operand.new.self.code.items c.args.free c.in_ok-behind.behind
-    chain (omega (arith, c.if-rest-ne1.false)) c.in-Some-Compute.ensures.value c.in-Some-Compute.field-0-is (sym c.failing_comparison.ensures ∙ c.in-Some-failing_comparison.is) c.in_ok-behind.ensures.0
-    c.in_ok-left.ensures.0 c.in_ok-left.ensures.1 c.in_ok-right.ensures.0 c.in_ok-right.ensures.1
+    let none : c.null_operation.result ≡ None = search rules in
+    IfOk-weaker c.compare_pair.result _ _
+    (λ answer made. made_pair (view_starts c.args.starts.now) (view_expression c.args.value.now) (view_expression c.args.first.now) c.args.rest.now c.in-Some.operation.now ty c.in-Some-pair_operation.failing answer c.args.self.now.code.items c.compare_pair.new.self.code.items c.args.free
+    chain (omega (arith, c.if-rest-ne1.false)) c.in-Some.ensures.value (sym c.null_operation.ensures ∙ none) (sym c.pair_operation.ensures ∙ c.in-Some-pair_operation.is) made)
+    (subst (λ (b : Expression). Gives (pair_condition (view_starts c.args.starts.now) c.in-Some-pair_operation.failing (view_expression c.args.first.now) b c.args.free) c.compare_pair.result c.args.self.now c.compare_pair.new.self
+    (pair_code (view_starts c.args.starts.now) (view_expression c.args.first.now) b (length c.args.self.now.code.items) c.args.free)) c.right_of.ensures c.compare_pair.ensures)
