@@ -376,7 +376,7 @@ impl Emitter {
         }
     }
 
-    /// How many elements a fat pointer has from its index on: none where it is null, or its index is past its length.
+    /// How many elements a fat pointer has from its index on: none where its index is past its length, which is 0 where it is null.
     pub(crate) fn count_elements(&mut self, pointer: Operand, slot: usize) -> Result<(), AllocError>
         ensures { Appends result self.old self.new (count_code pointer (length self.old.code.items) slot) }
     {
@@ -384,8 +384,7 @@ impl Emitter {
             let behind = slot_behind(number, Kind::Fat)?;
             let length = Operand::Slot { number: behind - 2 };
             let index = Operand::Slot { number: behind - 1 };
-            let none = self.place() + 4;
-            self.emit(jump_if_zero(pointer, none))?;
+            let none = self.place() + 3;
             self.emit(Instruction::Branch {
                 comparison: Comparison::LessUnsigned,
                 left: length,

@@ -19,7 +19,7 @@ use Rattle.cyc_types.specs.declared.typed.Operation.{Operation}
 use Rattle.cyc_types.specs.declared.typed.Operation.TheVariants as operation
 use Rattle.cyc_types.specs.Numbered.{argument_count}
 use Rattle.cyc_types.specs.TypeView.{view_ty, view_value_type}
-use Rattle.cyc_types.specs.TypedTrees.{Load, Expression, Call, Binary, Move}
+use Rattle.cyc_types.specs.TypedTrees.{Expression, Call, Binary}
 use Rattle.cyc_types.specs.TypedTreeView.{view_expression, arguments_of, operations_of}
 use Rattle.cyc_types.specs.declared.typed.Kind.{Kind}
 use Rattle.cyc_meaning.specs.Values.{words_of_kind}
@@ -32,7 +32,7 @@ use Rattle.cyc_plain.specs.declared.instruction.Instruction.{Instruction}
 use Rattle.cyc_plain.specs.declared.instruction.Instruction.TheVariants as instructions
 use Rattle.cyc_lower.specs.inside.Slots.{with_counter, Starts}
 use Rattle.cyc_lower.specs.declared.operands.Condition.{Condition}
-use Rattle.cyc_lower.specs.inside.ValueCode.{all_passed, load_of, next_slot, operator_code, binary_operator, address_code, jump_if_zero, count_code, word_by_word}
+use Rattle.cyc_lower.specs.inside.ValueCode.{all_passed, load_of, next_slot, operator_code, binary_operator, address_code, count_code, word_by_word}
 use Rattle.cyc_lower.specs.inside.ObjectCode.{measured_code, asked_code, begun_code, written_code, filled_code, restarted_code, ended_code, elements_code, last_element}
 use Rattle.cyc_lower.specs.inside.ControlCode.{failing_jump}
 use Rattle.cyc_lower.specs.inside.ExpressionCode.{expression_code}
@@ -182,46 +182,40 @@ slot_by_count xs i (suc many) to d t counted none some = some (omega arith) ∙ 
 -- ---- new objects
 
 -- how many elements a fat pointer in a slot has
-pub made_count : (pointer : Operand) (j : Instruction) (n behind here d : ℕ) (old m1 m2 m3 m4 m5 m6 : List Instruction)
+pub made_count : (pointer : Operand) (n behind here d : ℕ) (old m1 m2 m3 m4 m5 : List Instruction)
     → pointer ≡ operands.Slot n
     → behind ≡ n + 3
     → here ≡ length old
-    → j ≡ jump_if_zero (operands.Slot n) (here + 4)
-    → m1 ≡ old ++ j ∷ []
-    → m2 ≡ m1 ++ instructions.Branch comparisons.LessUnsigned (operands.Slot (behind - 2)) (operands.Slot (behind - 1)) (here + 4) ∷ []
-    → m3 ≡ m2 ++ instructions.Binary plain_binary.Subtract d (operands.Slot (behind - 2)) (operands.Slot (behind - 1)) ∷ []
-    → m4 ≡ m3 ++ instructions.Jump (here + 4 + 1) ∷ []
-    → m5 ≡ m4
-    → m6 ≡ m5 ++ instructions.Move d (operands.Word 0) ∷ []
-    → m6 ≡ old ++ count_code pointer (length old) d
-made_count pointer j n behind here d old m1 m2 m3 m4 m5 m6 pointer_is behind_is here_is j_is e1 e2 e3 e4 e5 e6 =
+    → m1 ≡ old ++ instructions.Branch comparisons.LessUnsigned (operands.Slot (behind - 2)) (operands.Slot (behind - 1)) (here + 3) ∷ []
+    → m2 ≡ m1 ++ instructions.Binary plain_binary.Subtract d (operands.Slot (behind - 2)) (operands.Slot (behind - 1)) ∷ []
+    → m3 ≡ m2 ++ instructions.Jump (here + 3 + 1) ∷ []
+    → m4 ≡ m3
+    → m5 ≡ m4 ++ instructions.Move d (operands.Word 0) ∷ []
+    → m5 ≡ old ++ count_code pointer (length old) d
+made_count pointer n behind here d old m1 m2 m3 m4 m5 pointer_is behind_is here_is e1 e2 e3 e4 e5 =
     let first : behind - 2 ≡ n + 1 = omega (arith, behind_is) in
     let second : behind - 1 ≡ n + 2 = omega (arith, behind_is) in
-    let target = length old + 4 in
-    let there : here + 4 ≡ target = omega (arith, here_is) in
-    let past : here + 4 + 1 ≡ length old + 5 = omega (arith, here_is) in
-    let a = jump_if_zero (operands.Slot n) target in
-    let b = instructions.Branch comparisons.LessUnsigned (operands.Slot (n + 1)) (operands.Slot (n + 2)) target in
+    let target = length old + 3 in
+    let there : here + 3 ≡ target = omega (arith, here_is) in
+    let past : here + 3 + 1 ≡ length old + 4 = omega (arith, here_is) in
+    let a = instructions.Branch comparisons.LessUnsigned (operands.Slot (n + 1)) (operands.Slot (n + 2)) target in
     let less = instructions.Binary plain_binary.Subtract d (operands.Slot (n + 1)) (operands.Slot (n + 2)) in
-    let jump = instructions.Jump (length old + 5) in
+    let jump = instructions.Jump (length old + 4) in
     let none = instructions.Move d (operands.Word 0) in
     let s1 : m1 ≡ old ++ a ∷ [] =
-    e1 ∙ ap (λ (x : Instruction). old ++ x ∷ []) (j_is ∙ ap (λ (x : ℕ). jump_if_zero (operands.Slot n) x) there) in
-    let s2 : m2 ≡ m1 ++ b ∷ [] =
+    e1
+    ∙ ap (λ (x : ℕ). old ++ instructions.Branch comparisons.LessUnsigned (operands.Slot x) (operands.Slot (behind - 1)) (here + 3) ∷ []) first
+    ∙ ap (λ (x : ℕ). old ++ instructions.Branch comparisons.LessUnsigned (operands.Slot (n + 1)) (operands.Slot x) (here + 3) ∷ []) second
+    ∙ ap (λ (x : ℕ). old ++ instructions.Branch comparisons.LessUnsigned (operands.Slot (n + 1)) (operands.Slot (n + 2)) x ∷ []) there in
+    let s2 : m2 ≡ m1 ++ less ∷ [] =
     e2
-    ∙ ap (λ (x : ℕ). m1 ++ instructions.Branch comparisons.LessUnsigned (operands.Slot x) (operands.Slot (behind - 1)) (here + 4) ∷ []) first
-    ∙ ap (λ (x : ℕ). m1 ++ instructions.Branch comparisons.LessUnsigned (operands.Slot (n + 1)) (operands.Slot x) (here + 4) ∷ []) second
-    ∙ ap (λ (x : ℕ). m1 ++ instructions.Branch comparisons.LessUnsigned (operands.Slot (n + 1)) (operands.Slot (n + 2)) x ∷ []) there in
-    let s3 : m3 ≡ m2 ++ less ∷ [] =
-    e3
-    ∙ ap (λ (x : ℕ). m2 ++ instructions.Binary plain_binary.Subtract d (operands.Slot x) (operands.Slot (behind - 1)) ∷ []) first
-    ∙ ap (λ (x : ℕ). m2 ++ instructions.Binary plain_binary.Subtract d (operands.Slot (n + 1)) (operands.Slot x) ∷ []) second in
-    let s4 : m4 ≡ m3 ++ jump ∷ [] = e4 ∙ ap (λ (x : ℕ). m3 ++ instructions.Jump x ∷ []) past in
-    let s5 : m6 ≡ m4 ++ none ∷ [] = e6 ∙ ap (λ (l : List Instruction). l ++ none ∷ []) e5 in
-    let two = emitted_joined old (a ∷ []) (λ p. b ∷ []) m1 m2 s1 s2 in
-    let three = emitted_joined old (a ∷ b ∷ []) (λ p. less ∷ []) m2 m3 two s3 in
-    let four = emitted_joined old (a ∷ b ∷ less ∷ []) (λ p. jump ∷ []) m3 m4 three s4 in
-    emitted_joined old (a ∷ b ∷ less ∷ jump ∷ []) (λ p. none ∷ []) m4 m6 four s5
+    ∙ ap (λ (x : ℕ). m1 ++ instructions.Binary plain_binary.Subtract d (operands.Slot x) (operands.Slot (behind - 1)) ∷ []) first
+    ∙ ap (λ (x : ℕ). m1 ++ instructions.Binary plain_binary.Subtract d (operands.Slot (n + 1)) (operands.Slot x) ∷ []) second in
+    let s3 : m3 ≡ m2 ++ jump ∷ [] = e3 ∙ ap (λ (x : ℕ). m2 ++ instructions.Jump x ∷ []) past in
+    let s4 : m5 ≡ m3 ++ none ∷ [] = e5 ∙ ap (λ (l : List Instruction). l ++ none ∷ []) e4 in
+    let two = emitted_joined old (a ∷ []) (λ p. less ∷ []) m1 m2 s1 s2 in
+    let three = emitted_joined old (a ∷ less ∷ []) (λ p. jump ∷ []) m2 m3 two s3 in
+    emitted_joined old (a ∷ less ∷ jump ∷ []) (λ p. none ∷ []) m3 m5 three s4
     ∙ ap (λ (o : Operand). old ++ count_code o (length old) d) (sym pointer_is)
 
 -- ---- arrays

@@ -70,7 +70,7 @@ module _ (code : List Instruction) (b : Numbering) where
         let o = value_operand (starts_of types) a t in
         let m = p + length front in
         let count = count_code o m d in
-        (o, m, operand_by code b types raised (operand_of (starts_of types) a) _ inner slot p m refl (has_front code p front count has) (λ e h. expression_stands types raised a slot t p m numbered e h), count_stands code b types raised o d m q (cut p q front count end) (has_back code p front count has))
+        (fat, o, m, operand_by code b types raised (operand_of (starts_of types) a) _ inner slot p m refl (has_front code p front count has) (λ e h. expression_stands types raised a slot t p m numbered e h), count_stands code b types raised o d m q (cut p q front count end) (has_back code p front count has))
     expression_stands types raised (Unary unary.Widen a) d t p q (one, numbered) end has = (one, expression_stands types raised a d t p q numbered end has)
     expression_stands types raised (Unary o a) d t p q numbered end has =
         let inner = expression_code (starts_of types) a p (value_slot (starts_of types) a t) t in

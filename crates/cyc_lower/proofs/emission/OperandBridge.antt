@@ -296,15 +296,14 @@ module _ (code : List Instruction) (b : Numbering) (types : Types) (raised : Blo
   global_stands words first (operands.Slot n) p q end has = each_stands store_word words first n p q end has
   global_stands words first (operands.Word n) p q end (here, none) = (here, end)
 
-  -- the fourth of five instructions jumps behind them
+  -- the third of four instructions jumps behind them
   pub count_stands : (o : Operand) (d p q : ℕ) → p + length (count_code o p d) ≡ q → HasAt code p (count_code o p d) → CountAt code b types o d p q
   count_stands (operands.Word n) d p q end (move, none) = (move, end)
-  count_stands (operands.Slot n) d p q end (null, (past, (subtract, (jump, (move, none))))) = (
-    null,
+  count_stands (operands.Slot n) d p q end (past, (subtract, (jump, (move, none)))) = (
     past,
-    further 2 (instructions.Binary plain_binary.Subtract d (operands.Slot (n + 1)) (operands.Slot (n + 2))) (omega arith) subtract,
-    further 3 (instructions.Jump q) (omega arith) (subst (λ m. At code (p + 1 + 1 + 1) (instructions.Jump m)) end jump),
-    further 4 (instructions.Move d (operands.Word 0)) (omega arith) move,
+    subtract,
+    further 2 (instructions.Jump q) (omega arith) (subst (λ m. At code (p + 1 + 1) (instructions.Jump m)) end jump),
+    further 3 (instructions.Move d (operands.Word 0)) (omega arith) move,
     end,
   )
     where

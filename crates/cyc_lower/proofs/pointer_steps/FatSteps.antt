@@ -1,7 +1,7 @@
 -- The steps of fat pointers.
 use Rattle.std.proofs.Common.{◌≡◌, ◌≢◌, ℕ, ◌+◌, ◌-◌, ◌≤◌, Bool, true, false, not, List, [], ◌∷◌, Option, refl, sym, ap, subst, ◌∙◌, arith, inl, inr}
 use Rattle.std.specs.Prelude.{◌==◌, nat_lt, nat_le, if◌then◌else◌}
-use Rattle.std.proofs.lemmas.Bool.{eq-eqb, ne_eqb, cases_Bool, ltb-true, ltb-false, le-leb, lt-leb}
+use Rattle.std.proofs.lemmas.Bool.{cases_Bool, ltb-true, ltb-false, le-leb, lt-leb}
 use Rattle.cyc_words.specs.Word.{IsWord, sub_of}
 use Rattle.cyc_types.specs.declared.typed.Kind.{Kind}
 use Rattle.cyc_types.specs.declared.typed.Kind.TheVariants as kinds
@@ -24,8 +24,7 @@ use Rattle.cyc_meaning.specs.State.{World, Environment, ConvertTo, CountElements
 use Rattle.cyc_meaning.specs.Step.{computed, step}
 use Rattle.cyc_objects.specs.inside.Tables.{Tables}
 use Rattle.cyc_objects.specs.inside.Words.{IsPartOf, Is}
-use Rattle.cyc_objects.proofs.Pointers.{part-not-null, thin-to_fat}
-use Rattle.cyc_lower.specs.inside.ValueCode.{jump_if_zero}
+use Rattle.cyc_objects.proofs.Pointers.{thin-to_fat}
 use Rattle.cyc_lower.specs.inside.Lowering.{lower_program}
 use Rattle.cyc_lower.proofs.slots.Widths.{Outside}
 use Rattle.cyc_lower.proofs.relation.code.Stands.{CountAt, WidenedAt}
@@ -48,10 +47,9 @@ pub fat_is : (t : Tables) (kind : Kind) (object start count index : ℕ) (words 
 fat_is t kinds.Fat object start count index words p is = is
 fat_is t kind object start count index words p is = absurd is
 
-null_word : (t : Tables) (kind : Kind) (words : Words) (p : ℕ) → Is t kind Null words p → words p ≡ 0
-null_word t kinds.Nullable words p is = is
-null_word t kinds.Fat words p is = is.0
-null_word t kind words p is = absurd is
+-- the second is 0 where the pointer is null
+null_length : (t : Tables) (kind : Kind) (words : Words) (p : ℕ) → kind ≡ kinds.Fat → Is t kind Null words p → words (p + 1) ≡ 0
+null_length t kind words p fat is = (subst (λ (x : Kind). Is t x Null words p) fat is).1
 
 -- it does not stand in one word
 not_a_word : (t : Tables) (kind : Kind) (object start count index : ℕ) (slots : Words) (w : ℕ) → IsIn t (record { kind = kind; value = Fat object start count index }) slots (operands.Word w) → ⊥
@@ -78,65 +76,51 @@ module _ (source : Program) (pages calls : ℕ) where
     abbrev Counted : (word : ℕ) → Type 0
     Counted word = step source (Running (Given v) (Needs CountElements ∷ k) e w) ≡ Running (Given (record { kind = kinds.Int; value = Int word })) k e w
 
-    abbrev to_null : Link
-    to_null = record { instruction = jump_if_zero (operands.Slot n) (p + 4); behind = at c (p + 4) }
-
-    abbrev past_null : Link
-    past_null = record { instruction = jump_if_zero (operands.Slot n) (p + 4); behind = at c (p + 1) }
-
     abbrev in_bounds : (behind : Configuration) → Link
-    in_bounds behind = record { instruction = instructions.Branch comparisons.LessUnsigned (operands.Slot (n + 1)) (operands.Slot (n + 2)) (p + 4); behind = behind }
+    in_bounds behind = record { instruction = instructions.Branch comparisons.LessUnsigned (operands.Slot (n + 1)) (operands.Slot (n + 2)) (p + 3); behind = behind }
 
     -- none, which the last of the instructions tells
-    none_counted : (choice : Choice) → Matches source pages calls (Running (Given (record { kind = kinds.Int; value = Int 0 })) k e w) (performed (lower_program source) choice (at c (p + 4)) (instructions.Move d (operands.Word 0)))
+    none_counted : (choice : Choice) → Matches source pages calls (Running (Given (record { kind = kinds.Int; value = Int 0 })) k e w) (performed (lower_program source) choice (at c (p + 3)) (instructions.Move d (operands.Word 0)))
     none_counted choice =
-        let (null, past, subtract, jump, move, end) = here in
-        landed_word source pages calls 0 0 d k e w (at c (p + 4)) q refl shared facts holds (omega (arith, end)) lands
+        let (past, subtract, jump, move, end) = here in
+        landed_word source pages calls 0 0 d k e w (at c (p + 3)) q refl shared facts holds (omega (arith, end)) lands
 
-    counts_null : slots n ≡ 0 → Counted 0 → IsMatched source pages calls (Running (Given v) (Needs CountElements ∷ k) e w) (plain.Running c)
-    counts_null zero does =
-        let (null, past, subtract, jump, move, end) = here in
-        by_path source pages calls (Given v) (Needs CountElements ∷ k) e w c (Running (Given (record { kind = kinds.Int; value = Int 0 })) k e w) (to_null ∷ []) (instructions.Move d (operands.Word 0)) does shared
-        (null, (λ choice. branch_taken c (slots n == 0) (p + 4) (eq-eqb (slots n) 0 zero)), omega arith, is_quiet c (at c (p + 4)).active, tt)
+    counts_past : nat_lt (slots (n + 1)) (slots (n + 2)) ≡ true → Counted 0 → IsMatched source pages calls (Running (Given v) (Needs CountElements ∷ k) e w) (plain.Running c)
+    counts_past less does =
+        let (past, subtract, jump, move, end) = here in
+        by_path source pages calls (Given v) (Needs CountElements ∷ k) e w c (Running (Given (record { kind = kinds.Int; value = Int 0 })) k e w) (in_bounds (at c (p + 3)) ∷ []) (instructions.Move d (operands.Word 0)) does shared
+        (past, (λ choice. branch_taken c (nat_lt (slots (n + 1)) (slots (n + 2))) (p + 3) less), omega arith, is_quiet c (at c (p + 3)).active, tt)
         move none_counted
 
-    counts_past : slots n ≢ 0 → nat_lt (slots (n + 1)) (slots (n + 2)) ≡ true → Counted 0 → IsMatched source pages calls (Running (Given v) (Needs CountElements ∷ k) e w) (plain.Running c)
-    counts_past some less does =
-        let (null, past, subtract, jump, move, end) = here in
-        by_path source pages calls (Given v) (Needs CountElements ∷ k) e w c (Running (Given (record { kind = kinds.Int; value = Int 0 })) k e w) (past_null ∷ in_bounds (at c (p + 4)) ∷ []) (instructions.Move d (operands.Word 0)) does shared (
-          null,
-          (λ choice. branch_passed c (slots n == 0) (p + 4) (ne_eqb (slots n) 0 some)),
-          omega arith,
-          is_quiet c (at c (p + 1)).active,
-          (past, (λ choice. branch_taken (at c (p + 1)) (nat_lt (slots (n + 1)) (slots (n + 2))) (p + 4) less), omega arith, is_quiet (at c (p + 1)) (at c (p + 4)).active, tt),
-        )
-        move none_counted
-
-    counts_some : slots n ≢ 0 → nat_lt (slots (n + 1)) (slots (n + 2)) ≡ false → Counted (sub_of (slots (n + 1)) (slots (n + 2))) → IsMatched source pages calls (Running (Given v) (Needs CountElements ∷ k) e w) (plain.Running c)
-    counts_some some least does =
-        let (null, past, subtract, jump, move, end) = here in
+    counts_some : nat_lt (slots (n + 1)) (slots (n + 2)) ≡ false → Counted (sub_of (slots (n + 1)) (slots (n + 2))) → IsMatched source pages calls (Running (Given v) (Needs CountElements ∷ k) e w) (plain.Running c)
+    counts_some least does =
+        let (past, subtract, jump, move, end) = here in
         let many = sub_of (slots (n + 1)) (slots (n + 2)) in
-        let computed_at : Configuration = at (with_slots c (put slots d many)) (p + 3) in
-        let third : p + 2 + 1 ≡ p + 3 = omega arith in
-        let fifth : p + 4 + 1 ≡ q = omega (arith, end) in
+        let computed_at : Configuration = at (with_slots c (put slots d many)) (p + 2) in
+        let second : p + 1 + 1 ≡ p + 2 = omega arith in
+        let fourth : p + 3 + 1 ≡ q = omega (arith, end) in
         by_path source pages calls (Given v) (Needs CountElements ∷ k) e w c (Running (Given (record { kind = kinds.Int; value = Int many })) k e w)
-        (past_null ∷ in_bounds (at c (p + 2)) ∷ record { instruction = instructions.Binary plain_binary.Subtract d (operands.Slot (n + 1)) (operands.Slot (n + 2)); behind = computed_at } ∷ [])
+        (in_bounds (at c (p + 1)) ∷ record { instruction = instructions.Binary plain_binary.Subtract d (operands.Slot (n + 1)) (operands.Slot (n + 2)); behind = computed_at } ∷ [])
         (instructions.Jump q) does shared (
-          null,
-          (λ choice. branch_passed c (slots n == 0) (p + 4) (ne_eqb (slots n) 0 some)),
+          past,
+          (λ choice. branch_passed c (nat_lt (slots (n + 1)) (slots (n + 2))) (p + 3) least),
           omega arith,
           is_quiet c (at c (p + 1)).active,
-          (
-            past,
-            (λ choice. branch_passed (at c (p + 1)) (nat_lt (slots (n + 1)) (slots (n + 2))) (p + 4) least ∙ ap (λ i. plain.Running (at c i)) (let two : p + 1 + 1 ≡ p + 2 = omega arith in two)),
-            omega arith,
-            is_quiet (at c (p + 1)) (at c (p + 2)).active,
-            (subtract, (λ choice. ap (λ i. plain.Running (at (with_slots c (put slots d many)) i)) third), omega arith, is_quiet (at c (p + 2)) computed_at.active, tt),
-          ),
+          (subtract, (λ choice. ap (λ i. plain.Running (at (with_slots c (put slots d many)) i)) second), omega arith, is_quiet (at c (p + 1)) computed_at.active, tt),
         )
         jump
-        (λ choice. subst (λ i. Matches source pages calls (Running (Given (record { kind = kinds.Int; value = Int many })) k e w) (plain.Running (at (with_slots c (put slots d many)) i))) fifth
-        (landed_word source pages calls many many d k e w (at c (p + 4)) q refl shared facts holds fifth lands))
+        (λ choice. subst (λ i. Matches source pages calls (Running (Given (record { kind = kinds.Int; value = Int many })) k e w) (plain.Running (at (with_slots c (put slots d many)) i))) fourth
+        (landed_word source pages calls many many d k e w (at c (p + 3)) q refl shared facts holds fourth lands))
+
+    -- of null, whose length is 0
+    counts_null : slots (n + 1) ≡ 0 → Counted 0 → IsMatched source pages calls (Running (Given v) (Needs CountElements ∷ k) e w) (plain.Running c)
+    counts_null zero does =
+        elim (cases_Bool (nat_lt (slots (n + 1)) (slots (n + 2)))) [
+          | inl less ↦ counts_past less does
+          | inr least ↦
+              let none : 0 ≡ sub_of (slots (n + 1)) (slots (n + 2)) = omega (arith, ltb-false (slots (n + 1)) (slots (n + 2)) least, zero) in
+              counts_some least (does ∙ ap (λ (x : ℕ). Running (Given (record { kind = kinds.Int; value = Int x })) k e w) none)
+        ]
 
     -- of a pointer that is not null
     counts_fat : (object start count index : ℕ) → v.value ≡ Fat object start count index → IsWord (slots (n + 1))
@@ -145,15 +129,14 @@ module _ (source : Program) (pages calls : ℕ) where
     counts_fat object start count index value fits (part, count_is, index_is) =
         let does : step source (Running (Given v) (Needs CountElements ∷ k) e w) ≡ Running (Given (record { kind = kinds.Int; value = Int (if nat_le index count then count - index else 0) })) k e w
         = ap (λ (x : Value). computed kinds.Int (element_count x) k e w) value in
-        let some = part-not-null part in
         elim (cases_Bool (nat_lt (slots (n + 1)) (slots (n + 2)))) [
           | inl less ↦
-              counts_past some less
+              counts_past less
               (does ∙ ap (λ (b : Bool). Running (Given (record { kind = kinds.Int; value = Int (if b then count - index else 0) })) k e w)
               (lt-leb index count (omega (arith, ltb-true (slots (n + 1)) (slots (n + 2)) less, count_is, index_is))))
           | inr least ↦
               let below : slots (n + 2) ≤ slots (n + 1) = ltb-false (slots (n + 1)) (slots (n + 2)) least in
-              counts_some some least
+              counts_some least
               (does
               ∙ (ap (λ (b : Bool). Running (Given (record { kind = kinds.Int; value = Int (if b then count - index else 0) })) k e w) (le-leb index count (omega (arith, below, count_is, index_is)))
               ∙ ap (λ (x : ℕ). Running (Given (record { kind = kinds.Int; value = Int x })) k e w)
@@ -167,13 +150,14 @@ module _ (source : Program) (pages calls : ℕ) where
       → Holds shared.tables c.active.slots (floor source c.active.function k) (held k)
       → CountAt (code_of source c.active.function) (bounds_at source c.active.function) (types_at source c.active.function) o d c.active.next q
       → LandsStack source c.active.function e.locals kinds.Int d q c.frames k
+      → v.kind ≡ kinds.Fat
       → IsMatched source pages calls (Running (Given v) (Needs CountElements ∷ k) e w) (plain.Running c)
-  counts v o d q k e w c words well shared facts is holds here lands = by v.kind v.value o refl well is here
+  counts v o d q k e w c words well shared facts is holds here lands fat = by v.kind v.value o refl well is here
     where
       by : (kind : Kind) (value : Value) (o : Operand) → v ≡ record { kind = kind; value = value } → IsWell (computed kinds.Int (element_count value) k e w) → IsIn shared.tables (record { kind = kind; value = value }) c.active.slots o
           → CountAt (code_of source c.active.function) (bounds_at source c.active.function) (types_at source c.active.function) o d c.active.next q
           → IsMatched source pages calls (Running (Given v) (Needs CountElements ∷ k) e w) (plain.Running c)
-      by kind Null (operands.Slot n) same well is here = counts_null v n d q k e w c shared facts holds here lands (null_word shared.tables kind c.active.slots n is) (ap (λ (x : Kinded). computed kinds.Int (element_count x.value) k e w) same)
+      by kind Null (operands.Slot n) same well is here = counts_null v n d q k e w c shared facts holds here lands (null_length shared.tables kind c.active.slots n (sym (ap (λ (x : Kinded). x.kind) same) ∙ fat) is) (ap (λ (x : Kinded). computed kinds.Int (element_count x.value) k e w) same)
       by kind Null (operands.Word x) same well is (move, end) =
           by_one source pages calls (ap (λ (x : Kinded). computed kinds.Int (element_count x.value) k e w) same) shared move
           (λ choice. landed_word source pages calls 0 0 d k e w c q refl shared facts holds end lands)

@@ -1,5 +1,5 @@
 -- The size of an expression's code is bounded by the tokens that its spelling needs. What is simple has code of half that size.
-use Rattle.std.proofs.Common.{◌≡◌, ℕ, zero, suc, ◌+◌, ◌*◌, ◌≤◌, true, false, List, [], ◌∷◌, ◌++◌, ◌-◌, length, Option, None, Some, refl, arith}
+use Rattle.std.proofs.Common.{◌≡◌, ℕ, zero, suc, ◌+◌, ◌*◌, ◌≤◌, true, false, List, [], ◌∷◌, ◌++◌, length, Option, None, Some, refl, arith}
 use Rattle.std.specs.Prelude.{◌==◌, is_some}
 use Rattle.cyc_words.proofs.Booleans.{and_left, and_right}
 use Rattle.cyc_types.specs.declared.typed.Callee.TheVariants as callees
@@ -7,7 +7,7 @@ use Rattle.cyc_types.specs.declared.typed.UnaryOperator.TheVariants as unary
 use Rattle.cyc_types.specs.declared.typed.PointerOperator.{PointerOperator}
 use Rattle.cyc_types.specs.TypedTrees.{Load, New, OnHeap, AsUnique, ByHandle, Initial, Plain, Fields, Array, Dereference, Target, Member, Element, Lvalue, Local, Global, Expression, Number}
 use Rattle.cyc_types.specs.TypedTrees.{NullPointer, HeapRegion, Counter, Copy, Call, Unary, Binary, Assign, Converted, Convert, Arguments, NoArguments, MoreArguments, Operations, NoOperations}
-use Rattle.cyc_types.specs.TypedTrees.{ThenCompute, ThenTest, ThenPointer, ThenPointerPeek, Function, Move, Peek, AddressOfCell, Store, FreeUnique, NumberOfElements, type_of_place, FreeKey, AddressOf}
+use Rattle.cyc_types.specs.TypedTrees.{ThenCompute, ThenTest, ThenPointer, ThenPointerPeek, Move, Peek, AddressOfCell, Store, FreeUnique, NumberOfElements, type_of_place, FreeKey, AddressOf}
 use Rattle.cyc_types.specs.Types.{Ty, words_of}
 use Rattle.cyc_types.proofs.WeightLemmas.{some_token}
 use Rattle.cyc_types.specs.Weight.{expression_weight, dereference_weight, initial_weight, converted_weight, arguments_weight, more_arguments_weight, operations_weight}

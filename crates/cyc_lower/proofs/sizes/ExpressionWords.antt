@@ -1,12 +1,12 @@
 -- The code of an expression has words wherever the expression has.
-use Rattle.std.proofs.Common.{ℕ, zero, suc, ◌+◌, Bool, true, false, [], ◌∷◌, ◌++◌, length, Option, None, Some, arith, slice_get, ◌-◌}
+use Rattle.std.proofs.Common.{ℕ, zero, suc, ◌+◌, Bool, true, false, [], ◌∷◌, ◌++◌, length, Option, None, Some, arith, slice_get}
 use Rattle.cyc_words.proofs.WordLemmas.{IsWord-add_of}
 use Rattle.cyc_words.specs.Word.{IsWord, add_of, mul_of}
 use Rattle.cyc_types.specs.declared.typed.Callee.TheVariants as callees
 use Rattle.cyc_types.specs.declared.typed.UnaryOperator.TheVariants as unary
 use Rattle.cyc_types.specs.TypedTrees.{Array, Counter, Load, New, OnHeap, AsUnique, ByHandle, HeapRegion, AddressOf, FreeKey, Initial, Plain, Fields, Dereference, Target, Lvalue, Local, Global}
 use Rattle.cyc_types.specs.TypedTrees.{Expression, Number, NullPointer, Copy, Call, Unary, Binary, Assign, Converted, Convert, Arguments, NoArguments, MoreArguments, Operations, NoOperations}
-use Rattle.cyc_types.specs.TypedTrees.{ThenCompute, ThenTest, ThenPointer, Word, Function, Move, Peek, ThenPointerPeek, AddressOfCell, Store, Member, Element, FreeUnique, NumberOfElements, type_of_place}
+use Rattle.cyc_types.specs.TypedTrees.{ThenCompute, ThenTest, ThenPointer, Move, Peek, ThenPointerPeek, AddressOfCell, Store, Member, Element, FreeUnique, NumberOfElements, type_of_place}
 use Rattle.cyc_plain.specs.declared.instruction.Operand.{Operand}
 use Rattle.cyc_plain.specs.declared.instruction.Operand.TheVariants as operands
 use Rattle.cyc_plain.specs.inside.WellFormed.{IsOfWord}

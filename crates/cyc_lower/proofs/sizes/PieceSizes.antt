@@ -1,5 +1,5 @@
 -- The sizes of the pieces of code that expressions and statements are made of.
-use Rattle.std.proofs.Common.{◌≡◌, ℕ, zero, suc, ◌+◌, ◌*◌, ◌≤◌, Bool, true, false, List, [], ◌∷◌, ◌++◌, ◌-◌, length, take, Option, None, Some, max, refl, arith}
+use Rattle.std.proofs.Common.{◌≡◌, ℕ, zero, suc, ◌+◌, ◌*◌, ◌≤◌, Bool, true, false, List, [], ◌∷◌, ◌++◌, length, take, Option, None, Some, max, refl, arith}
 use Rattle.std.specs.Prelude.{◌==◌, sum_by, if◌then◌else◌}
 use Rattle.std.proofs.lemmas.List.Sums.{sum_by-append, sum_by-cons}
 use Rattle.cyc_types.specs.declared.typed.Kind.{Kind}
@@ -12,7 +12,7 @@ use Rattle.cyc_types.specs.declared.typed.PointerOperator.{PointerOperator}
 use Rattle.cyc_types.specs.declared.typed.PointerOperator.TheVariants as pointers
 use Rattle.cyc_types.specs.declared.typed.LogicalOperator.{LogicalOperator}
 use Rattle.cyc_types.specs.declared.typed.LogicalOperator.TheVariants as logical
-use Rattle.cyc_types.specs.TypedTrees.{Load, Unary, Binary, Converted, Arguments, NoArguments, MoreArguments, Move}
+use Rattle.cyc_types.specs.TypedTrees.{Converted, Arguments, NoArguments, MoreArguments}
 use Rattle.cyc_types.specs.Weight.{arguments_weight, more_arguments_weight}
 use Rattle.cyc_plain.specs.declared.instruction.BinaryOperator.TheVariants as plain_binary
 use Rattle.cyc_plain.specs.declared.instruction.UnaryOperator.TheVariants as plain_unary
@@ -242,7 +242,7 @@ pointer_size pointers.NullIsNot l r d = omega arith
 pointer_size pointers.EqualThin l r d = omega arith
 pointer_size pointers.NotEqualThin l r d = omega arith
 
-pub count_size : (o : Operand) (p d : ℕ) → code_size (count_code o p d) ≤ 41
+pub count_size : (o : Operand) (p d : ℕ) → code_size (count_code o p d) ≤ 30
 count_size (operands.Word n) p d = omega arith
 count_size (operands.Slot n) p d = omega arith
 

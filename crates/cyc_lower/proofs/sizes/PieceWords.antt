@@ -1,5 +1,5 @@
 -- The pieces of code that expressions and statements are made of have words wherever what they are made of has.
-use Rattle.std.proofs.Common.{◌≡◌, ℕ, zero, suc, ◌+◌, ◌*◌, ◌≤◌, max, Bool, true, false, List, [], ◌∷◌, ◌++◌, length, take, Option, None, Some, refl, arith, ◌-◌}
+use Rattle.std.proofs.Common.{◌≡◌, ℕ, zero, suc, ◌+◌, ◌*◌, ◌≤◌, max, Bool, true, false, List, [], ◌∷◌, ◌++◌, length, take, Option, None, Some, refl, arith}
 use Rattle.cyc_meaning.specs.Operators.{null_exception, division_by_zero, array_bounds}
 use Rattle.std.specs.List.{AllByRecursion}
 use Rattle.cyc_words.proofs.WordLemmas.{IsWord-add_of}
@@ -14,7 +14,7 @@ use Rattle.cyc_types.specs.declared.typed.PointerOperator.{PointerOperator}
 use Rattle.cyc_types.specs.declared.typed.PointerOperator.TheVariants as pointers
 use Rattle.cyc_types.specs.declared.typed.LogicalOperator.{LogicalOperator}
 use Rattle.cyc_types.specs.declared.typed.LogicalOperator.TheVariants as logical
-use Rattle.cyc_types.specs.TypedTrees.{Load, Binary, Converted, Convert, Return, Word, StructType, Move}
+use Rattle.cyc_types.specs.TypedTrees.{Converted, Convert, StructType}
 use Rattle.cyc_plain.specs.declared.instruction.Comparison.{Comparison}
 use Rattle.cyc_plain.specs.declared.instruction.BinaryOperator.TheVariants as plain_binary
 use Rattle.cyc_plain.specs.declared.instruction.Comparison.TheVariants as comparisons
@@ -263,7 +263,7 @@ pointer_words o l r d left right = ((left, right), tt)
 
 pub count_words : (o : Operand) (p d : ℕ) → HaveWords (count_code o p d)
 count_words (operands.Word n) p d = (omega arith, tt)
-count_words (operands.Slot n) p d = ((tt, omega arith), ((tt, tt), ((tt, tt), (tt, (omega arith, tt)))))
+count_words (operands.Slot n) p d = ((tt, tt), ((tt, tt), (tt, (omega arith, tt))))
 
 pub test_words : (o : LogicalOperator) (operand : List Instruction) (p d t : ℕ) → HaveWords operand → HaveWords (test_code o operand p d t)
 test_words logical.AndThen operand p d t all = ((tt, omega arith), append operand (truth_code t d) all ((tt, omega arith), tt))

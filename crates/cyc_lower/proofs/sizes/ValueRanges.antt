@@ -469,10 +469,9 @@ module _ (program : PlainProgram) (r : Routine) (b : Numbering) (types : Types) 
   pub count_in : (o : Operand) (p d : ℕ) → HasOperand o 3 → d < r.slots → p + length (count_code o p d) < length r.code → AreIn (count_code o p d)
   count_in (operands.Word n) p d inside few short = ((few, tt), tt)
   count_in (operands.Slot n) p d inside few short =
-      let first : n < r.slots = omega (arith, inside) in
       let second : n + 1 < r.slots = omega (arith, inside) in
       let third : n + 2 < r.slots = omega (arith, inside) in
-      ((first, tt, omega (arith, short)), ((second, third, omega (arith, short)), ((few, second, third), (omega (arith, short), ((few, tt), tt)))))
+      ((second, third, omega (arith, short)), ((few, second, third), (omega (arith, short), ((few, tt), tt))))
 
   pub test_in : (o : LogicalOperator) (operand : List Instruction) (p d t : ℕ) → d < r.slots → t < r.slots → p + length (test_code o operand p d t) < length r.code → AreIn operand → AreIn (test_code o operand p d t)
   test_in logical.AndThen operand p d t few room short inside =

@@ -21,7 +21,7 @@ use Rattle.cyc_plain.specs.inside.State.{put, Frame, Configuration}
 use Rattle.cyc_plain.specs.inside.Straight.{At as CodeAt}
 use Rattle.cyc_plain.specs.inside.Step.{Choice, with_slots, advanced, performed, at}
 use Rattle.cyc_plain.proofs.SlotLaws.{put-same}
-use Rattle.cyc_meaning.specs.Values.{Int, Null, Thin, Handle, Operand as Kinded, kind_of, words_of_kind}
+use Rattle.cyc_meaning.specs.Values.{Null, Thin, Handle, Operand as Kinded, kind_of, words_of_kind}
 use Rattle.cyc_store.specs.declared.range.TheConstants.{HEAP, UNIQUE}
 use Rattle.cyc_meaning.specs.SourceMachine.{status_in}
 use Rattle.cyc_meaning.specs.State.{status_of, InRegion, World, heap_number, Environment, ConvertTo, Operate, Chain, Store, Pass, PlaceBy, MakePlain, MakeFields, MakeArray, LoadFrom}
@@ -386,9 +386,9 @@ module _ (source : Program) (pages calls : ℕ) where
       prints cs t k e w c o m known at (write, gives_byte d low (lands_at source pages calls c.active.function e.locals kinds.Int d (m + 1 + 1) q c.frames k end lands))
   comes (Call callees.Getchar cs t) k e w c d q known (m, at, here, end) lands = calls_out callees.Getchar cs t k e w c d m q known at (here, end) lands
   comes (Call (callees.Function n) cs t) k e w c d q known (m, at, here, end) lands = calls_out (callees.Function n) cs t k e w c d m q known at (here, end) lands
-  comes (typed.NumberOfElements a) k e w c d q (well, shared, facts, holds, names) (r, m, at_a, at) lands =
+  comes (typed.NumberOfElements a) k e w c d q (well, shared, facts, holds, names) (fat, r, m, at_a, at) lands =
       silently source pages calls (Running (Evaluating (typed.NumberOfElements a)) k e w) (Running (Evaluating a) (Needs CountElements ∷ k) e w) (plain.Running c) refl
-      (shared, facts, as_operand r m at_a holds (d, q, at, lands))
+      (shared, facts, as_operand r m at_a holds (fat, d, q, at, lands))
       (omega arith)
   comes (Unary unary.Widen a) k e w c d q (well, shared, facts, holds, names) (one, at_a) lands =
       silently source pages calls (Running (Evaluating (Unary unary.Widen a)) k e w) (Running (Evaluating a) (Needs (Operate unary.Widen) ∷ k) e w) (plain.Running c) refl

@@ -304,7 +304,7 @@ module _ (source : Program) (pages calls : ℕ) where
       applies_pointers source pages calls u peek left v o d q k e w c names well shared facts is is_left holds here lands
   stands_given v o (Needs (ApplyPointer peek u left) ∷ k) e w c of_words words names well (shared, facts, is, (is_left, holds)) (to_jump (failing, fails, stack)) =
       tests_pointers source pages calls peek u left v failing (operands.Slot (top source c.active.function k)) o k e w c names fails well shared facts is_left is holds stack
-  stands_given v o (Needs CountElements ∷ k) e w c of_words words names well (shared, facts, is, holds) (d, q, here, lands) = counts source pages calls v o d q k e w c words well shared facts is holds here lands
+  stands_given v o (Needs CountElements ∷ k) e w c of_words words names well (shared, facts, is, holds) (fat, d, q, here, lands) = counts source pages calls v o d q k e w c words well shared facts is holds here lands fat
   stands_given v o (Needs Decide ∷ k) e w c of_words words names well stands stack = decides_truth source pages calls v o k e w c well stands stack
   stands_given v o (Needs (Store place) ∷ k) e w c of_words words names well stands stack = stores_at source pages calls place v o k e w c well stands stack
   stands_given v o (Needs (StoreCell peek place) ∷ k) e w c of_words words names well stands stack = stores_cell source pages calls peek place v o k e w c of_words words names well stands stack

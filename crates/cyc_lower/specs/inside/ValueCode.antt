@@ -324,13 +324,12 @@ pointer_instructions pointers.AddFat l r d = index_code (pointer_operator pointe
 pointer_instructions pointers.SubtractFat l r d = index_code (pointer_operator pointers.SubtractFat) l r d
 pointer_instructions o l r d = instructions.Binary (pointer_operator o) d l r ∷ []
 
--- How many elements a fat pointer has from its index on: none where it is null, or its index is past its length.
+-- How many elements a fat pointer has from its index on: none where its index is past its length, which is 0 where it is null.
 abbrev pub count_code : Operand → (p d : ℕ) → List Instruction
 count_code (operands.Slot n) p d =
-    jump_if_zero (operands.Slot n) (p + 4)
-    ∷ instructions.Branch comparisons.LessUnsigned (operands.Slot (n + 1)) (operands.Slot (n + 2)) (p + 4)
+    instructions.Branch comparisons.LessUnsigned (operands.Slot (n + 1)) (operands.Slot (n + 2)) (p + 3)
     ∷ instructions.Binary plain_binary.Subtract d (operands.Slot (n + 1)) (operands.Slot (n + 2))
-    ∷ instructions.Jump (p + 5)
+    ∷ instructions.Jump (p + 4)
     ∷ instructions.Move d (operands.Word 0)
     ∷ []
 count_code (operands.Word n) p d = instructions.Move d (operands.Word 0) ∷ []

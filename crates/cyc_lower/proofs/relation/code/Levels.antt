@@ -52,7 +52,7 @@ module _ (source : Program) where
     value_arrays g locals kind o p frames (Needs (ApplyPointer peek u left) ∷ k) (to_slot (d, q, at, lands)) =
         by_lands source lands (λ stack. value_arrays g locals (operator_kind u) (operands.Slot d) q frames k stack) (λ stack. ahead_arrays g locals (operator_kind u) d q frames k stack)
     value_arrays g locals kind o p frames (Needs (ApplyPointer peek u left) ∷ k) (to_jump (failing, is, (f, h, fork, first, second))) = decided_arrays g true f frames k first
-    value_arrays g locals kind o p frames (Needs CountElements ∷ k) (d, q, at, lands) =
+    value_arrays g locals kind o p frames (Needs CountElements ∷ k) (fat, d, q, at, lands) =
         by_lands source lands (λ stack. value_arrays g locals kinds.Int (operands.Slot d) q frames k stack) (λ stack. ahead_arrays g locals kinds.Int d q frames k stack)
     value_arrays g locals kind o p frames (Needs Decide ∷ k) (to_jump (f, h, fork, first, second)) = decided_arrays g true f frames k first
     value_arrays g locals kind o p frames (Needs Decide ∷ k) (to_slot (d, q, is, at, lands)) =

@@ -154,8 +154,8 @@ module _ (source : Program) where
         to_slot (d, q, at, lands_move (λ stack. value_moves g locals (operator_kind u) (operands.Slot d) q frames others like k stack) (λ stack. ahead_moves g locals (operator_kind u) d q frames others like k stack) lands)
     value_moves g locals kind o p frames others like (Needs (ApplyPointer peek u left) ∷ k) (to_jump (failing, is, stack)) =
         to_jump (failing, is, forks_go (code_of source g) (bounds_at source g) (types_on source g k) (λ fails q stack. decided_moves g fails q frames others like k stack) failing (operands.Slot (top source g k)) o p stack)
-    value_moves g locals kind o p frames others like (Needs CountElements ∷ k) (d, q, at, lands) =
-        (d, q, at, lands_move (λ stack. value_moves g locals kinds.Int (operands.Slot d) q frames others like k stack) (λ stack. ahead_moves g locals kinds.Int d q frames others like k stack) lands)
+    value_moves g locals kind o p frames others like (Needs CountElements ∷ k) (fat, d, q, at, lands) =
+        (fat, d, q, at, lands_move (λ stack. value_moves g locals kinds.Int (operands.Slot d) q frames others like k stack) (λ stack. ahead_moves g locals kinds.Int d q frames others like k stack) lands)
     value_moves g locals kind o p frames others like (Needs Decide ∷ k) (to_jump stack) =
         to_jump (forks_go (code_of source g) (bounds_at source g) (types_on source g k) (λ fails q stack. decided_moves g fails q frames others like k stack) comparisons.Equal o (operands.Word 0) p stack)
     value_moves g locals kind o p frames others like (Needs Decide ∷ k) (to_slot (d, q, is, at, lands)) =

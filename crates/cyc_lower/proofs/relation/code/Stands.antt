@@ -229,10 +229,9 @@ module _ (code : List Instruction) (bounds : Numbering) (types : Types) where
   -- the number of elements of a fat pointer comes to slot d
   abbrev pub CountAt : Operand → (d p q : ℕ) → Type 0
   CountAt (operands.Slot n) d p q =
-      At code p (jump_if_zero (operands.Slot n) (p + 4))
-      × At code (p + 1) (instructions.Branch comparisons.LessUnsigned (operands.Slot (n + 1)) (operands.Slot (n + 2)) (p + 4))
-      × At code (p + 2) (instructions.Binary plain_binary.Subtract d (operands.Slot (n + 1)) (operands.Slot (n + 2)))
-      × At code (p + 3) (instructions.Jump q) × At code (p + 4) (instructions.Move d (operands.Word 0)) × (p + 5 ≡ q)
+      At code p (instructions.Branch comparisons.LessUnsigned (operands.Slot (n + 1)) (operands.Slot (n + 2)) (p + 3))
+      × At code (p + 1) (instructions.Binary plain_binary.Subtract d (operands.Slot (n + 1)) (operands.Slot (n + 2)))
+      × At code (p + 2) (instructions.Jump q) × At code (p + 3) (instructions.Move d (operands.Word 0)) × (p + 4 ≡ q)
   CountAt (operands.Word n) d p q = At code p (instructions.Move d (operands.Word 0)) × (p + 1 ≡ q)
 
   abbrev pub TruthAt : (t d p q : ℕ) → Type 0
@@ -325,7 +324,8 @@ module _ (code : List Instruction) (bounds : Numbering) where
     ExpressionAt types (Call (callees.Function n) cs ty) d t p q =
         (m : ℕ) × ArgumentsAt types cs t p m × At code m (instructions.Call n t (all_passed cs) d) × (m + 1 ≡ q)
     ExpressionAt types (NumberOfElements a) d t p q =
-        (r : Operand) × (m : ℕ) × OperandBy code bounds types (operand_of (starts_of types) a) (ExpressionAt types a (value_slot (starts_of types) a t) t p m) (value_slot (starts_of types) a t) r p m
+        (given bounds.functions a ≡ kinds.Fat)
+        × (r : Operand) × (m : ℕ) × OperandBy code bounds types (operand_of (starts_of types) a) (ExpressionAt types a (value_slot (starts_of types) a t) t p m) (value_slot (starts_of types) a t) r p m
         × CountAt code bounds types r d m q
     -- a char that serves as an int is its word
     ExpressionAt types (Unary unary.Widen a) d t p q = (words_of_kind (given bounds.functions a) ≡ 1) × ExpressionAt types a d t p q

@@ -5,7 +5,7 @@ use Rattle.cyc_plain.specs.inside.State.{Words, Frame}
 use Rattle.cyc_plain.specs.declared.limits.TheConstants.{GLOBALS_BASE}
 use Rattle.cyc_types.specs.declared.typed.Kind.{Kind}
 use Rattle.cyc_types.specs.declared.typed.Kind.TheVariants as kinds
-use Rattle.cyc_meaning.specs.Values.{Value, Int, Handle, Key, Operand, words_of_kind}
+use Rattle.cyc_meaning.specs.Values.{Value, Operand, words_of_kind}
 use Rattle.cyc_meaning.specs.State.{Object}
 use Rattle.cyc_lower.specs.inside.Slots.{starts_of, slot_of, global_of, global_types, Types}
 use Rattle.cyc_lower.specs.inside.Lowering.{scopes_of}

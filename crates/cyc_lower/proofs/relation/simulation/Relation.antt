@@ -356,7 +356,7 @@ module _ (source : Program) where
         ((failing : Comparison) × (pointers_failing operator ≡ Some failing)
         × Forks (code_of g) (bounds_at g) (types_on g k) failing (operands.Slot (top g k)) o p (λ fails q. DecidedStack g fails q frames k))
     ValueStack g locals kind o p frames (Needs CountElements ∷ k) =
-        (d : ℕ) × (q : ℕ) × CountAt (code_of g) (bounds_at g) (types_on g k) o d p q
+        (kind ≡ kinds.Fat) × (d : ℕ) × (q : ℕ) × CountAt (code_of g) (bounds_at g) (types_on g k) o d p q
         × Lands (base_of g) (top g k) d 1 (ValueStack g locals kinds.Int (operands.Slot d) q frames k) (AheadStack g locals kinds.Int d q frames k)
     ValueStack g locals kind o p frames (Needs Decide ∷ k) =
         Yields ((d : ℕ) × (q : ℕ) × (o ≡ operands.Slot (top g k)) × TruthAt (code_of g) (bounds_at g) (types_on g k) (top g k) d p q
