@@ -10,5 +10,6 @@ pub mod Lengths
 pub mod Blocks
 pub mod OperandBridge
 pub mod ExpressionBridge
+pub mod ConditionBridge
 pub mod StatementBridge
 pub mod Bridge

@@ -7,6 +7,7 @@ pub mod CellLoads
 pub mod CellReads
 pub mod CellWrites
 pub mod WideCells
+pub mod WideLoads
 pub mod AddressSteps
 pub mod SwapSteps
 pub mod PlaceSteps

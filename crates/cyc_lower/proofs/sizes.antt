@@ -1,5 +1,6 @@
 -- the rest of the promise: the plain program is well formed, of words, and small
 pub mod RangeLemmas
+pub mod ValueRoom
 pub mod ValueRanges
 pub mod ExpressionRanges
 pub mod StatementRanges

@@ -31,7 +31,7 @@ use Rattle.cyc_meaning.specs.SourceMachine.{status_in}
 use Rattle.cyc_meaning.specs.Run.{is_within, limited_step}
 use Rattle.cyc_lower.specs.inside.ControlCode.{outside_loops}
 use Rattle.cyc_lower.specs.inside.Lowering.{lower_program, raises_of, globals_of, scopes_of}
-use Rattle.cyc_lower.proofs.relation.code.Stands.{ItemsAt}
+use Rattle.cyc_lower.proofs.relation.code.Statements.{ItemsAt}
 use Rattle.cyc_lower.specs.inside.Slots.{starts_of, slot_of, global_types}
 use Rattle.cyc_lower.proofs.slots.Slots.{slot-parameter, words-parameter, slot_types-many, words-append, kind-parameter}
 use Rattle.cyc_lower.proofs.slots.Widths.{kind_of_result, result_kind, same_kind, type_words, words_in, HasRoom, kind_in}
@@ -41,8 +41,10 @@ use Rattle.cyc_objects.specs.inside.Words.{Is}
 use Rattle.cyc_objects.specs.inside.Related.{scopes}
 use Rattle.cyc_objects.proofs.Values.{Grows-row, Grows-handle, Is-grows}
 use Rattle.cyc_lower.proofs.relation.contents.HeldValues.{IsIn, words_held, Holds, HoldsFrom, held, callers, homes, behind_records, row_of}
-use Rattle.cyc_lower.proofs.relation.simulation.Relation.{shared_seen, Shared, DataAt, DataIn, SharedAt, prints_only, gives_byte, StatementStack, LandsStack, PrintsStack, nowhere, behind_statement, Related, Matches, code_of}
-use Rattle.cyc_lower.proofs.relation.simulation.Relation.{types_in, types_at, starts_at, parameters_in, parameters_at, bounds_in, bounds_at, called_at, returned_at, base_of, top, in_place, floor, HandlersStand, CountsBy, call_slots}
+use Rattle.cyc_lower.proofs.relation.simulation.Relation.{DataIn, SharedAt, nowhere, behind_statement, Related, Matches, HandlersStand, CountsBy}
+use Rattle.cyc_lower.proofs.relation.simulation.Stacks.{DataAt, prints_only, gives_byte, StatementStack, LandsStack, PrintsStack, code_of, types_in, types_at, starts_at, parameters_in, parameters_at, bounds_in, bounds_at, called_at, returned_at, base_of, top, in_place, floor}
+use Rattle.cyc_lower.proofs.relation.simulation.Stacks.{call_slots}
+use Rattle.cyc_lower.proofs.relation.simulation.Shared.{shared_seen, Shared}
 use Rattle.cyc_lower.proofs.relation.contents.Data.{words-reverse, Holds-rest, in_order, arguments_copied, data_declared, data_called}
 use Rattle.cyc_lower.proofs.relation.contents.HandlerData.{calls_counted}
 use Rattle.cyc_lower.proofs.relation.contents.GrowingData.{data_grows, HoldsFrom-grows}

@@ -1,28 +1,23 @@
--- The steps of statements, and those that leave entries.
-use Rattle.std.proofs.Common.{◌≡◌, ◌≢◌, ℕ, zero, suc, ◌≤◌, ◌<◌, Bool, true, false, List, [], ◌∷◌, length, map, slice_index_or, Option, None, Some, slice_get, refl, sym, ap, subst, ◌∙◌, arith, inl, inr}
+-- The steps of statements, and of what leaves a loop.
+use Rattle.std.proofs.Common.{◌≡◌, ◌≢◌, ℕ, ◌<◌, Bool, true, false, List, [], ◌∷◌, length, Option, None, Some, slice_get, refl, sym, ap, subst, ◌∙◌, arith, inl, inr}
 use Rattle.std.specs.Prelude.{if◌then◌else◌}
 use Rattle.std.proofs.lemmas.Option.{same_Some, none-some}
-use Rattle.cyc_words.specs.Word.{signed}
-use Rattle.cyc_words.specs.Ending.{Returned}
 use Rattle.cyc_types.specs.declared.typed.Kind.{Kind}
 use Rattle.cyc_types.specs.Types.{Ty}
-use Rattle.cyc_types.specs.TypedTrees.{Expression, Convert, Statement, Block, Empty, Evaluate, If, While, Break, Continue, Items, NoItems, MoreItems, Execute, Declare, Function, Program, Swap, DeclareRegion, OpenRegion, DeclareAlias, DeclareKey}
+use Rattle.cyc_types.specs.TypedTrees.{Expression, Convert, Statement, Block, Empty, Evaluate, If, While, Break, Continue, Items, NoItems, MoreItems, Execute, Declare, Program, Swap, DeclareRegion, OpenRegion, DeclareAlias, DeclareKey}
 use Rattle.cyc_types.specs.TypedTrees as typed
 use Rattle.cyc_plain.specs.declared.instruction.Operand.{Operand}
 use Rattle.cyc_plain.specs.declared.instruction.Operand.TheVariants as operands
 use Rattle.cyc_plain.specs.declared.instruction.Instruction.{Instruction}
 use Rattle.cyc_plain.specs.declared.instruction.Instruction.TheVariants as instructions
-use Rattle.cyc_plain.specs.inside.Program.{no_routine, routine_at}
-use Rattle.cyc_store.specs.State.{StoreState}
 use Rattle.cyc_plain.specs.inside.State as plain
-use Rattle.cyc_plain.specs.inside.State.{Words, copied, Activation, Frame, Configuration, put}
-use Rattle.cyc_plain.specs.inside.Step.{Choice, at, performed, with_slots, advanced}
-use Rattle.cyc_plain.specs.inside.Step as plain_step
-use Rattle.cyc_plain.proofs.SlotLaws.{copied-below, put-same}
+use Rattle.cyc_plain.specs.inside.State.{Words, Frame, Configuration, put}
+use Rattle.cyc_plain.specs.inside.Step.{at, with_slots, advanced}
+use Rattle.cyc_plain.proofs.SlotLaws.{put-same}
 use Rattle.cyc_plain.specs.inside.Straight.{At}
-use Rattle.cyc_meaning.specs.Values.{Value, Int, kind_of, Operand as Kinded, words_of_kind}
+use Rattle.cyc_meaning.specs.Values.{kind_of}
 use Rattle.cyc_meaning.specs.State.{Access, Region, World, Environment, variable, made, opened, closed, with_local, region_at, ConvertTo, Initialise, Choose, Test, Return, Entry, Needs, NeedsPlace, Discard, Rest, Join}
-use Rattle.cyc_meaning.specs.State.{Loop, CloseRegion, CloseLexical, EndLoan, Handler, Caller, Main, Focus, Evaluating, Given, Executing, Proceeding, Breaking, Continuing, Returning, Running, Ended, State, Object}
+use Rattle.cyc_meaning.specs.State.{Loop, CloseRegion, CloseLexical, EndLoan, Handler, Caller, Main, Evaluating, Executing, Proceeding, Breaking, Continuing, Returning, Running, Object}
 use Rattle.cyc_meaning.specs.inside.Nesting.{IsNested}
 use Rattle.cyc_meaning.specs.Regions.{closing_lexical}
 use Rattle.cyc_meaning.specs.Step.{target_by, inside, region_end, step}
@@ -30,29 +25,24 @@ use Rattle.cyc_lower.specs.declared.statements.Exits.{Exits}
 use Rattle.cyc_lower.specs.inside.Slots.{slot_of}
 use Rattle.cyc_lower.proofs.slots.Slots.{slot-room, room-inside}
 use Rattle.cyc_lower.proofs.slots.Widths.{HasRoom, Outside, HasLocal, kind_in, kind_positive, keeps_whole}
-use Rattle.cyc_lower.proofs.relation.contents.Moves.{copied_is, copied_elsewhere, put_elsewhere}
+use Rattle.cyc_lower.proofs.relation.contents.Moves.{put_elsewhere}
 use Rattle.cyc_lower.specs.inside.ValueCode.{converts_there, keeps_words, span_of}
 use Rattle.cyc_lower.specs.inside.ControlCode.{break_target, continue_target, body_target, inside_loop}
 use Rattle.cyc_lower.specs.inside.ExpressionCode.{operand_of, value_slot, source_of}
-use Rattle.cyc_lower.specs.inside.Lowering.{scopes_of, results_of, lower_function, lower_program, globals_of}
-use Rattle.cyc_lower.proofs.relation.code.Stands.{OverAt, BranchesAt, OperandBy, ExpressionAt, InitialAt, InitialBy, ReturnedAt, ItemsAt, BlankAt, BroughtAt, ConversionAt}
+use Rattle.cyc_lower.proofs.relation.code.Stands.{OverAt, BranchesAt, OperandBy, ExpressionAt, InitialAt, InitialBy, ReturnedAt, BlankAt, BroughtAt, ConversionAt}
+use Rattle.cyc_lower.proofs.relation.code.Statements.{ItemsAt}
 use Rattle.cyc_objects.specs.inside.Tables.{Tables, with_row, with_handle, Row}
-use Rattle.cyc_objects.specs.inside.Related.{scopes}
-use Rattle.cyc_objects.specs.inside.Words.{Is}
 use Rattle.cyc_objects.proofs.Values.{Grows-row, Grows-handle}
 use Rattle.cyc_lower.proofs.relation.contents.Sharing.{shared_declared, row_declared, shared_opened, shared_closed}
-use Rattle.cyc_lower.proofs.relation.contents.HeldValues.{kept, Holds, held, callers, homes, behind_records, row_of, IsLocalRow}
-use Rattle.cyc_lower.proofs.relation.simulation.Relation.{shared_seen, CountsBy, opened_by, types_on, starts_on, types_at, starts_at, returned_at, Shared, DataAt, SharedAt, in_temporary, in_local, ValueStack}
-use Rattle.cyc_lower.proofs.relation.simulation.Relation.{AheadStack, StatementStack, LandsStack, LoopAt, Related, EvaluatingAt, as_operand, for_effect, as_condition, in_operand, ahead, behind_statement, behind_call}
-use Rattle.cyc_lower.proofs.relation.simulation.Relation.{behind_wrong, Below, IsLast, Arrives, in_place, by_jump, code_of, bounds_in, bounds_at, top, by_jumps, HandlersStand, DataIn, Matches, floor, call_slots}
-use Rattle.cyc_lower.proofs.relation.contents.Data.{height-least, Holds-same, Holds-above, data_declared, data_returned, held_by_caller}
-use Rattle.cyc_lower.proofs.relation.contents.HandlerData.{floor-least, handlers_same, calls_counted, handlers_beside}
+use Rattle.cyc_lower.proofs.relation.contents.HeldValues.{Holds, held, callers, row_of, IsLocalRow}
+use Rattle.cyc_lower.proofs.relation.simulation.Relation.{SharedAt, Related, EvaluatingAt, as_operand, for_effect, as_condition, behind_statement, behind_call, behind_wrong, DataIn}
+use Rattle.cyc_lower.proofs.relation.simulation.Stacks.{opened_by, types_on, starts_on, types_at, starts_at, DataAt, ValueStack, AheadStack, StatementStack, LoopAt, Arrives, in_place, by_jump, code_of, bounds_at, top, by_jumps, floor, call_slots}
+use Rattle.cyc_lower.proofs.relation.contents.Data.{data_declared}
+use Rattle.cyc_lower.proofs.relation.contents.HandlerData.{handlers_beside}
 use Rattle.cyc_lower.proofs.relation.contents.GrowingData.{data_grows}
-use Rattle.cyc_lower.proofs.value_steps.ValueWords.{int_at}
 use Rattle.cyc_lower.proofs.relation.simulation.Accesses.{IsWell, is_declared, is_closed, home_there}
 use Rattle.cyc_lower.proofs.place_steps.SwapSteps.{begins_swap}
 use Rattle.cyc_lower.proofs.relation.simulation.Weights.{weight}
-use Rattle.cyc_lower.proofs.object_steps.Handles.{kept_holds}
 use Rattle.cyc_lower.proofs.handler_steps.Handling.{leaving, shared_leaving, record_left}
 use Rattle.cyc_lower.proofs.region_steps.WaysOut.{leaves_region}
 use Rattle.cyc_lower.proofs.relation.simulation.Matched.{IsMatched, silently, by_one, by_two}
@@ -62,26 +52,9 @@ use Rattle.cyc_lower.proofs.value_steps.Beginnings.{sources}
 use Rattle.cyc_lower.proofs.region_steps.RegionSteps.{local_there, opens_region, opens_by, aliases_local, declares_key, closes_region, ends_loan}
 use Rattle.cyc_lower.proofs.relation.places.Rows.{row-fits, row-variable, char_row}
 use Rattle.cyc_types.specs.declared.typed.Kind.TheVariants as kinds
+use Rattle.cyc_lower.proofs.call_steps.Returns.{leaves_call}
 
 module _ (source : Program) (pages calls : ℕ) where
-  -- ---- calls
-
-  -- one call less waits
-  abbrev pub shared_returned : (w : World) (regions : List ℕ) (counting : Type 0) (output input : List ℕ) (store : StoreState) (home waiting : ℕ) → Shared pages calls w (home ∷ regions) counting output input store (suc waiting)
-      → Shared pages calls w regions counting output input store waiting
-  shared_returned w regions counting output input store home waiting s = record {
-    tables = s.tables;
-    same_output = s.same_output;
-    same_input = s.same_input;
-    same_pages = s.same_pages;
-    related = s.related;
-    globals = s.globals;
-    variables = s.variables.1;
-    few_pages = s.few_pages;
-    fits = omega (arith, s.fits);
-    counters = s.counters;
-  }
-
   -- ---- statements
 
   -- a value that is returned comes to a slot, or is in that of a local
@@ -182,115 +155,7 @@ module _ (source : Program) (pages calls : ℕ) where
   executing (typed.Throw tag (Some a)) k e w c nested well related = throws_some source pages calls tag a k e w c well related
   executing (typed.Try s handler) k e w c nested well related = begins source pages calls s handler k e w c nested well related
 
-  -- ---- the end of a call
-
-  -- what a caller has waits behind the call
-  abbrev pub Waits : Kind → Environment → List Entry → Frame → List Frame → Type 0
-  Waits kind outer k f rest = LandsStack source f.caller.function outer.locals kind f.result f.caller.next rest k
-
-  -- the caller goes on behind the call, with a temporary written
-  comes_back : (t : Tables) (g from value results : ℕ) (slots globals : Words) (f : Frame) (frames : List Frame) (k : List Entry) (locals : ℕ → Option ℕ) (outer : Environment) (w : World)
-      → DataAt source t g from w.objects locals (callers (Caller outer ∷ k)) slots globals (f ∷ frames)
-      → HandlersStand source f.caller.function f.caller.slots f.caller.handlers frames k
-      → top source f.caller.function k ≤ f.result
-      → (DataAt source t f.caller.function f.caller.base w.objects outer.locals (callers k) (copied slots value results f.caller.slots f.result) globals frames
-      × HandlersStand source f.caller.function (copied slots value results f.caller.slots f.result) f.caller.handlers frames k)
-      × Holds t (copied slots value results f.caller.slots f.result) (floor source f.caller.function k) (held k)
-  comes_back t g from value results slots globals f frames k locals outer w facts stand least =
-      let now = copied slots value results f.caller.slots f.result in
-      let base = floor source f.caller.function k in
-      let holds = held_by_caller t source g from w.objects locals (record { locals = outer.locals; temporaries = behind_records k; values = held k }) (callers k) slots globals f frames facts in (
-        (
-          data_returned t source g from w.objects locals (record { locals = outer.locals; temporaries = behind_records k; values = held k }) (callers k) slots now globals f frames
-              (λ n less. copied-below slots f.caller.slots value results f.result n (omega (arith, less, least, height-least base (held k), floor-least source f.caller.function k))) facts,
-          handlers_same source f.caller.function f.caller.slots now f.caller.handlers frames k
-              (λ n from less. copied-below slots f.caller.slots value results f.result n (omega (arith, less, least, height-least base (held k)))) stand,
-        ),
-        Holds-same t f.caller.slots (copied slots value results f.caller.slots f.result) base (held k)
-            (λ n less. copied-below slots f.caller.slots value results f.result n (omega (arith, less, least))) holds,
-      )
-
-  -- no handler of the call is open then
-  finished : (next : State) (c : Configuration) (s : ℕ) (choice : Choice) → c.active.handlers ≡ []
-      → Matches source pages calls next (plain_step.returns c s (routine_at (lower_program source) c.active.function).results c.frames)
-      → Matches source pages calls next (performed (lower_program source) choice c (instructions.Finish s))
-  finished next c s choice none m =
-      subst (λ (handlers : List plain.Handler). Matches source pages calls next (plain_step.finishes c s (routine_at (lower_program source) c.active.function).results handlers)) (sym none) m
-
-  -- without a value
-  leaves_call : (focus : Focus) (active : Activation) (frames : List Frame) (globals : Words) (store : StoreState) (output input : List ℕ) (k : List Entry) (e outer : Environment) (w : World) (s : ℕ)
-      → step source (Running focus (Caller outer ∷ k) e w) ≡ Running Proceeding k outer w
-      → (shared : SharedAt source pages calls (Caller outer ∷ k) e w (record { active = active; frames = frames; globals = globals; store = store; output = output; input = input }))
-      → DataAt source shared.tables active.function active.base w.objects e.locals (callers (Caller outer ∷ k)) active.slots globals frames × HandlersStand source active.function active.slots active.handlers frames (Caller outer ∷ k)
-      → At (code_of source active.function) active.next (instructions.Finish s)
-      → Below source frames (Waits (returned_at source active.function) outer k)
-      → IsMatched source pages calls (Running focus (Caller outer ∷ k) e w) (plain.Running (record { active = active; frames = frames; globals = globals; store = store; output = output; input = input }))
-  leaves_call focus active [] globals store output input k e outer w s does shared facts here below = absurd below
-  leaves_call focus active (f ∷ frames) globals store output input k e outer w s does shared (facts, (none, stand)) here (in_temporary least stack) =
-      let c : Configuration = record { active = active; frames = f ∷ frames; globals = globals; store = store; output = output; input = input } in
-      let results = (routine_at (lower_program source) active.function).results in
-      let back = comes_back shared.tables active.function active.base s results active.slots globals f frames k e.locals outer w facts stand least in
-      by_one source pages calls does shared here
-      (λ choice. finished (Running Proceeding k outer w) c s choice none
-      (shared_returned w (outer.home ∷ homes k) (CountsBy source None outer k store (scopes w.regions)) output input store e.home (length frames) shared, behind_call (returned_at source active.function) (operands.Slot f.result) back.0 stack))
-  leaves_call focus active (f ∷ frames) globals store output input k e outer w s does shared (facts, (none, stand)) here (in_local below stack) =
-      let c : Configuration = record { active = active; frames = f ∷ frames; globals = globals; store = store; output = output; input = input } in
-      by_one source pages calls does shared here
-      (λ choice. finished (Running Proceeding k outer w) c s choice none
-      (shared_returned w (outer.home ∷ homes k) (CountsBy source None outer k store (scopes w.regions)) output input store e.home (length frames) shared, behind_wrong (returned_at source active.function) f.result (calls_counted source f.caller.function f.caller.slots f.caller.handlers frames k stand) stack))
-
-  -- with a value
-  hands_back : (v : Kinded) (active : Activation) (frames : List Frame) (globals : Words) (store : StoreState) (output input : List ℕ) (k : List Entry) (e outer : Environment) (w : World) (s : ℕ)
-      → (shared : SharedAt source pages calls (Caller outer ∷ k) e w (record { active = active; frames = frames; globals = globals; store = store; output = output; input = input }))
-      → DataAt source shared.tables active.function active.base w.objects e.locals (callers (Caller outer ∷ k)) active.slots globals frames × HandlersStand source active.function active.slots active.handlers frames (Caller outer ∷ k)
-      → At (code_of source active.function) active.next (instructions.Finish s) → Is shared.tables v.kind v.value active.slots s → (routine_at (lower_program source) active.function).results ≡ words_of_kind v.kind
-      → Below source frames (Waits v.kind outer k)
-      → IsMatched source pages calls (Running (Returning (Some v)) (Caller outer ∷ k) e w) (plain.Running (record { active = active; frames = frames; globals = globals; store = store; output = output; input = input }))
-  hands_back v active [] globals store output input k e outer w s shared facts here is wide below = absurd below
-  hands_back v active (f ∷ frames) globals store output input k e outer w s shared (facts, (none, stand)) here is wide (in_temporary least stack) =
-      let c : Configuration = record { active = active; frames = f ∷ frames; globals = globals; store = store; output = output; input = input } in
-      let results = (routine_at (lower_program source) active.function).results in
-      let back = comes_back shared.tables active.function active.base s results active.slots globals f frames k e.locals outer w facts stand least in
-      by_one source pages calls refl shared here
-      (λ choice. finished (Running (Given v) k outer w) c s choice none (
-        shared_returned w (outer.home ∷ homes k) (CountsBy source None outer k store (scopes w.regions)) output input store e.home (length frames) shared,
-        in_operand (operands.Slot f.result) back.0 (copied_is shared.tables v active.slots f.caller.slots s results f.result (omega (arith, wide)) is) (kept_holds _ _ _ k back.1) stack,
-      ))
-  hands_back v active (f ∷ frames) globals store output input k e outer w s shared (facts, (none, stand)) here is wide (in_local below stack) =
-      let c : Configuration = record { active = active; frames = f ∷ frames; globals = globals; store = store; output = output; input = input } in
-      let results = (routine_at (lower_program source) active.function).results in
-      let base = floor source f.caller.function k in
-      let d = f.result in
-      let holds = held_by_caller shared.tables source active.function active.base w.objects e.locals (record { locals = outer.locals; temporaries = behind_records k; values = held k }) (callers k) active.slots globals f frames facts in
-      let now = copied active.slots s results f.caller.slots d in
-      let elsewhere : (n : ℕ) → Outside d (words_of_kind v.kind) n → now n ≡ f.caller.slots n =
-      λ n out. copied_elsewhere active.slots f.caller.slots s results d n (subst (λ many. Outside d many n) (sym wide) out) in
-      by_one source pages calls refl shared here
-      (λ choice. finished (Running (Given v) k outer w) c s choice none (
-        shared_returned w (outer.home ∷ homes k) (CountsBy source None outer k store (scopes w.regions)) output input store e.home (length frames) shared,
-        ahead d (
-          f.caller.slots,
-          λ n out. sym (elsewhere n out),
-          (
-            data_returned shared.tables source active.function active.base w.objects e.locals (record { locals = outer.locals; temporaries = behind_records k; values = held k }) (callers k) active.slots f.caller.slots globals f frames (λ n less. refl) facts,
-            stand,
-          ),
-        )
-            (copied_is shared.tables v active.slots f.caller.slots s results d (omega (arith, wide)) is)
-            (Holds-above shared.tables f.caller.slots now base (kept k) (λ n from. elsewhere n (inr (omega (arith, from, below, floor-least source f.caller.function k)))) (kept_holds _ _ _ k holds))
-            stack,
-      ))
-
   -- ---- what goes on when something is done
-
-  -- what the instructions of a function return is what its bounds say
-  results_in : (hs : List Function) (g : ℕ) → (slice_index_or (map (lower_function source.structs (globals_of source) (scopes_of source)) hs) g no_routine).results ≡ results_of (bounds_in source (slice_get hs g)).result
-  results_in [] g = refl
-  results_in (h ∷ hs) zero = refl
-  results_in (h ∷ hs) (suc g) = results_in hs g
-
-  results_at : (g : ℕ) → (routine_at (lower_program source) g).results ≡ results_of (bounds_at source g).result
-  results_at g = results_in source.functions g
 
   declares : (n : ℕ) (t : Ty) (js : Items) (k : List Entry) (e : Environment) (w : World) (c : Configuration) (exits : Exits) (m q : ℕ)
       → IsWell (step source (Running Proceeding (Rest (MoreItems (Declare n t None) js) ∷ k) e w))
@@ -439,7 +304,7 @@ module _ (source : Program) (pages calls : ℕ) where
       (shared_closed source None pages calls k e w c region home found.region found.there shared) facts comes stack
   after_statement (Handler handler ∷ k) e w c exits nested well shared facts stack = ends source pages calls handler k e w c exits shared facts stack
   after_statement (Caller outer ∷ k) e w c exits nested well shared facts (s, here, outside, below) =
-      leaves_call Proceeding c.active c.frames c.globals c.store c.output c.input k e outer w s refl shared facts here below
+      leaves_call source pages calls Proceeding c.active c.frames c.globals c.store c.output c.input k e outer w s refl shared facts here below
   after_statement (CloseLexical region ∷ k) e w c exits nested well shared facts stack = closes_region source pages calls region k e w c exits shared facts nested stack
   after_statement (EndLoan lent ∷ k) e w c exits nested well shared facts stack = ends_loan source pages calls lent k e w c exits shared facts stack
   after_statement (Main ∷ k) e w c exits nested well shared facts stack = absurd (well refl)
@@ -542,81 +407,3 @@ module _ (source : Program) (pages calls : ℕ) where
       (shared, facts, r, marks, marked, (outer, u, subst (λ n. At (code_of source c.active.function) r (instructions.Jump n)) (ap continue_target is) here, stack))
       (omega arith)
   continuing (Main ∷ k) e w c nested well related = absurd (well refl)
-
-  -- ---- returns
-
-  -- `main` returns, and no call waits
-  ends_main : (i : Kind) (v : Value) (active : Activation) (frames : List Frame) (globals : Words) (store : StoreState) (output input : List ℕ) (k : List Entry) (e : Environment) (w : World) (s : ℕ)
-      → IsWell (step source (Running (Returning (Some (record { kind = i; value = v }))) (Main ∷ k) e w))
-      → (shared : SharedAt source pages calls (Main ∷ k) e w (record { active = active; frames = frames; globals = globals; store = store; output = output; input = input }))
-      → active.handlers ≡ [] → At (code_of source active.function) active.next (instructions.Finish s) → Is shared.tables i v active.slots s → IsLast source frames k
-      → IsMatched source pages calls (Running (Returning (Some (record { kind = i; value = v }))) (Main ∷ k) e w) (plain.Running (record { active = active; frames = frames; globals = globals; store = store; output = output; input = input }))
-  ends_main i (Int a) active [] globals store output input [] e w s well shared closed here is last =
-      by_one source pages calls refl shared here
-      (λ choice. finished (Ended (Returned (signed a)) w.output w.input) (record { active = active; frames = []; globals = globals; store = store; output = output; input = input }) s choice closed
-      (ap (λ x. Returned (signed x)) (int_at shared.tables i a active.slots s is), shared_seen shared))
-  ends_main i (Int a) active [] globals store output input (entry ∷ k) e w s well shared closed here is last = absurd last
-  ends_main i (Int a) active (f ∷ frames) globals store output input k e w s well shared closed here is last = absurd last
-  ends_main i v active frames globals store output input k e w s well shared closed here is last = absurd (well refl)
-
-  returning_none : (k : List Entry) (e : Environment) (w : World) (c : Configuration) → IsNested k e w → IsStep source pages calls (Returning None) k e w c
-  returning_none [] e w c nested well related = absurd (well refl)
-  returning_none (Needs a ∷ k) e w c nested well (shared, facts, r, marks, marked, (exits, q, s, here, stack)) = absurd stack
-  returning_none (Discard ∷ k) e w c nested well (shared, facts, r, marks, marked, (exits, q, s, here, stack)) = absurd stack
-  returning_none (Rest js ∷ k) e w c nested well (shared, facts, r, marks, marked, (exits, q, s, here, (u, items, stack))) =
-      silently source pages calls (Running (Returning None) (Rest js ∷ k) e w) (Running (Returning None) k e w) (plain.Running c) refl (shared, facts, r, marks, marked, (exits, u, s, here, stack)) (omega arith)
-  returning_none (Join ∷ k) e w c nested well (shared, facts, r, marks, marked, (exits, q, s, here, (u, arrives, stack))) =
-      silently source pages calls (Running (Returning None) (Join ∷ k) e w) (Running (Returning None) k e w) (plain.Running c) refl (shared, facts, r, marks, marked, (exits, u, s, here, stack)) (omega arith)
-  returning_none (Loop a b ∷ k) e w c nested well (shared, facts, r, marks, marked, (exits, q, s, here, (outer, u, around, stack))) =
-      silently source pages calls (Running (Returning None) (Loop a b ∷ k) e w) (Running (Returning None) k e w) (plain.Running c) refl (shared, facts, r, marks, marked, (outer, u, s, here, stack)) (omega arith)
-  returning_none (CloseRegion region home ∷ k) e w c nested well (shared, facts, r, marks, marked, (exits, q, s, here, (u, comes, stack))) =
-      let found = is_closed (Returning None) region home k e w well in
-      silently source pages calls (Running (Returning None) (CloseRegion region home ∷ k) e w) (Running (Returning None) k (record e { home = home }) (closed w region found.region)) (plain.Running c) found.gives
-      (shared_closed source (opened_by source false c.active.function k).mark pages calls k e w c region home found.region found.there shared, facts, r, marks, marked, (exits, u, s, here, stack))
-      (omega arith)
-  returning_none (Caller outer ∷ k) e w c nested well (shared, facts, r, end, marked, (exits, q, s, here, (u, last, outside, below))) =
-      leaves_call (Returning None) c.active c.frames c.globals c.store c.output c.input k e outer w s refl shared facts
-      (subst (λ n. At (code_of source c.active.function) n (instructions.Finish s)) (sym end) here) below
-  returning_none (NeedsPlace a ∷ k) e w c nested well (shared, facts, r, marks, marked, (exits, q, s, here, stack)) = absurd stack
-  returning_none (CloseLexical region ∷ k) e w c nested well (shared, facts, r, marks, marked, (exits, q, s, here, (outer, u, is_inside, closing, stack))) =
-      leaves_region source pages calls false (Returning None) region k e w c (λ r found. ap (λ (a : Access Region). closing_lexical a (Returning None) region k e w) found) (λ v. omega arith) (λ v d leaves. leaves) nested shared facts r marks marked
-      (outer, u, s, here, stack)
-  returning_none (EndLoan lent ∷ k) e w c nested well (shared, facts, r, marks, marked, (exits, q, s, here, stack)) =
-      silently source pages calls (Running (Returning None) (EndLoan lent ∷ k) e w) (Running (Returning None) k e w) (plain.Running c) refl (shared, facts, r, marks, marked, (exits, q, s, here, stack)) (omega arith)
-  returning_none (Handler handler ∷ k) e w c nested well (shared, facts, r, marks, marked, (exits, q, s, here, (outer, u, is_inside, leave, over, stack))) =
-      silently source pages calls (Running (Returning None) (Handler handler ∷ k) e w) (Running (Returning None) k e w) (plain.Running c) refl (shared, facts, r, marks, marked, (outer, u, s, here, stack)) (omega arith)
-  returning_none (Main ∷ k) e w c nested well related = absurd (well refl)
-
-  returning_some : (v : Kinded) (k : List Entry) (e : Environment) (w : World) (c : Configuration) → IsNested k e w → IsStep source pages calls (Returning (Some v)) k e w c
-  returning_some v [] e w c nested well related = absurd (well refl)
-  returning_some v (Needs a ∷ k) e w c nested well (shared, facts, r, marks, marked, (exits, q, s, here, is, single, stack)) = absurd stack
-  returning_some v (Discard ∷ k) e w c nested well (shared, facts, r, marks, marked, (exits, q, s, here, is, single, stack)) = absurd stack
-  returning_some v (Rest js ∷ k) e w c nested well (shared, facts, r, marks, marked, (exits, q, s, here, is, single, (u, items, stack))) =
-      silently source pages calls (Running (Returning (Some v)) (Rest js ∷ k) e w) (Running (Returning (Some v)) k e w) (plain.Running c) refl (shared, facts, r, marks, marked, (exits, u, s, here, is, single, stack)) (omega arith)
-  returning_some v (Join ∷ k) e w c nested well (shared, facts, r, marks, marked, (exits, q, s, here, is, single, (u, arrives, stack))) =
-      silently source pages calls (Running (Returning (Some v)) (Join ∷ k) e w) (Running (Returning (Some v)) k e w) (plain.Running c) refl (shared, facts, r, marks, marked, (exits, u, s, here, is, single, stack)) (omega arith)
-  returning_some v (Loop a b ∷ k) e w c nested well (shared, facts, r, marks, marked, (exits, q, s, here, is, single, (outer, u, around, stack))) =
-      silently source pages calls (Running (Returning (Some v)) (Loop a b ∷ k) e w) (Running (Returning (Some v)) k e w) (plain.Running c) refl (shared, facts, r, marks, marked, (outer, u, s, here, is, single, stack)) (omega arith)
-  returning_some v (CloseRegion region home ∷ k) e w c nested well (shared, facts, r, marks, marked, (exits, q, s, here, is, single, (u, comes, stack))) =
-      let found = is_closed (Returning (Some v)) region home k e w well in
-      silently source pages calls (Running (Returning (Some v)) (CloseRegion region home ∷ k) e w) (Running (Returning (Some v)) k (record e { home = home }) (closed w region found.region)) (plain.Running c) found.gives
-      (shared_closed source (opened_by source false c.active.function k).mark pages calls k e w c region home found.region found.there shared, facts, r, marks, marked, (exits, u, s, here, is, single, stack))
-      (omega arith)
-  returning_some v (Caller outer ∷ k) e w c nested well (shared, facts, r, end, marked, (exits, q, s, here, is, single, (u, last, outside, below))) =
-      hands_back v c.active c.frames c.globals c.store c.output c.input k e outer w s shared facts (subst (λ n. At (code_of source c.active.function) n (instructions.Finish s)) (sym end) here) is
-      (results_at c.active.function ∙ single.0) (subst (λ i. Below source c.frames (Waits i outer k)) (sym single.1) below)
-  returning_some v (NeedsPlace a ∷ k) e w c nested well (shared, facts, r, marks, marked, (exits, q, s, here, is, single, stack)) = absurd stack
-  returning_some v (CloseLexical region ∷ k) e w c nested well (shared, facts, r, marks, marked, (exits, q, s, here, is, single, (outer, u, is_inside, closing, stack))) =
-      leaves_region source pages calls false (Returning (Some v)) region k e w c (λ r found. ap (λ (a : Access Region). closing_lexical a (Returning (Some v)) region k e w) found) (λ v. omega arith) (λ v d leaves. leaves) nested shared facts r marks marked
-      (outer, u, s, here, is, single, stack)
-  returning_some v (EndLoan lent ∷ k) e w c nested well (shared, facts, r, marks, marked, (exits, q, s, here, is, single, stack)) =
-      silently source pages calls (Running (Returning (Some v)) (EndLoan lent ∷ k) e w) (Running (Returning (Some v)) k e w) (plain.Running c) refl (shared, facts, r, marks, marked, (exits, q, s, here, is, single, stack)) (omega arith)
-  returning_some v (Handler handler ∷ k) e w c nested well (shared, facts, r, marks, marked, (exits, q, s, here, is, single, (outer, u, is_inside, leave, over, stack))) =
-      silently source pages calls (Running (Returning (Some v)) (Handler handler ∷ k) e w) (Running (Returning (Some v)) k e w) (plain.Running c) refl (shared, facts, r, marks, marked, (outer, u, s, here, is, single, stack)) (omega arith)
-  returning_some v (Main ∷ k) e w c nested well (shared, facts, r, end, marked, (exits, q, s, here, is, single, (u, last, outside, none))) =
-      ends_main v.kind v.value c.active c.frames c.globals c.store c.output c.input k e w s well shared facts.1.0
-      (subst (λ n. At (code_of source c.active.function) n (instructions.Finish s)) (sym end) here) is none
-
-  pub returning : (v : Option Kinded) (k : List Entry) (e : Environment) (w : World) (c : Configuration) → IsNested k e w → IsStep source pages calls (Returning v) k e w c
-  returning None k e w c nested well related = returning_none k e w c nested well related
-  returning (Some v) k e w c nested well related = returning_some v k e w c nested well related

@@ -14,10 +14,10 @@ use Rattle.cyc_lower.specs.inside.Slots.{starts_of, global_types}
 use Rattle.cyc_lower.specs.inside.ValueCode.{first_temporary, blocks}
 use Rattle.cyc_lower.specs.inside.ControlCode.{outside_loops}
 use Rattle.cyc_lower.specs.inside.Lowering.{types_of, farthest, function_code, lower_function, lower_program, body_code, globals_of, scopes_of}
-use Rattle.cyc_lower.proofs.relation.code.Stands.{ItemsAt}
+use Rattle.cyc_lower.proofs.relation.code.Statements.{ItemsAt}
 use Rattle.cyc_lower.proofs.emission.Lengths.{body_long}
 use Rattle.cyc_lower.proofs.relation.code.Fitting.{FitItems, AreFitting, IsFitting}
-use Rattle.cyc_lower.proofs.relation.simulation.Relation.{bounds_in, types_in}
+use Rattle.cyc_lower.proofs.relation.simulation.Stacks.{bounds_in, types_in}
 use Rattle.cyc_lower.proofs.call_steps.Calls.{FunctionsStand}
 use Rattle.cyc_lower.proofs.emission.Blocks.{blocks_stand}
 use Rattle.cyc_lower.proofs.emission.StatementBridge.{items_stand}

@@ -44,10 +44,12 @@ use Rattle.cyc_objects.proofs.Values.{Is-grows, Grows-row, Grows-handle}
 use Rattle.cyc_lower.proofs.slots.Slots.{slot-room, room-inside}
 use Rattle.cyc_lower.proofs.slots.Widths.{kind_positive, HasRoom, Outside}
 use Rattle.cyc_lower.proofs.relation.contents.Moves.{moved_slots, put_elsewhere, moves, moved_is, moved_elsewhere}
-use Rattle.cyc_lower.proofs.relation.code.Stands.{CaughtAt, ItemsAt, ClausesAt, KeptAt, RestoredAt}
+use Rattle.cyc_lower.proofs.relation.code.Statements.{CaughtAt, ItemsAt, ClausesAt, KeptAt, RestoredAt}
 use Rattle.cyc_lower.proofs.relation.contents.Sharing.{shared_less, shared_declared, row_declared, shared_opened, shared_closed, shared_left}
 use Rattle.cyc_lower.proofs.relation.contents.HeldValues.{behind_records, scopes_in, MayBeOpen, IsKept, IsIntact, held, callers, row_of}
-use Rattle.cyc_lower.proofs.relation.simulation.Relation.{seen_in, shared_seen, HasScopes, SharedBy, HandlersStand, DataIn, types_at, starts_at, SharedAt, StatementStack, Matches, as_operand, behind_statement, in_place, by_jumps, code_of, bounds_at, floor, Arrives, DataAt, call_slots}
+use Rattle.cyc_lower.proofs.relation.simulation.Relation.{SharedBy, HandlersStand, DataIn, SharedAt, Matches, as_operand, behind_statement}
+use Rattle.cyc_lower.proofs.relation.simulation.Stacks.{types_at, starts_at, StatementStack, in_place, by_jumps, code_of, bounds_at, floor, Arrives, DataAt, call_slots}
+use Rattle.cyc_lower.proofs.relation.simulation.Shared.{seen_in, shared_seen, HasScopes}
 use Rattle.cyc_lower.proofs.relation.contents.HandlerData.{handlers_beside, data_written}
 use Rattle.cyc_lower.proofs.relation.contents.Data.{data_declared, data_returned}
 use Rattle.cyc_lower.proofs.relation.contents.GrowingData.{data_grows}

@@ -18,9 +18,11 @@ use Rattle.cyc_lower.specs.declared.statements.Opened.{Opened}
 use Rattle.cyc_lower.specs.inside.ControlCode.{outermost, with_handler, with_mark}
 use Rattle.cyc_lower.specs.inside.Lowering.{scopes_of}
 use Rattle.cyc_lower.proofs.relation.simulation.Weights.{weight}
-use Rattle.cyc_lower.proofs.relation.code.Stands.{HandlersAt, MarksAt}
+use Rattle.cyc_lower.proofs.relation.code.Statements.{HandlersAt, MarksAt}
 use Rattle.cyc_lower.proofs.relation.contents.HeldValues.{IsIntact, left_by, scopes_in, MayBeOpen, Newest}
-use Rattle.cyc_lower.proofs.relation.simulation.Relation.{HandlersStand, SharedAt, SharedBy, StatementStack, Related, Matches, code_of, bounds_at, types_at, floor, IsMark, HasScopes, opened_by, CaughtBy, DataIn}
+use Rattle.cyc_lower.proofs.relation.simulation.Relation.{HandlersStand, SharedAt, SharedBy, Related, Matches, IsMark, CaughtBy, DataIn}
+use Rattle.cyc_lower.proofs.relation.simulation.Stacks.{StatementStack, code_of, bounds_at, types_at, floor, opened_by}
+use Rattle.cyc_lower.proofs.relation.simulation.Shared.{HasScopes}
 use Rattle.cyc_lower.proofs.relation.contents.Sharing.{shared_ahead}
 use Rattle.cyc_lower.proofs.relation.contents.HandlerData.{calls_counted, record_below}
 use Rattle.cyc_lower.proofs.relation.simulation.Matched.{IsMatched, silently, by_one}

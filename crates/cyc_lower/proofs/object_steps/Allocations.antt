@@ -42,7 +42,9 @@ use Rattle.cyc_objects.proofs.Making.{open-home, allocated, allocated-unique, re
 use Rattle.cyc_lower.proofs.slots.Widths.{kind_positive, wide_kind, Outside}
 use Rattle.cyc_lower.proofs.relation.code.Stands.{StoresAt, CellsAt, ObjectAt}
 use Rattle.cyc_lower.proofs.relation.contents.HeldValues.{IsWord, IsIn, IsObject, words_held, Holds, HoldsFrom, held, callers, homes, IsHandleOf, HasHandle, contents}
-use Rattle.cyc_lower.proofs.relation.simulation.Relation.{types_on, silent, DataIn, SharedAt, LandsMade, ValueStack, Matches, code_of, bounds_at, top, floor, base_of}
+use Rattle.cyc_lower.proofs.relation.simulation.Relation.{DataIn, SharedAt, Matches}
+use Rattle.cyc_lower.proofs.relation.simulation.Stacks.{types_on, LandsMade, ValueStack, code_of, bounds_at, top, floor, base_of}
+use Rattle.cyc_lower.proofs.relation.simulation.Shared.{silent}
 use Rattle.cyc_lower.proofs.object_steps.Handles.{has_handle}
 use Rattle.cyc_lower.proofs.relation.contents.Data.{Is-same, height-least, one_word, Holds-same, Holds-rest, in_order, contents_made, Holds-above}
 use Rattle.cyc_lower.proofs.relation.contents.HandlerData.{data_written, floor-least}

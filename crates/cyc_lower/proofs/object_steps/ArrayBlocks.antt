@@ -45,7 +45,8 @@ use Rattle.cyc_lower.proofs.slots.Widths.{Outside}
 use Rattle.cyc_lower.proofs.relation.code.Stands.{BegunAt, ElementsAt, SizedAt}
 use Rattle.cyc_lower.proofs.object_steps.Handles.{has_handle}
 use Rattle.cyc_lower.proofs.relation.contents.HeldValues.{IsIn, Holds, held, callers, counters_of, IsHandleOf, homes, contents}
-use Rattle.cyc_lower.proofs.relation.simulation.Relation.{DataIn, SharedAt, LandsMade, ValueStack, Matches, code_of, bounds_at, types_on, floor, top}
+use Rattle.cyc_lower.proofs.relation.simulation.Relation.{DataIn, SharedAt, Matches}
+use Rattle.cyc_lower.proofs.relation.simulation.Stacks.{LandsMade, ValueStack, code_of, bounds_at, types_on, floor, top}
 use Rattle.cyc_lower.proofs.relation.contents.Data.{height-least, Holds-same, contents_made}
 use Rattle.cyc_lower.proofs.relation.contents.HandlerData.{data_written}
 use Rattle.cyc_lower.proofs.relation.contents.GrowingData.{Holds-grows, data_grows, variables_grow}

@@ -33,7 +33,9 @@ use Rattle.cyc_lower.specs.inside.Lowering.{lower_program}
 use Rattle.cyc_lower.proofs.slots.Widths.{Outside, same_kind, wide_kind}
 use Rattle.cyc_lower.proofs.relation.code.Stands.{CopyBy, ElementsAt, StoresAt}
 use Rattle.cyc_lower.proofs.relation.contents.HeldValues.{IsWord, IsIn, Holds, held, callers, counters_of, arrays_in}
-use Rattle.cyc_lower.proofs.relation.simulation.Relation.{silent, DataIn, SharedAt, in_temporary, into_slot, LandsMade, ValueStack, Matches, code_of, bounds_at, types_on, floor, top, base_of}
+use Rattle.cyc_lower.proofs.relation.simulation.Relation.{DataIn, SharedAt, into_slot, Matches}
+use Rattle.cyc_lower.proofs.relation.simulation.Stacks.{in_temporary, LandsMade, ValueStack, code_of, bounds_at, types_on, floor, top, base_of}
+use Rattle.cyc_lower.proofs.relation.simulation.Shared.{silent}
 use Rattle.cyc_lower.proofs.relation.contents.Data.{Is-same, height-least, one_word, Holds-same, Holds-above, newest_there}
 use Rattle.cyc_lower.proofs.relation.contents.HandlerData.{data_written, floor-least}
 use Rattle.cyc_lower.proofs.relation.simulation.Accesses.{IsWell, is_fitting}

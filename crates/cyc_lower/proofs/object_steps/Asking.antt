@@ -21,7 +21,9 @@ use Rattle.cyc_meaning.specs.Step.{step}
 use Rattle.cyc_meaning.specs.Run.{is_within, limited_step}
 use Rattle.cyc_plain.proofs.Straight.{behind-distinct}
 use Rattle.cyc_lower.specs.inside.Lowering.{lower_program}
-use Rattle.cyc_lower.proofs.relation.simulation.Relation.{seen_in, shared_seen, SharedAt, Matches, code_of}
+use Rattle.cyc_lower.proofs.relation.simulation.Relation.{SharedAt, Matches}
+use Rattle.cyc_lower.proofs.relation.simulation.Stacks.{code_of}
+use Rattle.cyc_lower.proofs.relation.simulation.Shared.{seen_in, shared_seen}
 use Rattle.cyc_lower.proofs.relation.simulation.Matched.{IsMatched, Executes, by_places, shared_way, seen_way, place_in, known}
 
 -- ---- places that follow one another

@@ -33,7 +33,8 @@ use Rattle.cyc_objects.proofs.Pointers.{not-null, part-not-null}
 use Rattle.cyc_objects.proofs.Services.{refusal-free, freed-unique}
 use Rattle.cyc_lower.specs.inside.Lowering.{lower_program}
 use Rattle.cyc_lower.proofs.relation.contents.HeldValues.{IsIn, content_of, callers}
-use Rattle.cyc_lower.proofs.relation.simulation.Relation.{in_temporary, in_local, behind_call, behind_wrong, ProceedingAt, DataIn, SharedAt, LandsStack, ValueStack, Matches, code_of}
+use Rattle.cyc_lower.proofs.relation.simulation.Relation.{behind_call, behind_wrong, ProceedingAt, DataIn, SharedAt, Matches}
+use Rattle.cyc_lower.proofs.relation.simulation.Stacks.{in_temporary, in_local, LandsStack, ValueStack, code_of}
 use Rattle.cyc_lower.proofs.relation.contents.HandlerData.{calls_counted}
 use Rattle.cyc_lower.proofs.relation.contents.Data.{in_words, null_is, points_in}
 use Rattle.cyc_lower.proofs.relation.simulation.Accesses.{IsWell, is_fitting}

@@ -16,7 +16,7 @@ use Rattle.cyc_objects.specs.inside.Tables.{Tables}
 use Rattle.cyc_objects.specs.inside.Words.{Points}
 use Rattle.cyc_lower.specs.inside.ValueCode.{is_in, move_of}
 use Rattle.cyc_lower.specs.inside.Lowering.{lower_program}
-use Rattle.cyc_lower.proofs.relation.simulation.Relation.{code_of}
+use Rattle.cyc_lower.proofs.relation.simulation.Stacks.{code_of}
 use Rattle.cyc_lower.proofs.relation.code.Stands.{CopyBy, AddressAt}
 use Rattle.cyc_lower.proofs.place_steps.PlaceWords.{add_is}
 

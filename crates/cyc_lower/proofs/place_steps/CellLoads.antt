@@ -10,7 +10,7 @@ use Rattle.cyc_plain.proofs.SlotLaws.{put-other}
 use Rattle.cyc_lower.specs.inside.ObjectCode.{load_at}
 use Rattle.cyc_lower.specs.inside.Lowering.{lower_program}
 use Rattle.cyc_lower.proofs.relation.code.Stands.{EachAt}
-use Rattle.cyc_lower.proofs.relation.simulation.Relation.{code_of}
+use Rattle.cyc_lower.proofs.relation.simulation.Stacks.{code_of}
 use Rattle.cyc_lower.proofs.relation.simulation.Paths.{Link, is_quiet, end_of, IsPath}
 use Rattle.cyc_lower.proofs.place_steps.KindWords.{loaded_at, loads_by}
 use Rattle.cyc_lower.proofs.value_steps.GlobalSteps.{each_put}

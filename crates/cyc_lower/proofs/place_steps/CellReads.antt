@@ -28,7 +28,8 @@ use Rattle.cyc_lower.proofs.slots.Widths.{HasRoom}
 use Rattle.cyc_lower.proofs.slots.Slots.{slot-room, global-room, global_words_counted}
 use Rattle.cyc_lower.proofs.relation.places.Known.{global-first, global_kind, first_word}
 use Rattle.cyc_lower.proofs.relation.contents.HeldValues.{Waiting, contents, content_of, content_of_cell, with_kind}
-use Rattle.cyc_lower.proofs.relation.simulation.Relation.{DataAt, silent, types_at, starts_at, base_of}
+use Rattle.cyc_lower.proofs.relation.simulation.Stacks.{DataAt, types_at, starts_at, base_of}
+use Rattle.cyc_lower.proofs.relation.simulation.Shared.{silent}
 use Rattle.cyc_lower.proofs.relation.places.Rows.{local-pointer, local-kind, char_there}
 use Rattle.cyc_lower.proofs.relation.contents.WaitingData.{frame_at}
 use Rattle.cyc_lower.proofs.relation.places.Leads.{IsNamed, is_global, is_local, is_waiting, AreNamed, Leads, to_store, to_variable, leads}

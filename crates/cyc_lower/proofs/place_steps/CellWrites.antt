@@ -28,7 +28,9 @@ use Rattle.cyc_lower.proofs.slots.Slots.{global-room, slot-room}
 use Rattle.cyc_lower.proofs.relation.contents.Moves.{put_elsewhere}
 use Rattle.cyc_lower.proofs.relation.places.Known.{IsVariableRow, row-away, global-first, global_kind, first_word}
 use Rattle.cyc_lower.proofs.relation.contents.HeldValues.{IsWord, content_of, contents, Waiting, LocalsHold, GlobalsHold, callers, CallSlots, IsCharAt}
-use Rattle.cyc_lower.proofs.relation.simulation.Relation.{FramesHold, DataAt, DataIn, SharedAt, silent, types_at, call_slots, base_of, starts_at}
+use Rattle.cyc_lower.proofs.relation.simulation.Relation.{DataIn, SharedAt}
+use Rattle.cyc_lower.proofs.relation.simulation.Stacks.{FramesHold, DataAt, types_at, call_slots, base_of, starts_at}
+use Rattle.cyc_lower.proofs.relation.simulation.Shared.{silent}
 use Rattle.cyc_lower.proofs.relation.contents.Data.{IsWord-is, locals_raised, data_assigned_global, data_assigned}
 use Rattle.cyc_lower.proofs.relation.contents.HandlerData.{handlers_same}
 use Rattle.cyc_lower.proofs.relation.simulation.Accesses.{IsWell, is_fitting, written_here, written_elsewhere, written_length}

@@ -24,14 +24,15 @@ use Rattle.cyc_lower.specs.inside.Lowering.{lower_program}
 use Rattle.cyc_lower.proofs.slots.Widths.{kind_positive, same_kind, wide_kind, Outside, HasRoom}
 use Rattle.cyc_lower.proofs.relation.contents.Moves.{put_elsewhere}
 use Rattle.cyc_lower.proofs.relation.contents.HeldValues.{held, Holds, callers}
-use Rattle.cyc_lower.proofs.relation.simulation.Relation.{types_on, starts_on, Matches, DataIn, SharedAt, in_temporary, in_local, LandsStack, HandsOnStack, Related, code_of, bounds_at, top, floor, AheadStack, types_at, starts_at}
+use Rattle.cyc_lower.proofs.relation.simulation.Relation.{Matches, DataIn, SharedAt, Related}
+use Rattle.cyc_lower.proofs.relation.simulation.Stacks.{types_on, starts_on, in_temporary, in_local, LandsStack, HandsOnStack, code_of, bounds_at, top, floor, AheadStack, types_at, starts_at}
 use Rattle.cyc_lower.proofs.relation.contents.Data.{height-least, Holds-same}
 use Rattle.cyc_lower.proofs.relation.contents.HandlerData.{floor-least, data_written}
 use Rattle.cyc_lower.proofs.relation.code.Stands.{OperandBy, ConvertedOperandAt, LoadedBy, SavedAt, BroughtAt}
 use Rattle.cyc_lower.proofs.place_steps.CellReads.{cell_reads, read_there, one_there, one_is, IsRead as IsCellRead, IsOwn, AreSame}
 use Rattle.cyc_lower.proofs.place_steps.AddressSteps.{Brought, in_slot, by_word, brought}
 use Rattle.cyc_lower.proofs.place_steps.SwapSteps.{left_found, right_found}
-use Rattle.cyc_lower.proofs.place_steps.WideCells.{all_in, load_links, load_path, load_last, loaded_is, loaded_elsewhere, ComesTo, AreMixed, mixed_same}
+use Rattle.cyc_lower.proofs.place_steps.WideLoads.{all_in, load_links, load_path, load_last, loaded_is, loaded_elsewhere, ComesTo, AreMixed, mixed_same}
 use Rattle.cyc_lower.proofs.relation.simulation.Accesses.{IsWell}
 use Rattle.cyc_lower.proofs.relation.simulation.Matched.{IsMatched, silently, by_one}
 use Rattle.cyc_lower.proofs.relation.simulation.Paths.{is_quiet, by_path}

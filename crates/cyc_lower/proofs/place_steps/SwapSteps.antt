@@ -27,9 +27,11 @@ use Rattle.cyc_lower.proofs.slots.Widths.{same_kind, kind_positive, wide_kind, O
 use Rattle.cyc_lower.proofs.slots.Slots.{slot-room, global-inside}
 use Rattle.cyc_lower.proofs.relation.contents.Moves.{put_elsewhere, moved_slots, moves, moved_elsewhere, moved_is}
 use Rattle.cyc_lower.proofs.relation.simulation.Weights.{focus_weight, stack_weight}
-use Rattle.cyc_lower.proofs.relation.code.Stands.{EachAt, StoresAt, HasSide, SideAt, ReadAt, WriteAt, ExchangeAt, PlaceAt}
+use Rattle.cyc_lower.proofs.relation.code.Stands.{EachAt, StoresAt, PlaceAt}
+use Rattle.cyc_lower.proofs.relation.code.Statements.{HasSide, SideAt, ReadAt, WriteAt, ExchangeAt}
 use Rattle.cyc_lower.proofs.relation.contents.HeldValues.{IsWord, Holds, held, contents, callers, IsCharAt}
-use Rattle.cyc_lower.proofs.relation.simulation.Relation.{base_of, floor, behind_statement, IsSideAt, IsLeft, WritesAt, StatementStack, DataIn, SharedAt, Matches, code_of, bounds_at, types_at, starts_at, base_of}
+use Rattle.cyc_lower.proofs.relation.simulation.Relation.{behind_statement, DataIn, SharedAt, Matches}
+use Rattle.cyc_lower.proofs.relation.simulation.Stacks.{base_of, floor, IsSideAt, IsLeft, WritesAt, StatementStack, code_of, bounds_at, types_at, starts_at, base_of}
 use Rattle.cyc_lower.proofs.relation.contents.Data.{Is-same, one_word, data_assigned, data_assigned_global}
 use Rattle.cyc_lower.proofs.relation.contents.HandlerData.{data_written, handlers_beside, floor-least}
 use Rattle.cyc_lower.proofs.relation.contents.Sharing.{shared_written, shared_beside}

@@ -1,6 +1,5 @@
--- Cells of three words, those of fat pointers: they are written by three stores, and read by three loads, of which that into the slot of
--- the address is the last.
-use Rattle.std.proofs.Common.{◌≡◌, ◌≢◌, ◌⊎◌, ℕ, zero, suc, ◌+◌, ◌*◌, ◌<◌, ◌≤◌, List, [], ◌∷◌, length, set, Some, slice_get, refl, sym, ap, subst, ◌∙◌, arith, inl, inr, length-set, true, Option}
+-- Cells of three words, those of fat pointers, are written by three stores.
+use Rattle.std.proofs.Common.{◌≡◌, ◌≢◌, ◌⊎◌, ℕ, zero, suc, ◌+◌, ◌*◌, ◌<◌, ◌≤◌, List, [], ◌∷◌, length, set, Some, slice_get, refl, sym, ap, subst, ◌∙◌, arith, inl, inr, length-set, true}
 use Rattle.std.specs.Prelude.{◌==◌, if◌then◌else◌}
 use Rattle.cyc_words.specs.Word.{add_of}
 use Rattle.cyc_types.specs.declared.typed.Kind.TheVariants as kinds
@@ -12,35 +11,33 @@ use Rattle.cyc_plain.specs.declared.instruction.Instruction.TheVariants as instr
 use Rattle.cyc_plain.specs.inside.Program.{Program as PlainProgram}
 use Rattle.cyc_plain.specs.inside.State as plain
 use Rattle.cyc_plain.specs.inside.State.{Words, Configuration, Frame}
-use Rattle.cyc_plain.specs.inside.Step.{Choice, at, with_slots, saves, loads, performed, advanced}
-use Rattle.cyc_plain.proofs.SlotLaws.{put-other, put-same}
+use Rattle.cyc_plain.specs.inside.Step.{Choice, saves, performed, advanced}
 use Rattle.cyc_plain.specs.inside.Straight.{At}
 use Rattle.cyc_meaning.specs.Values.{Value, Operand as Kinded, words_of_kind, bytes_of_kind, is_kind}
 use Rattle.cyc_meaning.specs.State.{Object, World, Found, Located, cell_at, written, Environment, Entry}
 use Rattle.cyc_meaning.proofs.WorldLaws.{cell_found}
-use Rattle.cyc_objects.specs.inside.Tables.{Tables}
 use Rattle.cyc_objects.specs.inside.Words.{Points, Is, Holds}
 use Rattle.cyc_objects.specs.inside.Related as objects
 use Rattle.cyc_objects.proofs.Bytes.{bytes-beside}
 use Rattle.cyc_objects.proofs.Cells.{cell-aligned, related-written, saved-is}
-use Rattle.cyc_objects.proofs.Pointers.{Is-put_three}
 use Rattle.cyc_objects.proofs.Variables.{assigned-away}
 use Rattle.cyc_lower.specs.inside.Slots.{global_types, slot_of}
 use Rattle.cyc_lower.specs.inside.Lowering.{lower_program, scopes_of}
 use Rattle.cyc_lower.proofs.slots.Widths.{Outside, HasGlobal, words_in, HasRoom}
 use Rattle.cyc_lower.proofs.slots.Slots.{global-room, slot-room, slot-apart}
-use Rattle.cyc_lower.proofs.relation.contents.Moves.{put_elsewhere}
 use Rattle.cyc_lower.proofs.relation.places.Known.{row-away, global-first, global_kind, first_word, IsVariableRow}
-use Rattle.cyc_lower.proofs.place_steps.PlaceWords.{stored_still, three_put, three_words, three_elsewhere, three_written, three_words_of, cell_kind}
+use Rattle.cyc_lower.proofs.place_steps.PlaceWords.{stored_still, three_put, three_words, three_elsewhere, three_written, cell_kind}
 use Rattle.cyc_lower.proofs.relation.contents.HeldValues.{content_of, callers, Waiting, contents, IsCharAt}
-use Rattle.cyc_lower.proofs.relation.simulation.Relation.{SharedAt, DataAt, DataIn, silent, code_of, types_at, base_of, starts_at}
+use Rattle.cyc_lower.proofs.relation.simulation.Relation.{SharedAt, DataIn}
+use Rattle.cyc_lower.proofs.relation.simulation.Stacks.{DataAt, code_of, types_at, base_of, starts_at}
+use Rattle.cyc_lower.proofs.relation.simulation.Shared.{silent}
 use Rattle.cyc_lower.proofs.relation.contents.Data.{Is-same, data_assigned_global, data_assigned}
 use Rattle.cyc_lower.proofs.relation.contents.HandlerData.{handlers_same}
 use Rattle.cyc_lower.proofs.relation.simulation.Accesses.{written_here, written_elsewhere, written_length}
-use Rattle.cyc_lower.proofs.place_steps.CellReads.{globals_long, IsOwn, AreSame}
+use Rattle.cyc_lower.proofs.place_steps.CellReads.{globals_long}
 use Rattle.cyc_lower.proofs.place_steps.CellWrites.{data_beside}
 use Rattle.cyc_lower.proofs.value_steps.GlobalSteps.{each_put, each-outside, each_is, each-inside}
-use Rattle.cyc_lower.proofs.relation.simulation.Paths.{Link, IsQuiet, is_quiet, IsPath}
+use Rattle.cyc_lower.proofs.relation.simulation.Paths.{Link, IsQuiet, IsPath}
 use Rattle.cyc_plain.proofs.MemoryLaws.{store_word, stored-word, memory-active, memory-waiting, written-active, written-waiting_at}
 use Rattle.cyc_plain.specs.inside.Memory.{memory_at, is_pinned}
 use Rattle.cyc_lower.proofs.place_steps.StoredWords.{cell-stored, saves-stored, saves-global}
@@ -75,8 +72,6 @@ IsAsFar s others = (demand others.store ≡ demand s.store) × (length others.fr
 
 stage_quiet : (c : Configuration) (s others : Parts) (p q : ℕ) → IsAsFar s others → IsQuiet (stage c s p) (stage c others q)
 stage_quiet c s others p q far = record { seen = refl; demand = far.0; frames = far.1 }
-
--- ---- three stores
 
 -- where the words of a value stand that is stored: in temporaries, or in a local
 abbrev pub IsStanding : Program → (g n : ℕ) → Type 0
@@ -504,123 +499,3 @@ module _ (source : Program) (pages calls : ℕ) (k : List Entry) (e : Environmen
     handlers_move source g is_saved.all.slots c.active.handlers c.frames is_saved.all.frames is_saved.like k
         (handlers_same source g c.active.slots is_saved.all.slots c.active.handlers c.frames k (λ m from to. is_saved.above m from) facts.1),
   )
-
--- ---- three loads
-
--- where a value of three words comes: to temporaries, or to a local
-abbrev pub ComesTo : Program → (g d : ℕ) → Type 0
-ComesTo source g d = (base_of source g ≤ d) ⊎ ((number : ℕ) × (number < length (types_at source g).locals) × (slot_of (starts_at source g) number ≡ d) × HasRoom (types_at source g) number kinds.Fat)
-
--- some of three words have come to slots
-abbrev pub AreMixed : (d : ℕ) → (word : ℕ → ℕ) → (old new : Words) → Type 0
-AreMixed d word old new = (m : ℕ) → (new m ≡ old m) ⊎ ((j : ℕ) × (j < 3) × (m ≡ d + j) × (new m ≡ word j))
-
--- they change no word that is still to be read: what is read from the slots of a local comes to other slots, or to the very ones
-pub mixed_same : (source : Program) (g d : ℕ) (word : ℕ → ℕ) (here : Option ℕ) (old new : Words) → IsOwn source g kinds.Fat here → ((slot j : ℕ) → here ≡ Some slot → word j ≡ old (slot + j)) → ComesTo source g d
-    → AreMixed d word old new → AreSame here 3 old new
-mixed_same source g d word here old new own stays comes mixed slot j is below = elim (mixed (slot + j)) [
-  | inl same ↦ same
-  | inr (i, few, there, new_is) ↦
-      let (number, first, inside, room) = own slot is in
-      elim comes [
-        | inl high ↦ absurd (omega (arith, high, there, below, first, slot-room (types_at source g) number inside, room))
-        | inr (other, around, start, wide) ↦ elim (cases_eq other number) [
-          | inl same ↦
-              let begins : d ≡ slot = sym start ∙ (ap (slot_of (starts_at source g)) same ∙ first) in
-              let at : i ≡ j = omega (arith, there, begins) in
-              new_is ∙ (ap word at ∙ stays slot j is)
-          | inr apart ↦ absurd (elim (slot-apart (types_at source g) other number around inside apart) [
-            | inl before ↦ omega (arith, before, start, wide, there, first, few)
-            | inr behind ↦ omega (arith, behind, start, room, there, first, below)
-          ])
-        ]
-      ]
-]
-
--- into the slots from d on, by the address in slot s, which may be the first of them
-module _ (source : Program) (t : Tables) (c : Configuration) (d s : ℕ) (apart : (s ≤ d) ⊎ (d + 3 ≤ s)) (v : Value) (word : ℕ → ℕ)
-    (there : (slots : Words) (next j : ℕ) → AreMixed d word c.active.slots slots → j < 3 → memory_at (lower_program source) (at (with_slots c slots) next) (add_of (c.active.slots s) (4 * j)) ≡ Some (word j))
-    (is : Is t kinds.Fat v word 0) where
-  abbrev address : ℕ
-  address = c.active.slots s
-
-  abbrev third_in : Words
-  third_in = plain.put c.active.slots (d + 2) (word 2)
-
-  abbrev two_in : Words
-  two_in = plain.put third_in (d + 1) (word 1)
-
-  abbrev pub all_in : Words
-  all_in = plain.put two_in d (word 0)
-
-  abbrev with_words : Words → (next : ℕ) → Configuration
-  with_words slots next = at (with_slots c slots) next
-
-  loads_word : (slots : Words) (i x more j : ℕ) (choice : Choice) → AreMixed d word c.active.slots slots → j < 3 → slots s ≡ address → more ≡ 4 * j
-      → performed (lower_program source) choice (with_words slots i) (instructions.Load x (operands.Slot s) more) ≡ plain.Running (with_words (plain.put slots x (word j)) (i + 1))
-  loads_word slots i x more j choice mixed below same offset_is =
-      ap (λ (y : ℕ). loads (with_words slots i) x (memory_at (lower_program source) (with_words slots i) (add_of y more))) same
-      ∙ (ap (λ (y : ℕ). loads (with_words slots i) x (memory_at (lower_program source) (with_words slots i) (add_of address y))) offset_is
-      ∙ ap (loads (with_words slots i) x) (there slots i j mixed below))
-
-  abbrev pub load_links : List Link
-  load_links =
-      record { instruction = instructions.Load (d + 2) (operands.Slot s) 8; behind = with_words third_in (c.active.next + 1) }
-      ∷ record { instruction = instructions.Load (d + 1) (operands.Slot s) 4; behind = with_words two_in (c.active.next + 1 + 1) }
-      ∷ []
-
-  none_mixed : AreMixed d word c.active.slots c.active.slots
-  none_mixed m = inl refl
-
-  mixed_more : (slots : Words) (j : ℕ) → j < 3 → AreMixed d word c.active.slots slots → AreMixed d word c.active.slots (plain.put slots (d + j) (word j))
-  mixed_more slots j below mixed m = elim (cases_eq m (d + j)) [
-    | inl same ↦ inr (j, below, same, ap (plain.put slots (d + j) (word j)) same ∙ put-same slots (d + j) (word j))
-    | inr apart ↦ elim (mixed m) [
-      | inl old ↦ inl (put-other slots (d + j) m (word j) apart ∙ old)
-      | inr (i, few, there, is) ↦ inr (i, few, there, put-other slots (d + j) m (word j) apart ∙ is)
-    ]
-  ]
-
-  third_mixed : AreMixed d word c.active.slots third_in
-  third_mixed = mixed_more c.active.slots 2 (omega arith) none_mixed
-
-  two_mixed : AreMixed d word c.active.slots two_in
-  two_mixed = mixed_more third_in 1 (omega arith) third_mixed
-
-  -- the slot of the address is none of the last two
-  other : (i : ℕ) → 0 < i → i < 3 → s ≢ d + i
-  other i some few same = elim apart [
-    | inl before ↦ omega (arith, before, same, some)
-    | inr behind ↦ omega (arith, behind, same, few)
-  ]
-
-  third_stays : third_in s ≡ address
-  third_stays = put-other c.active.slots (d + 2) s (word 2) (other 2 (omega arith) (omega arith))
-
-  two_stay : two_in s ≡ address
-  two_stay = put-other third_in (d + 1) s (word 1) (other 1 (omega arith) (omega arith)) ∙ third_stays
-
-  pub load_path : At (code_of source c.active.function) c.active.next (instructions.Load (d + 2) (operands.Slot s) 8)
-      → At (code_of source c.active.function) (c.active.next + 1) (instructions.Load (d + 1) (operands.Slot s) 4) → IsPath source c load_links
-  load_path at_first at_second = (
-    at_first,
-    (λ choice. loads_word c.active.slots c.active.next (d + 2) 8 2 choice none_mixed (omega arith) refl refl),
-    omega arith,
-    is_quiet c (with_words third_in (c.active.next + 1)).active,
-    (at_second, (λ choice. loads_word third_in (c.active.next + 1) (d + 1) 4 1 choice third_mixed (omega arith) third_stays refl), omega arith, is_quiet (with_words third_in (c.active.next + 1)) (with_words two_in (c.active.next + 1 + 1)).active, tt),
-  )
-
-  pub load_last : (choice : Choice) → performed (lower_program source) choice (with_words two_in (c.active.next + 1 + 1)) (instructions.Load d (operands.Slot s) 0) ≡ plain.Running (at (with_slots c all_in) (c.active.next + 1 + 1 + 1))
-  load_last choice = loads_word two_in (c.active.next + 1 + 1) d 0 0 choice two_mixed (omega arith) two_stay refl
-
-  pub loaded_is : Is t kinds.Fat v all_in d
-  loaded_is = Is-put_three t v c.active.slots d (word 0) (word 1) (word 2) (three_words_of t v word 0 is)
-
-  pub loaded_elsewhere : (m : ℕ) → Outside d 3 m → all_in m ≡ c.active.slots m
-  loaded_elsewhere m out =
-      put_elsewhere two_in d (word 0) 3 m (omega arith) out
-      ∙ (put-other third_in (d + 1) m (word 1) (λ same. beside 1 (omega arith) out same) ∙ put-other c.active.slots (d + 2) m (word 2) (λ same. beside 2 (omega arith) out same))
-    where
-      beside : (i : ℕ) → i < 3 → Outside d 3 m → m ≡ d + i → ⊥
-      beside i below (inl short) same = absurd (omega (arith, same, short))
-      beside i below (inr long) same = absurd (omega (arith, same, long, below))

@@ -40,7 +40,8 @@ use Rattle.cyc_lower.proofs.slots.CellBytes.{wide_cell}
 use Rattle.cyc_lower.proofs.relation.contents.Moves.{put_elsewhere}
 use Rattle.cyc_lower.proofs.relation.code.Stands.{InsideAt, SteppedAt, ReachedBy, ReachedAt, FollowedAt, ValueAt}
 use Rattle.cyc_lower.proofs.relation.contents.HeldValues.{IsIn, IsLow, Holds, held, IsParts}
-use Rattle.cyc_lower.proofs.relation.simulation.Relation.{types_at, types_on, floor, as_operand, DataIn, SharedAt, ValueStack, PlaceStack, Matches, code_of, bounds_at, top, ReadyAt, as_right, in_parts}
+use Rattle.cyc_lower.proofs.relation.simulation.Relation.{as_operand, DataIn, SharedAt, Matches, ReadyAt, as_right, in_parts}
+use Rattle.cyc_lower.proofs.relation.simulation.Stacks.{types_at, types_on, floor, ValueStack, PlaceStack, code_of, bounds_at, top}
 use Rattle.cyc_lower.proofs.relation.contents.Data.{Is-same, height-least, Holds-same, in_words}
 use Rattle.cyc_lower.proofs.relation.contents.HandlerData.{data_written}
 use Rattle.cyc_lower.proofs.relation.simulation.Accesses.{IsWell, is_fitting}

@@ -30,7 +30,8 @@ use Rattle.cyc_lower.proofs.slots.Widths.{Outside}
 use Rattle.cyc_lower.proofs.relation.code.Stands.{CountAt, WidenedAt}
 use Rattle.cyc_lower.proofs.object_steps.Handles.{kept_holds}
 use Rattle.cyc_lower.proofs.relation.contents.HeldValues.{IsIn, Holds, held}
-use Rattle.cyc_lower.proofs.relation.simulation.Relation.{floor, types_at, in_operand, DataIn, SharedAt, ValueStack, LandsStack, Matches, code_of, bounds_at, top}
+use Rattle.cyc_lower.proofs.relation.simulation.Relation.{in_operand, DataIn, SharedAt, Matches}
+use Rattle.cyc_lower.proofs.relation.simulation.Stacks.{floor, types_at, ValueStack, LandsStack, code_of, bounds_at, top}
 use Rattle.cyc_lower.proofs.relation.contents.Data.{height-least, Holds-same}
 use Rattle.cyc_lower.proofs.relation.contents.HandlerData.{data_written}
 use Rattle.cyc_lower.proofs.relation.simulation.Accesses.{IsWell}

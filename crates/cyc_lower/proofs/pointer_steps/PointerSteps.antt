@@ -40,7 +40,9 @@ use Rattle.cyc_lower.proofs.slots.Widths.{same_kind, Outside}
 use Rattle.cyc_lower.proofs.relation.contents.Moves.{copied_elsewhere}
 use Rattle.cyc_lower.proofs.relation.code.Stands.{FirstTwoAt, IndexAt, PointerAt, ValueAt}
 use Rattle.cyc_lower.proofs.relation.contents.HeldValues.{IsIn, Holds, held, callers}
-use Rattle.cyc_lower.proofs.relation.simulation.Relation.{types_on, silent, DataIn, SharedAt, ConditionStack, LandsStack, in_temporary, in_local, to_slot, EvaluatingAt, as_operand, Matches, code_of, bounds_at, top, floor}
+use Rattle.cyc_lower.proofs.relation.simulation.Relation.{DataIn, SharedAt, EvaluatingAt, as_operand, Matches}
+use Rattle.cyc_lower.proofs.relation.simulation.Stacks.{types_on, ConditionStack, LandsStack, in_temporary, in_local, to_slot, code_of, bounds_at, top, floor}
+use Rattle.cyc_lower.proofs.relation.simulation.Shared.{silent}
 use Rattle.cyc_lower.proofs.relation.contents.Data.{height-least, in_words}
 use Rattle.cyc_lower.proofs.relation.contents.HandlerData.{floor-least}
 use Rattle.cyc_lower.proofs.relation.simulation.Accesses.{IsWell}

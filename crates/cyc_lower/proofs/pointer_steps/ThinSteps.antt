@@ -24,7 +24,8 @@ use Rattle.cyc_objects.proofs.Pointers.{part-not-null}
 use Rattle.cyc_lower.proofs.relation.code.Stands.{ReachedBy, ThinnedAt}
 use Rattle.cyc_lower.proofs.object_steps.Handles.{kept_holds}
 use Rattle.cyc_lower.proofs.relation.contents.HeldValues.{IsIn, Holds, held}
-use Rattle.cyc_lower.proofs.relation.simulation.Relation.{types_at, floor, in_operand, DataIn, SharedAt, ValueStack, Matches, code_of, bounds_at, top}
+use Rattle.cyc_lower.proofs.relation.simulation.Relation.{in_operand, DataIn, SharedAt, Matches}
+use Rattle.cyc_lower.proofs.relation.simulation.Stacks.{types_at, floor, ValueStack, code_of, bounds_at, top}
 use Rattle.cyc_lower.proofs.relation.contents.Data.{height-least, Holds-same}
 use Rattle.cyc_lower.proofs.relation.contents.HandlerData.{data_written}
 use Rattle.cyc_lower.proofs.relation.simulation.Matched.{IsMatched}

@@ -26,9 +26,11 @@ use Rattle.cyc_objects.specs.inside.Related.{Related, scopes, closed_to}
 use Rattle.cyc_objects.proofs.Closing.{scopes-closed, closed-behind, closed-at_once, refusal-close_to}
 use Rattle.cyc_objects.proofs.Scopes.{Ends}
 use Rattle.cyc_lower.specs.inside.Lowering.{lower_program, scopes_of}
-use Rattle.cyc_lower.proofs.relation.code.Stands.{ClosedAt}
+use Rattle.cyc_lower.proofs.relation.code.Statements.{ClosedAt}
 use Rattle.cyc_lower.proofs.relation.contents.HeldValues.{MayBeOpen, scopes_in}
-use Rattle.cyc_lower.proofs.relation.simulation.Relation.{HasScopes, store_by, silent, ScopesBy, SharedBy, SharedAt, Matches, code_of, bounds_at, types_at}
+use Rattle.cyc_lower.proofs.relation.simulation.Relation.{ScopesBy, SharedBy, SharedAt, Matches}
+use Rattle.cyc_lower.proofs.relation.simulation.Stacks.{code_of, bounds_at, types_at}
+use Rattle.cyc_lower.proofs.relation.simulation.Shared.{HasScopes, store_by, silent}
 use Rattle.cyc_lower.proofs.relation.simulation.Matched.{Inside, IsMatched, Executes, by_places, place_in, known, elsewhere, seen_way, inside_within}
 
 -- what is closed asks for no more pages

@@ -24,7 +24,8 @@ use Rattle.cyc_objects.specs.inside.Related.{has_home}
 use Rattle.cyc_objects.proofs.Making.{open-home}
 use Rattle.cyc_objects.proofs.Services.{refusal-close, closed-dynamic}
 use Rattle.cyc_lower.proofs.relation.contents.HeldValues.{IsIn}
-use Rattle.cyc_lower.proofs.relation.simulation.Relation.{DataIn, SharedAt, ValueStack, LandsStack}
+use Rattle.cyc_lower.proofs.relation.simulation.Relation.{DataIn, SharedAt}
+use Rattle.cyc_lower.proofs.relation.simulation.Stacks.{ValueStack, LandsStack}
 use Rattle.cyc_lower.proofs.relation.simulation.Accesses.{IsWell}
 use Rattle.cyc_lower.proofs.relation.simulation.Matched.{IsMatched, shared_within}
 use Rattle.cyc_lower.proofs.object_steps.Asking.{by_asking}

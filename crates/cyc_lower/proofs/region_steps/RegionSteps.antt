@@ -32,9 +32,11 @@ use Rattle.cyc_lower.specs.inside.ControlCode.{inside_region}
 use Rattle.cyc_lower.specs.inside.Lowering.{scopes_of}
 use Rattle.cyc_lower.proofs.slots.Slots.{slot_types-many}
 use Rattle.cyc_lower.proofs.slots.Widths.{Outside}
-use Rattle.cyc_lower.proofs.relation.code.Stands.{NamedAt, ClosedAt, ItemsAt}
+use Rattle.cyc_lower.proofs.relation.code.Statements.{NamedAt, ClosedAt, ItemsAt}
 use Rattle.cyc_lower.proofs.relation.contents.HeldValues.{homes, callers, scopes_in, MayBeOpen, IsIn, contents}
-use Rattle.cyc_lower.proofs.relation.simulation.Relation.{shared_seen, HasScopes, SharedAt, StatementStack, Matches, DataIn, code_of, bounds_in, bounds_at, types_in, types_at, floor, behind_statement, starts_at, in_operand, ValueStack}
+use Rattle.cyc_lower.proofs.relation.simulation.Relation.{SharedAt, Matches, DataIn, behind_statement, in_operand}
+use Rattle.cyc_lower.proofs.relation.simulation.Stacks.{StatementStack, code_of, bounds_in, bounds_at, types_in, types_at, floor, starts_at, ValueStack}
+use Rattle.cyc_lower.proofs.relation.simulation.Shared.{shared_seen, HasScopes}
 use Rattle.cyc_lower.proofs.relation.contents.HandlerData.{data_written}
 use Rattle.cyc_lower.proofs.relation.contents.GrowingData.{data_grows, variables_grow}
 use Rattle.cyc_lower.proofs.relation.simulation.Matched.{IsMatched, silently, shared_within, known, inside_by}

@@ -9,7 +9,7 @@ use Rattle.cyc_objects.specs.inside.Related as objects
 use Rattle.cyc_objects.proofs.Closing.{scopes-same}
 use Rattle.cyc_objects.proofs.Scopes.{scopes-counted, lexicals-within}
 use Rattle.cyc_lower.proofs.relation.contents.HeldValues.{scopes_in}
-use Rattle.cyc_lower.proofs.relation.simulation.Relation.{silent}
+use Rattle.cyc_lower.proofs.relation.simulation.Shared.{silent}
 
 -- ---- of the source
 

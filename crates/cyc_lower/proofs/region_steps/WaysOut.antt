@@ -10,9 +10,10 @@ use Rattle.cyc_objects.specs.inside.Related.{scopes}
 use Rattle.cyc_objects.proofs.Closing.{scopes-closed}
 use Rattle.cyc_objects.proofs.Scopes.{scopes-counted, ends-newest}
 use Rattle.cyc_lower.specs.inside.ControlCode.{outermost}
-use Rattle.cyc_lower.proofs.relation.code.Stands.{MarksAt}
+use Rattle.cyc_lower.proofs.relation.code.Statements.{MarksAt}
 use Rattle.cyc_lower.proofs.relation.contents.HeldValues.{left_by, scopes_in, callers}
-use Rattle.cyc_lower.proofs.relation.simulation.Relation.{IsMark, SharedBy, DataAt, HandlersStand, FocusAt, Leaves, Related, opened_by, floor, code_of, bounds_at, types_at}
+use Rattle.cyc_lower.proofs.relation.simulation.Relation.{IsMark, SharedBy, HandlersStand, FocusAt, Leaves, Related}
+use Rattle.cyc_lower.proofs.relation.simulation.Stacks.{DataAt, opened_by, floor, code_of, bounds_at, types_at}
 use Rattle.cyc_lower.proofs.relation.simulation.Weights.{weight}
 use Rattle.cyc_lower.proofs.relation.simulation.Matched.{inside_by, IsMatched, silently}
 use Rattle.cyc_lower.proofs.region_steps.Closings.{closed_down, by_closing, shared_behind, settled}

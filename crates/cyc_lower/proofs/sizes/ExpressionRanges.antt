@@ -36,13 +36,14 @@ use Rattle.cyc_lower.proofs.slots.CellBytes.{passed_slots}
 use Rattle.cyc_lower.proofs.relation.code.Fitting.{FitsCell, Fits, FitsConverted, FitArguments, FitOperations, FitsObject}
 use Rattle.cyc_lower.proofs.slots.Slots.{words_positive, starts-are, words-there}
 use Rattle.cyc_lower.proofs.sizes.RangeLemmas.{operand_positive, converted_least, arguments_words, made_needs, result_least, levels_inside, IsKnown, AreGlobals}
-use Rattle.cyc_lower.proofs.sizes.ValueRanges.{AreIn, append, unless_in, unless_slot_in, kind_at, HasOperand, assigned_kind, operator_few, stored_kind, given_needs, slot_fits, value_room, value_in, source_fits, brought_room, converted_room, printed_value_in}
-use Rattle.cyc_lower.proofs.sizes.ValueRanges.{next_in, LeftIn, next_left_in, first_left_in, has_room, left_room, left_slot_in, left_in, free_in, check_in, reached_in, followed_in, conversion_in, operator_in, assigned_in, load_in, copy_in, pointer_copied}
-use Rattle.cyc_lower.proofs.sizes.ValueRanges.{count_in, test_in, filled_in, object_in, loaded_in, own_needed, pointer_room, place_operand_in, addressed_in, stored_in, right_in, initial_by, unary_in, last_byte_in, begun_in, brought_by}
+use Rattle.cyc_lower.proofs.sizes.ValueRanges.{AreIn, append, unless_in, unless_slot_in, free_in, check_in, reached_in, followed_in, conversion_in, operator_in, assigned_in, load_in, copy_in, pointer_copied, count_in, test_in, filled_in, object_in, loaded_in, own_needed}
+use Rattle.cyc_lower.proofs.sizes.ValueRanges.{pointer_room, place_operand_in, addressed_in, stored_in, right_in, initial_by, unary_in, last_byte_in, begun_in, brought_by}
+use Rattle.cyc_lower.proofs.sizes.ValueRoom.{kind_at, HasOperand, assigned_kind, operator_few, stored_kind, given_needs, slot_fits, value_room, value_in, source_fits, brought_room, converted_room, printed_value_in, next_in, LeftIn, next_left_in, first_left_in, has_room}
+use Rattle.cyc_lower.proofs.sizes.ValueRoom.{left_room, left_slot_in, left_in}
 
 module _ (program : PlainProgram) (r : Routine) (b : Numbering) (called : (n : ℕ) (s : Signature) → slice_get b.functions n ≡ Some s → IsKnown program n s) (results : r.results ≡ results_of b.result) where
   mutual
-    pub expression_in : (types : Types) (locals : (n : ℕ) → n < b.locals → slot_of (starts_of types) n + words_in types.locals n ≤ r.slots) (levels : (l slot : ℕ) → slice_get types.counters l ≡ Some slot → slot < r.slots) (globals : AreGlobals program types.globals) (behind : types.raises + 4 < length r.code) → (a : Expression) (p d t : ℕ) → Fits b types a → d + words_of_kind (kind_at program r b types locals levels globals called results behind a) ≤ r.slots → t + expression_need a ≤ r.slots → p + length (expression_code (starts_of types) a p d t) < length r.code → AreIn program r b types locals levels globals called results behind (expression_code (starts_of types) a p d t)
+    pub expression_in : (types : Types) (locals : (n : ℕ) → n < b.locals → slot_of (starts_of types) n + words_in types.locals n ≤ r.slots) (levels : (l slot : ℕ) → slice_get types.counters l ≡ Some slot → slot < r.slots) (globals : AreGlobals program types.globals) (behind : types.raises + 4 < length r.code) → (a : Expression) (p d t : ℕ) → Fits b types a → d + words_of_kind (kind_at r b types locals levels a) ≤ r.slots → t + expression_need a ≤ r.slots → p + length (expression_code (starts_of types) a p d t) < length r.code → AreIn program r b types locals levels globals called results behind (expression_code (starts_of types) a p d t)
     expression_in types locals levels globals behind (Number n) p d t numbered room few short = ((omega (arith, room), tt), tt)
     expression_in types locals levels globals behind NullPointer p d t numbered room few short = ((omega (arith, room), tt), tt)
     expression_in types locals levels globals behind (Counter l) p d t numbered room few short =
@@ -56,7 +57,7 @@ module _ (program : PlainProgram) (r : Routine) (b : Numbering) (called : (n : �
         let front = printed_code (starts_of types) cs p t in
         let back = instructions.WriteByte o ∷ low_byte o d ∷ [] in
         let gives : 1 ≤ result_words ty = omega (arith, result, ap (λ (x : Signature). results_of x.result) signature) in
-        let inside = printed_value_in program r b types locals levels globals called results behind cs (operands.Slot t) t numbered (omega (arith, few, gives)) (omega (arith, few)) in
+        let inside = printed_value_in r b types locals levels cs (operands.Slot t) t numbered (omega (arith, few, gives)) (omega (arith, few)) in
         append program r b types locals levels globals called results behind front back (printed_in types locals levels globals behind cs p t t 0 numbered (omega (arith, few)) (omega arith) (omega (arith, few)) (omega (arith, short, length-append front back)))
         (inside, ((omega (arith, room), inside, tt), tt))
     expression_in types locals levels globals behind (Call callees.Getchar cs ty) p d t (s, signature, many, passed, result, numbered) room few short =
@@ -82,45 +83,45 @@ module _ (program : PlainProgram) (r : Routine) (b : Numbering) (called : (n : �
         let front = code_unless (operand_of (starts_of types) a) inner in
         let o = value_operand (starts_of types) a t in
         let back = count_code o (p + length front) d in
-        let free : t + words_of_kind (kind_at program r b types locals levels globals called results behind a) ≤ r.slots = omega (arith, few, given_needs program r b types locals levels globals called results behind a numbered) in
+        let free : t + words_of_kind (kind_at r b types locals levels a) ≤ r.slots = omega (arith, few, given_needs r b types locals levels a numbered) in
         append program r b types locals levels globals called results behind front back
-        (unless_in program r b types locals levels globals called results behind (operand_of (starts_of types) a) inner p (omega (arith, short, length-append front back)) (λ less. expression_in types locals levels globals behind a p slot t numbered (slot_fits program r b types locals levels globals called results behind a t numbered free) (omega (arith, few)) less))
-        (count_in program r b types locals levels globals called results behind o (p + length front) d (subst (λ kind. HasOperand program r b types locals levels globals called results behind o (words_of_kind kind)) fat (value_room program r b types locals levels globals called results behind a t numbered free)) (omega (arith, room)) (omega (arith, short, length-append front back)))
+        (unless_in program r b types locals levels globals called results behind (operand_of (starts_of types) a) inner p (omega (arith, short, length-append front back)) (λ less. expression_in types locals levels globals behind a p slot t numbered (slot_fits r b types locals levels a t numbered free) (omega (arith, few)) less))
+        (count_in program r b types locals levels globals called results behind o (p + length front) d (subst (λ kind. HasOperand r b types locals levels o (words_of_kind kind)) fat (value_room r b types locals levels a t numbered free)) (omega (arith, room)) (omega (arith, short, length-append front back)))
     expression_in types locals levels globals behind (Unary unary.Widen a) p d t (one, numbered) room few short =
         expression_in types locals levels globals behind a p d t numbered (omega (arith, room, one)) (omega (arith, few)) short
     expression_in types locals levels globals behind (Unary o a) p d t numbered room few short =
         let inner = expression_code (starts_of types) a p (value_slot (starts_of types) a t) t in
         let front = code_unless (operand_of (starts_of types) a) inner in
         let back = unary_instruction o d (value_operand (starts_of types) a t) ∷ [] in
-        let free : t + words_of_kind (kind_at program r b types locals levels globals called results behind a) ≤ r.slots = omega (arith, few, given_needs program r b types locals levels globals called results behind a numbered) in
+        let free : t + words_of_kind (kind_at r b types locals levels a) ≤ r.slots = omega (arith, few, given_needs r b types locals levels a numbered) in
         append program r b types locals levels globals called results behind front back
-        (unless_in program r b types locals levels globals called results behind (operand_of (starts_of types) a) inner p (omega (arith, short, length-append front back)) (λ less. expression_in types locals levels globals behind a p (value_slot (starts_of types) a t) t numbered (slot_fits program r b types locals levels globals called results behind a t numbered free) (omega (arith, few)) less))
-        (unary_in program r b types locals levels globals called results behind o d (value_operand (starts_of types) a t) (omega (arith, room)) (value_in program r b types locals levels globals called results behind a t numbered free), tt)
+        (unless_in program r b types locals levels globals called results behind (operand_of (starts_of types) a) inner p (omega (arith, short, length-append front back)) (λ less. expression_in types locals levels globals behind a p (value_slot (starts_of types) a t) t numbered (slot_fits r b types locals levels a t numbered free) (omega (arith, few)) less))
+        (unary_in program r b types locals levels globals called results behind o d (value_operand (starts_of types) a t) (omega (arith, room)) (value_in r b types locals levels a t numbered free), tt)
     expression_in types locals levels globals behind (Binary a os ty) p d t (numbered, rest) room few short =
         let inner = expression_code (starts_of types) a p (left_slot (starts_of types) a os d t) t in
         let front = code_unless (left_of (starts_of types) a os) inner in
         let back = operations_code (starts_of types) os (p + length front) (operand_or (left_of (starts_of types) a os) (left_slot (starts_of types) a os d t)) d t in
         let some = operand_positive (type_of a) in
-        let free = has_room program r b types locals levels globals called results behind os ty t (operand_words (type_of a)) rest some (omega (arith, few)) in
-        let first = left_room program r b types locals levels globals called results behind os a t numbered (omega (arith, few)) free in
+        let free = has_room r b types locals levels os ty t (operand_words (type_of a)) rest some (omega (arith, few)) in
+        let first = left_room r b types locals levels os a t numbered (omega (arith, few)) free in
         append program r b types locals levels globals called results behind front back
-        (unless_in program r b types locals levels globals called results behind (left_of (starts_of types) a os) inner p (omega (arith, short, length-append front back)) (λ less. expression_in types locals levels globals behind a p (left_slot (starts_of types) a os d t) t numbered (left_slot_in program r b types locals levels globals called results behind a os ty d t numbered room first) (omega (arith, few)) less))
-        (operations_in types locals levels globals behind os ty (kind_at program r b types locals levels globals called results behind a) (p + length front) (operand_or (left_of (starts_of types) a os) (left_slot (starts_of types) a os d t)) d t (operand_words (type_of a)) rest room (first_left_in program r b types locals levels globals called results behind a os ty d t (operand_words (type_of a)) rest (omega (arith, few))) (left_in program r b types locals levels globals called results behind a os ty d t numbered room first) some (omega (arith, few)) (omega (arith, short, length-append front back)))
+        (unless_in program r b types locals levels globals called results behind (left_of (starts_of types) a os) inner p (omega (arith, short, length-append front back)) (λ less. expression_in types locals levels globals behind a p (left_slot (starts_of types) a os d t) t numbered (left_slot_in r b types locals levels a os ty d t numbered room first) (omega (arith, few)) less))
+        (operations_in types locals levels globals behind os ty (kind_at r b types locals levels a) (p + length front) (operand_or (left_of (starts_of types) a os) (left_slot (starts_of types) a os d t)) d t (operand_words (type_of a)) rest room (first_left_in r b types locals levels a os ty d t (operand_words (type_of a)) rest (omega (arith, few))) (left_in r b types locals levels a os ty d t numbered room first) some (omega (arith, few)) (omega (arith, short, length-append front back)))
     expression_in types locals levels globals behind (Assign (Local w n) c ty) p d t ((within, own), numbered) room few short =
         let o = operands.Slot (slot_of (starts_of types) n) in
         let front = initial_code (starts_of types) c p (slot_of (starts_of types) n) t in
         let back = copy_code (passed_words c) o d in
         let there : slot_of (starts_of types) n + words_of_kind (kind_passed c) ≤ r.slots = omega (arith, locals n within, own) in
         append program r b types locals levels globals called results behind front back (initial_in types locals levels globals behind c p (slot_of (starts_of types) n) t numbered there (omega (arith, few)) (omega (arith, few)) (omega (arith, short, length-append front back)))
-        (copy_in program r b types locals levels globals called results behind (is_in o d) c o d there (omega (arith, room, ap words_of_kind (assigned_kind program r b types locals levels globals called results behind (Local w n) c ty))))
+        (copy_in program r b types locals levels globals called results behind (is_in o d) c o d there (omega (arith, room, ap words_of_kind (assigned_kind r b types locals levels (Local w n) c ty))))
     expression_in types locals levels globals behind (Assign (Global n) c ty) p d t (within, numbered) room few short =
         let o = converted_operand (starts_of types) c t in
         let front = converted_operand_code (starts_of types) c p t in
         let store = global_code (passed_words c) (global_of (starts_of types) n) o in
         let back = copy_code (passed_words c) o d in
         append program r b types locals levels globals called results behind (front ++ store) back
-        (append program r b types locals levels globals called results behind front store (converted_operand_in types locals levels globals behind c p t numbered (omega (arith, few)) (omega (arith, few)) (omega (arith, short, length-append (front ++ store) back, length-append front store))) (assigned_in program r b types locals levels globals called results behind n c o within (converted_room program r b types locals levels globals called results behind c t numbered (omega (arith, few)))))
-        (copy_in program r b types locals levels globals called results behind (is_in o d) c o d (converted_room program r b types locals levels globals called results behind c t numbered (omega (arith, few))) (omega (arith, room, ap words_of_kind (assigned_kind program r b types locals levels globals called results behind (Global n) c ty))))
+        (append program r b types locals levels globals called results behind front store (converted_operand_in types locals levels globals behind c p t numbered (omega (arith, few)) (omega (arith, few)) (omega (arith, short, length-append (front ++ store) back, length-append front store))) (assigned_in program r b types locals levels globals called results behind n c o within (converted_room r b types locals levels c t numbered (omega (arith, few)))))
+        (copy_in program r b types locals levels globals called results behind (is_in o d) c o d (converted_room r b types locals levels c t numbered (omega (arith, few))) (omega (arith, room, ap words_of_kind (assigned_kind r b types locals levels (Global n) c ty))))
     expression_in types locals levels globals behind (Load x) p d t numbered room few short =
         let own = words_of (type_of_place x) in
         let some = words_positive (type_of_place x) in
@@ -146,7 +147,7 @@ module _ (program : PlainProgram) (r : Routine) (b : Numbering) (called : (n : �
         (stored_in program r b types locals levels globals called results behind x c p t numbered (omega (arith, few)) (omega (arith, short, length-append front back))
         (λ less. addressed_in program r b types locals levels globals called results behind x p t t place (omega (arith, few)) (omega (arith, few)) less (λ shorter. place_in types locals levels globals behind x place_words p t place (omega arith) (omega (arith, few)) shorter))
         (λ q less. converted_operand_in types locals levels globals behind c q (t + 1) numbered (omega (arith, few)) (omega (arith, few)) less))
-        (copy_in program r b types locals levels globals called results behind (is_in o d) c o d (converted_room program r b types locals levels globals called results behind c (t + 1) numbered (omega (arith, few))) (omega (arith, room, ap words_of_kind (stored_kind program r b types locals levels globals called results behind x c ty))))
+        (copy_in program r b types locals levels globals called results behind (is_in o d) c o d (converted_room r b types locals levels c (t + 1) numbered (omega (arith, few))) (omega (arith, room, ap words_of_kind (stored_kind r b types locals levels x c ty))))
     expression_in types locals levels globals behind (FreeUnique a) p d t numbered room few short =
         let slot = value_slot (starts_of types) a t in
         let o = value_operand (starts_of types) a t in
@@ -154,10 +155,10 @@ module _ (program : PlainProgram) (r : Routine) (b : Numbering) (called : (n : �
         let front = code_unless (operand_of (starts_of types) a) inner in
         let back = free_code o (p + length front) in
         let long = length-append front back in
-        let free : t + words_of_kind (kind_at program r b types locals levels globals called results behind a) ≤ r.slots = omega (arith, few, given_needs program r b types locals levels globals called results behind a numbered, operand_positive (type_of a)) in
+        let free : t + words_of_kind (kind_at r b types locals levels a) ≤ r.slots = omega (arith, few, given_needs r b types locals levels a numbered, operand_positive (type_of a)) in
         append program r b types locals levels globals called results behind front back
-        (unless_in program r b types locals levels globals called results behind (operand_of (starts_of types) a) inner p (omega (arith, short, long)) (λ less. expression_in types locals levels globals behind a p slot t numbered (slot_fits program r b types locals levels globals called results behind a t numbered free) (omega (arith, few)) less))
-        (free_in program r b types locals levels globals called results behind o (p + length front) (value_in program r b types locals levels globals called results behind a t numbered free) (omega (arith, short, long)))
+        (unless_in program r b types locals levels globals called results behind (operand_of (starts_of types) a) inner p (omega (arith, short, long)) (λ less. expression_in types locals levels globals behind a p slot t numbered (slot_fits r b types locals levels a t numbered free) (omega (arith, few)) less))
+        (free_in program r b types locals levels globals called results behind o (p + length front) (value_in r b types locals levels a t numbered free) (omega (arith, short, long)))
     expression_in types locals levels globals behind (New OnHeap i ty) p d t numbered room few short = made_in types locals levels globals behind i (operands.Word HEAP) 0 t ty p d t numbered tt room (omega arith) (omega (arith, few)) short
     expression_in types locals levels globals behind (New AsUnique i ty) p d t numbered room few short = made_in types locals levels globals behind i (operands.Word UNIQUE) 1 t ty p d t numbered tt room (omega arith) (omega (arith, few)) short
     expression_in types locals levels globals behind (New (ByHandle h) i ty) p d t (handle, numbered, made) room few short =
@@ -176,10 +177,10 @@ module _ (program : PlainProgram) (r : Routine) (b : Numbering) (called : (n : �
         let front = code_unless (operand_of (starts_of types) a) inner in
         let back = closing_code o in
         let long = length-append front back in
-        let free : t + words_of_kind (kind_at program r b types locals levels globals called results behind a) ≤ r.slots = omega (arith, few, given_needs program r b types locals levels globals called results behind a numbered, operand_positive (type_of a)) in
+        let free : t + words_of_kind (kind_at r b types locals levels a) ≤ r.slots = omega (arith, few, given_needs r b types locals levels a numbered, operand_positive (type_of a)) in
         append program r b types locals levels globals called results behind front back
-        (unless_in program r b types locals levels globals called results behind (operand_of (starts_of types) a) inner p (omega (arith, short, long)) (λ less. expression_in types locals levels globals behind a p slot t numbered (slot_fits program r b types locals levels globals called results behind a t numbered free) (omega (arith, few)) less))
-        (record { answer_in_range = omega arith; first_in_range = value_in program r b types locals levels globals called results behind a t numbered free; second_in_range = tt }, tt)
+        (unless_in program r b types locals levels globals called results behind (operand_of (starts_of types) a) inner p (omega (arith, short, long)) (λ less. expression_in types locals levels globals behind a p slot t numbered (slot_fits r b types locals levels a t numbered free) (omega (arith, few)) less))
+        (record { answer_in_range = omega arith; first_in_range = value_in r b types locals levels a t numbered free; second_in_range = tt }, tt)
 
     -- behind a handle of so many words, which is in the first of these slots where it is in one
     made_in : (types : Types) (locals : (n : ℕ) → n < b.locals → slot_of (starts_of types) n + words_in types.locals n ≤ r.slots) (levels : (l slot : ℕ) → slice_get types.counters l ≡ Some slot → slot < r.slots) (globals : AreGlobals program types.globals) (behind : types.raises + 4 < length r.code) → (i : Initial) (handle : Operand) (words first : ℕ) (ty : Ty) (p d t : ℕ) → FitsObject b types i → IsOperand r handle → d + words_of_kind (made_kind i) ≤ r.slots → t ≤ first + words → first + initial_value_need i words (words_of ty) ≤ r.slots → p + length (made_code (starts_of types) i handle p d t) < length r.code → AreIn program r b types locals levels globals called results behind (made_code (starts_of types) i handle p d t)
@@ -210,7 +211,7 @@ module _ (program : PlainProgram) (r : Routine) (b : Numbering) (called : (n : �
         let long_elements = length-append (inner ++ filled) ended in
         let long_both = length-append inner filled in
         append program r b types locals levels globals called results behind first (begun ++ elements)
-        (expression_in types locals levels globals behind n p t t fits_n (omega (arith, few, place, kind_few (kind_at program r b types locals levels globals called results behind n))) (omega (arith, few, place)) (omega (arith, short, long)))
+        (expression_in types locals levels globals behind n p t t fits_n (omega (arith, few, place, kind_few (kind_at r b types locals levels n))) (omega (arith, few, place)) (omega (arith, short, long)))
         (append program r b types locals levels globals called results behind begun elements
         (begun_in program r b types locals levels globals called results behind handle kind t there (omega (arith, few, place))) (
           (omega (arith, few, place), omega (arith, few, place), omega (arith, short, long, long_begun, long_elements, long_both)),
@@ -231,9 +232,9 @@ module _ (program : PlainProgram) (r : Routine) (b : Numbering) (called : (n : �
         let front = code_unless (operand_of (starts_of types) a) inner in
         let access = followed_code (starts_of types) (is_thin k) (span_in ty) o t (p + length front) in
         let long = length-append front access in
-        let free : t + words_of_kind (kind_at program r b types locals levels globals called results behind a) ≤ r.slots = omega (arith, few, given_needs program r b types locals levels globals called results behind a numbered, some) in
-        append program r b types locals levels globals called results behind front access (unless_in program r b types locals levels globals called results behind (operand_of (starts_of types) a) inner p (omega (arith, short, long)) (λ less. expression_in types locals levels globals behind a p slot t numbered (slot_fits program r b types locals levels globals called results behind a t numbered free) (omega (arith, few)) less))
-        (followed_in program r b types locals levels globals called results behind k (is_thin k) (span_in ty) o t (p + length front) refl pointer (subst (λ x. HasOperand program r b types locals levels globals called results behind o (words_of_kind x)) (sym kind_is) (value_room program r b types locals levels globals called results behind a t numbered free)) (omega (arith, few, wide, some)) (omega (arith, short, long)))
+        let free : t + words_of_kind (kind_at r b types locals levels a) ≤ r.slots = omega (arith, few, given_needs r b types locals levels a numbered, some) in
+        append program r b types locals levels globals called results behind front access (unless_in program r b types locals levels globals called results behind (operand_of (starts_of types) a) inner p (omega (arith, short, long)) (λ less. expression_in types locals levels globals behind a p slot t numbered (slot_fits r b types locals levels a t numbered free) (omega (arith, few)) less))
+        (followed_in program r b types locals levels globals called results behind k (is_thin k) (span_in ty) o t (p + length front) refl pointer (subst (λ x. HasOperand r b types locals levels o (words_of_kind x)) (sym kind_is) (value_room r b types locals levels a t numbered free)) (omega (arith, few, wide, some)) (omega (arith, short, long)))
     place_in types locals levels globals behind (Member k a s f ty) own p t (thin, there, numbered) some few short =
         let slot = value_slot (starts_of types) a t in
         let o = value_operand (starts_of types) a t in
@@ -241,9 +242,9 @@ module _ (program : PlainProgram) (r : Routine) (b : Numbering) (called : (n : �
         let front = code_unless (operand_of (starts_of types) a) inner in
         let check = check_code (starts_of types) null_exception o in
         let long = length-append front check in
-        let free : t + words_of_kind (kind_at program r b types locals levels globals called results behind a) ≤ r.slots = omega (arith, few, given_needs program r b types locals levels globals called results behind a numbered, some) in
-        append program r b types locals levels globals called results behind front check (unless_in program r b types locals levels globals called results behind (operand_of (starts_of types) a) inner p (omega (arith, short, long)) (λ less. expression_in types locals levels globals behind a p slot t numbered (slot_fits program r b types locals levels globals called results behind a t numbered free) (omega (arith, few)) less))
-        (check_in program r b types locals levels globals called results behind null_exception o (omega arith) (value_in program r b types locals levels globals called results behind a t numbered free))
+        let free : t + words_of_kind (kind_at r b types locals levels a) ≤ r.slots = omega (arith, few, given_needs r b types locals levels a numbered, some) in
+        append program r b types locals levels globals called results behind front check (unless_in program r b types locals levels globals called results behind (operand_of (starts_of types) a) inner p (omega (arith, short, long)) (λ less. expression_in types locals levels globals behind a p slot t numbered (slot_fits r b types locals levels a t numbered free) (omega (arith, few)) less))
+        (check_in program r b types locals levels globals called results behind null_exception o (omega arith) (value_in r b types locals levels a t numbered free))
     place_in types locals levels globals behind (Element a i ty) own p t (fat, three, first, second) some few short =
         let known = pointer_of (starts_of types) a i in
         let n = pointer_slot (starts_of types) a i t in
@@ -259,14 +260,14 @@ module _ (program : PlainProgram) (r : Routine) (b : Numbering) (called : (n : �
         let back = instructions.Binary plain_binary.Add (t + 2) (operands.Slot (n + 2)) o ∷ reached in
         let long = length-append front (operand ++ back) in
         let long_operand = length-append operand back in
-        let room : t + words_of_kind (kind_at program r b types locals levels globals called results behind a) ≤ r.slots = omega (arith, few, given_needs program r b types locals levels globals called results behind a first, some) in
+        let room : t + words_of_kind (kind_at r b types locals levels a) ≤ r.slots = omega (arith, few, given_needs r b types locals levels a first, some) in
         let wide = ap words_of_kind fat in
-        let free : t + 3 + words_of_kind (kind_at program r b types locals levels globals called results behind i) ≤ r.slots = omega (arith, few, three, given_needs program r b types locals levels globals called results behind i second, operand_positive (type_of i)) in
+        let free : t + 3 + words_of_kind (kind_at r b types locals levels i) ≤ r.slots = omega (arith, few, three, given_needs r b types locals levels i second, operand_positive (type_of i)) in
         let third : t + 2 < r.slots = omega (arith, room, wide) in
         let inside : n + 3 ≤ r.slots = pointer_room program r b types locals levels globals called results behind a i t fat first (omega (arith, room, wide)) in
         append program r b types locals levels globals called results behind front (operand ++ back) (unless_slot_in program r b types locals levels globals called results behind known pointer p (omega (arith, short, long)) (λ less. expression_in types locals levels globals behind a p t t first room (omega (arith, few)) less))
-        (append program r b types locals levels globals called results behind operand back (unless_in program r b types locals levels globals called results behind (operand_of (starts_of types) i) inner m (omega (arith, short, long, long_operand)) (λ less. expression_in types locals levels globals behind i m slot (t + 3) second (slot_fits program r b types locals levels globals called results behind i (t + 3) second free) (omega (arith, few, three)) less))
-        ((third, omega (arith, inside), value_in program r b types locals levels globals called results behind i (t + 3) second free), reached_in program r b types locals levels globals called results behind (span_in ty) n (t + 2) t place (omega (arith, inside)) third (omega (arith, few, three, some)) (omega (arith, short, long, long_operand))))
+        (append program r b types locals levels globals called results behind operand back (unless_in program r b types locals levels globals called results behind (operand_of (starts_of types) i) inner m (omega (arith, short, long, long_operand)) (λ less. expression_in types locals levels globals behind i m slot (t + 3) second (slot_fits r b types locals levels i (t + 3) second free) (omega (arith, few, three)) less))
+        ((third, omega (arith, inside), value_in r b types locals levels i (t + 3) second free), reached_in program r b types locals levels globals called results behind (span_in ty) n (t + 2) t place (omega (arith, inside)) third (omega (arith, few, three, some)) (omega (arith, short, long, long_operand))))
 
     pub initial_in : (types : Types) (locals : (n : ℕ) → n < b.locals → slot_of (starts_of types) n + words_in types.locals n ≤ r.slots) (levels : (l slot : ℕ) → slice_get types.counters l ≡ Some slot → slot < r.slots) (globals : AreGlobals program types.globals) (behind : types.raises + 4 < length r.code) → (c : Converted) (p d t : ℕ) → FitsConverted b types c → d + words_of_kind (kind_passed c) ≤ r.slots → t + converted_words c ≤ r.slots → t + converted_need c ≤ r.slots → p + length (initial_code (starts_of types) c p d t) < length r.code → AreIn program r b types locals levels globals called results behind (initial_code (starts_of types) c p d t)
     initial_in types locals levels globals behind (Convert from to a) p d t (kind, wide, numbered) room free few short =
@@ -288,8 +289,8 @@ module _ (program : PlainProgram) (r : Routine) (b : Numbering) (called : (n : �
         let front = code_unless known inner in
         let back = conversion_code (starts_of types) from to (span_of a) o (p + length front) in
         append program r b types locals levels globals called results behind front back
-        (unless_in program r b types locals levels globals called results behind known inner p (omega (arith, short, length-append front back)) (λ less. brought_by program r b types locals levels globals called results behind (masks from to) a p slot t numbered (source_fits program r b types locals levels globals called results behind from to a t (kind, wide, numbered) room) (omega (arith, room, ap words_of_kind kind)) (λ s within shorter. expression_in types locals levels globals behind a p s t numbered within few shorter) less))
-        (conversion_in program r b types locals levels globals called results behind from to (span_of a) o (p + length front) (brought_room program r b types locals levels globals called results behind (Convert from to a) t (kind, wide, numbered) room) (omega (arith, short, length-append front back)))
+        (unless_in program r b types locals levels globals called results behind known inner p (omega (arith, short, length-append front back)) (λ less. brought_by program r b types locals levels globals called results behind (masks from to) a p slot t numbered (source_fits r b types locals levels from to a t (kind, wide, numbered) room) (omega (arith, room, ap words_of_kind kind)) (λ s within shorter. expression_in types locals levels globals behind a p s t numbered within few shorter) less))
+        (conversion_in program r b types locals levels globals called results behind from to (span_of a) o (p + length front) (brought_room r b types locals levels (Convert from to a) t (kind, wide, numbered) room) (omega (arith, short, length-append front back)))
 
     -- the arguments of `putchar`, which all are evaluated with the same temporaries
     pub printed_in : (types : Types) (locals : (n : ℕ) → n < b.locals → slot_of (starts_of types) n + words_in types.locals n ≤ r.slots) (levels : (l slot : ℕ) → slice_get types.counters l ≡ Some slot → slot < r.slots) (globals : AreGlobals program types.globals) (behind : types.raises + 4 < length r.code) → (cs : Arguments) (p t first before : ℕ) → FitArguments b types cs → t + argument_words cs ≤ r.slots → t ≤ first + before → first + arguments_need cs before ≤ r.slots → p + length (printed_code (starts_of types) cs p t) < length r.code → AreIn program r b types locals levels globals called results behind (printed_code (starts_of types) cs p t)
@@ -310,7 +311,7 @@ module _ (program : PlainProgram) (r : Routine) (b : Numbering) (called : (n : �
         (converted_in types locals levels globals behind c p t numbered (omega (arith, few, place)) (omega (arith, needs, place)) (omega (arith, short, length-append front back)))
         (arguments_in types locals levels globals behind cs (p + length front) (t + passed_words c) first (before + converted_words c) rest (omega (arith, place, passed_is c, converted_least c)) (omega (arith, few)) (omega (arith, needs)) (omega (arith, short, length-append front back)))
 
-    operations_in : (types : Types) (locals : (n : ℕ) → n < b.locals → slot_of (starts_of types) n + words_in types.locals n ≤ r.slots) (levels : (l slot : ℕ) → slice_get types.counters l ≡ Some slot → slot < r.slots) (globals : AreGlobals program types.globals) (behind : types.raises + 4 < length r.code) → (os : Operations) (ty : Ty) (kind : Kind) (p : ℕ) (l : Operand) (d t left : ℕ) → FitOperations b types left ty os → d + words_of_kind (chain_kind kind os) ≤ r.slots → LeftIn program r b types locals levels globals called results behind os l → IsOperand r l → 1 ≤ left → t + operations_need os ty left ≤ r.slots → p + length (operations_code (starts_of types) os p l d t) < length r.code → AreIn program r b types locals levels globals called results behind (operations_code (starts_of types) os p l d t)
+    operations_in : (types : Types) (locals : (n : ℕ) → n < b.locals → slot_of (starts_of types) n + words_in types.locals n ≤ r.slots) (levels : (l slot : ℕ) → slice_get types.counters l ≡ Some slot → slot < r.slots) (globals : AreGlobals program types.globals) (behind : types.raises + 4 < length r.code) → (os : Operations) (ty : Ty) (kind : Kind) (p : ℕ) (l : Operand) (d t left : ℕ) → FitOperations b types left ty os → d + words_of_kind (chain_kind kind os) ≤ r.slots → LeftIn r b types locals levels os l → IsOperand r l → 1 ≤ left → t + operations_need os ty left ≤ r.slots → p + length (operations_code (starts_of types) os p l d t) < length r.code → AreIn program r b types locals levels globals called results behind (operations_code (starts_of types) os p l d t)
     operations_in types locals levels globals behind NoOperations ty kind p l d t left numbered room all inside some few short = tt
     operations_in types locals levels globals behind (ThenCompute o a os) ty kind p l d t left (numbered, rest) room all inside some few short =
         let inner = expression_code (starts_of types) a p (value_slot (starts_of types) a (suc t)) (suc t) in
@@ -322,14 +323,14 @@ module _ (program : PlainProgram) (r : Routine) (b : Numbering) (called : (n : �
         let back = operations_code (starts_of types) os (p + length front) (operands.Slot next) d t in
         let long = length-append front back in
         let long_front = length-append operand operator in
-        let free : suc t + words_of_kind (kind_at program r b types locals levels globals called results behind a) ≤ r.slots = omega (arith, few, some, operand_positive (type_of a), words_positive ty, given_needs program r b types locals levels globals called results behind a numbered) in
-        let next_room = next_in program r b types locals levels globals called results behind os kinds.Int d t room (omega (arith, free)) in
+        let free : suc t + words_of_kind (kind_at r b types locals levels a) ≤ r.slots = omega (arith, few, some, operand_positive (type_of a), words_positive ty, given_needs r b types locals levels a numbered) in
+        let next_room = next_in r b types locals levels os kinds.Int d t room (omega (arith, free)) in
         let next_few : next < r.slots = omega (arith, next_room) in
         append program r b types locals levels globals called results behind front back
         (append program r b types locals levels globals called results behind operand operator
-        (unless_in program r b types locals levels globals called results behind (operand_of (starts_of types) a) inner p (omega (arith, short, long, long_front)) (λ less. expression_in types locals levels globals behind a p (value_slot (starts_of types) a (suc t)) (suc t) numbered (slot_fits program r b types locals levels globals called results behind a (suc t) numbered free) (omega (arith, few, some)) less))
-        (operator_in program r b types locals levels globals called results behind o l m next next_few inside (value_in program r b types locals levels globals called results behind a (suc t) numbered free)))
-        (operations_in types locals levels globals behind os ty kinds.Int (p + length front) (operands.Slot next) d t (words_of ty) rest room (next_left_in program r b types locals levels globals called results behind os ty d t (words_of ty) rest (omega (arith, few))) next_few (words_positive ty) (omega (arith, few)) (omega (arith, short, long)))
+        (unless_in program r b types locals levels globals called results behind (operand_of (starts_of types) a) inner p (omega (arith, short, long, long_front)) (λ less. expression_in types locals levels globals behind a p (value_slot (starts_of types) a (suc t)) (suc t) numbered (slot_fits r b types locals levels a (suc t) numbered free) (omega (arith, few, some)) less))
+        (operator_in program r b types locals levels globals called results behind o l m next next_few inside (value_in r b types locals levels a (suc t) numbered free)))
+        (operations_in types locals levels globals behind os ty kinds.Int (p + length front) (operands.Slot next) d t (words_of ty) rest room (next_left_in r b types locals levels os ty d t (words_of ty) rest (omega (arith, few))) next_few (words_positive ty) (omega (arith, few)) (omega (arith, short, long)))
     operations_in types locals levels globals behind (ThenTest o a os) ty kind p l d t left (numbered, rest) room all inside some few short =
         let operand = expression_code (starts_of types) a (p + 1) t t in
         let next = next_slot os d t in
@@ -338,11 +339,11 @@ module _ (program : PlainProgram) (r : Routine) (b : Numbering) (called : (n : �
         let long = length-append front back in
         let long_front = length-append operand (truth_code t next) in
         let free : t < r.slots = omega (arith, few, some) in
-        let next_room = next_in program r b types locals levels globals called results behind os kinds.Int d t room (omega (arith, free)) in
+        let next_room = next_in r b types locals levels os kinds.Int d t room (omega (arith, free)) in
         let next_few : next < r.slots = omega (arith, next_room) in
         append program r b types locals levels globals called results behind front back
-        (test_in program r b types locals levels globals called results behind o operand p next t next_few free (omega (arith, short, long)) (expression_in types locals levels globals behind a (p + 1) t t numbered (omega (arith, few, free, given_needs program r b types locals levels globals called results behind a numbered)) (omega (arith, few)) (omega (arith, short, long, long_front))))
-        (operations_in types locals levels globals behind os ty kinds.Int (p + length front) (operands.Slot next) d t (words_of ty) rest room (next_left_in program r b types locals levels globals called results behind os ty d t (words_of ty) rest (omega (arith, few))) next_few (words_positive ty) (omega (arith, few)) (omega (arith, short, long)))
+        (test_in program r b types locals levels globals called results behind o operand p next t next_few free (omega (arith, short, long)) (expression_in types locals levels globals behind a (p + 1) t t numbered (omega (arith, few, free, given_needs r b types locals levels a numbered)) (omega (arith, few)) (omega (arith, short, long, long_front))))
+        (operations_in types locals levels globals behind os ty kinds.Int (p + length front) (operands.Slot next) d t (words_of ty) rest room (next_left_in r b types locals levels os ty d t (words_of ty) rest (omega (arith, few))) next_few (words_positive ty) (omega (arith, few)) (omega (arith, short, long)))
     operations_in types locals levels globals behind (ThenPointer o a os) ty kind p l d t left (wide, numbered, rest) room all inside some few short =
         let next = next_slot os d t in
         let m = value_operand (starts_of types) a (behind_left o t) in
@@ -350,11 +351,11 @@ module _ (program : PlainProgram) (r : Routine) (b : Numbering) (called : (n : �
         let front = pointer_code o l m operand next in
         let back = operations_code (starts_of types) os (p + length front) (operands.Slot next) d t in
         let long = length-append front back in
-        let next_room = next_in program r b types locals levels globals called results behind os (operator_kind o) d t room (omega (arith, few, wide, operator_few program r b types locals levels globals called results behind o)) in
+        let next_room = next_in r b types locals levels os (operator_kind o) d t room (omega (arith, few, wide, operator_few r b types locals levels o)) in
         let next_few : next < r.slots = omega (arith, next_room, kind_positive (operator_kind o)) in
         append program r b types locals levels globals called results behind front back
         (right_in program r b types locals levels globals called results behind o a ty p l next t left numbered wide next_room all inside (omega (arith, few)) (omega (arith, short, long)) (λ slot fits less. expression_in types locals levels globals behind a p slot (behind_left o t) numbered fits (omega (arith, few, wide)) less))
-        (operations_in types locals levels globals behind os ty (operator_kind o) (p + length front) (operands.Slot next) d t (words_of ty) rest room (next_left_in program r b types locals levels globals called results behind os ty d t (words_of ty) rest (omega (arith, few))) next_few (words_positive ty) (omega (arith, few)) (omega (arith, short, long)))
+        (operations_in types locals levels globals behind os ty (operator_kind o) (p + length front) (operands.Slot next) d t (words_of ty) rest room (next_left_in r b types locals levels os ty d t (words_of ty) rest (omega (arith, few))) next_few (words_positive ty) (omega (arith, few)) (omega (arith, short, long)))
     operations_in types locals levels globals behind (ThenPointerPeek n o a os) ty kind p l d t left (wide, numbered, rest) room all inside some few short =
         let next = next_slot os d t in
         let m = value_operand (starts_of types) a (behind_left o t) in
@@ -362,12 +363,12 @@ module _ (program : PlainProgram) (r : Routine) (b : Numbering) (called : (n : �
         let front = pointer_code o l m operand next in
         let back = operations_code (starts_of types) os (p + length front) (operands.Slot next) d t in
         let long = length-append front back in
-        let next_room = next_in program r b types locals levels globals called results behind os (operator_kind o) d t room (omega (arith, few, wide, operator_few program r b types locals levels globals called results behind o)) in
+        let next_room = next_in r b types locals levels os (operator_kind o) d t room (omega (arith, few, wide, operator_few r b types locals levels o)) in
         let next_few : next < r.slots = omega (arith, next_room, kind_positive (operator_kind o)) in
         append program r b types locals levels globals called results behind front back
         (right_in program r b types locals levels globals called results behind o a ty p l next t left numbered wide next_room all inside (omega (arith, few)) (omega (arith, short, long)) (λ slot fits less. expression_in types locals levels globals behind a p slot (behind_left o t) numbered fits (omega (arith, few, wide)) less))
-        (operations_in types locals levels globals behind os ty (operator_kind o) (p + length front) (operands.Slot next) d t (words_of ty) rest room (next_left_in program r b types locals levels globals called results behind os ty d t (words_of ty) rest (omega (arith, few))) next_few (words_positive ty) (omega (arith, few)) (omega (arith, short, long)))
+        (operations_in types locals levels globals behind os ty (operator_kind o) (p + length front) (operands.Slot next) d t (words_of ty) rest room (next_left_in r b types locals levels os ty d t (words_of ty) rest (omega (arith, few))) next_few (words_positive ty) (omega (arith, few)) (omega (arith, short, long)))
 
-  pub brought_in : (types : Types) (locals : (n : ℕ) → n < b.locals → slot_of (starts_of types) n + words_in types.locals n ≤ r.slots) (levels : (l slot : ℕ) → slice_get types.counters l ≡ Some slot → slot < r.slots) (globals : AreGlobals program types.globals) (behind : types.raises + 4 < length r.code) → (from to : Kind) (a : Expression) (p d t : ℕ) → FitsConverted b types (Convert from to a) → d + words_of_kind (kind_at program r b types locals levels globals called results behind a) ≤ r.slots → t + converted_words (Convert from to a) ≤ r.slots → t + expression_need a ≤ r.slots → p + length (brought_code (starts_of types) (Convert from to a) p d t) < length r.code → AreIn program r b types locals levels globals called results behind (brought_code (starts_of types) (Convert from to a) p d t)
+  pub brought_in : (types : Types) (locals : (n : ℕ) → n < b.locals → slot_of (starts_of types) n + words_in types.locals n ≤ r.slots) (levels : (l slot : ℕ) → slice_get types.counters l ≡ Some slot → slot < r.slots) (globals : AreGlobals program types.globals) (behind : types.raises + 4 < length r.code) → (from to : Kind) (a : Expression) (p d t : ℕ) → FitsConverted b types (Convert from to a) → d + words_of_kind (kind_at r b types locals levels a) ≤ r.slots → t + converted_words (Convert from to a) ≤ r.slots → t + expression_need a ≤ r.slots → p + length (brought_code (starts_of types) (Convert from to a) p d t) < length r.code → AreIn program r b types locals levels globals called results behind (brought_code (starts_of types) (Convert from to a) p d t)
   brought_in types locals levels globals behind from to a p d t (kind, wide, numbered) room free few short =
       brought_by program r b types locals levels globals called results behind (masks from to) a p d t numbered room (omega (arith, free, ap words_of_kind kind)) (λ slot fits less. expression_in types locals levels globals behind a p slot t numbered fits few less) short

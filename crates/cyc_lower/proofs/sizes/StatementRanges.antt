@@ -38,8 +38,8 @@ use Rattle.cyc_lower.proofs.slots.Slots.{words_positive, global-room, global-ins
 use Rattle.cyc_lower.specs.declared.statements.Opened.{Opened}
 use Rattle.cyc_lower.proofs.emission.Loops.{entry_long, over_length_is}
 use Rattle.cyc_lower.proofs.sizes.RangeLemmas.{operand_positive, converted_few, results_few, IsKnown, AreGlobals}
-use Rattle.cyc_lower.proofs.sizes.ValueRanges.{AreIn, append, unless_in, unless_slot_in, kind_at, HasOperand, slot_fits, value_room, value_in, converted_room, printed_value_in, move_in}
-use Rattle.cyc_lower.proofs.sizes.ValueRanges.{slot_with_in, left_with_in, conversion_in, loads_in, global_in, assigned_in, stores_in, addressed_in, stored_in, load_of_in, blank_in}
+use Rattle.cyc_lower.proofs.sizes.ValueRanges.{AreIn, append, unless_in, unless_slot_in, move_in, conversion_in, loads_in, global_in, assigned_in, stores_in, addressed_in, stored_in, load_of_in, blank_in}
+use Rattle.cyc_lower.proofs.sizes.ValueRoom.{kind_at, HasOperand, slot_fits, value_room, value_in, converted_room, printed_value_in, slot_with_in, left_with_in}
 use Rattle.cyc_lower.proofs.emission.Conditions.{tests_same, branch_same}
 use Rattle.cyc_lower.proofs.sizes.ExpressionRanges.{expression_in, place_in, initial_in, converted_operand_in, printed_in, brought_in}
 
@@ -50,21 +50,21 @@ module _ (program : PlainProgram) (r : Routine) (b : Numbering) (types : Types) 
       let front = converted_operand_code (starts_of types) c p t in
       let o = converted_operand (starts_of types) c t in
       let store = global_code (passed_words c) (global_of (starts_of types) n) o in
-      append program r b types locals levels globals called results behind front store (converted_operand_in program r b called results types locals levels globals behind c p t numbered free few (omega (arith, short, length-append front store))) (assigned_in program r b types locals levels globals called results behind n c o within (converted_room program r b types locals levels globals called results behind c t numbered free))
+      append program r b types locals levels globals called results behind front store (converted_operand_in program r b called results types locals levels globals behind c p t numbered free few (omega (arith, short, length-append front store))) (assigned_in program r b types locals levels globals called results behind n c o within (converted_room r b types locals levels c t numbered free))
 
   discarded_in : (a : Expression) (p t : ℕ) → Fits b types a → t + expression_need a + spare_slots ≤ r.slots → p + length (discarded_code (starts_of types) a p t) < length r.code → AreIn program r b types locals levels globals called results behind (discarded_code (starts_of types) a p t)
   discarded_in (Call callees.Putchar cs ty) p t (s, signature, many, passed, result, numbered) few short =
       let front = printed_code (starts_of types) cs p t in
       let back = instructions.WriteByte (printed_operand (starts_of types) cs (operands.Slot t) t) ∷ [] in
       append program r b types locals levels globals called results behind front back (printed_in program r b called results types locals levels globals behind cs p t t 0 numbered (omega (arith, few)) (omega arith) (omega (arith, few)) (omega (arith, short, length-append front back)))
-      (printed_value_in program r b types locals levels globals called results behind cs (operands.Slot t) t numbered (omega (arith, few)) (omega (arith, few)), tt)
+      (printed_value_in r b types locals levels cs (operands.Slot t) t numbered (omega (arith, few)) (omega (arith, few)), tt)
   discarded_in (Assign l c ty) p t (within, numbered) few short = assignment_in l c p t within numbered (omega (arith, few)) (omega (arith, few)) short
   discarded_in (Store x c ty) p t (place, numbered) few short =
       stored_in program r b types locals levels globals called results behind x c p t numbered (omega (arith, few)) short
       (λ less. addressed_in program r b types locals levels globals called results behind x p t t place (omega (arith, few)) (omega (arith, few)) less (λ shorter. place_in program r b called results types locals levels globals behind x place_words p t place (omega arith) (omega (arith, few)) shorter))
       (λ q less. converted_operand_in program r b called results types locals levels globals behind c q (t + 1) numbered (omega (arith, few)) (omega (arith, few)) less)
   discarded_in a p t numbered few short =
-      unless_in program r b types locals levels globals called results behind (operand_of (starts_of types) a) (expression_code (starts_of types) a p t t) p short (λ less. expression_in program r b called results types locals levels globals behind a p t t numbered (omega (arith, few, kind_few (kind_at program r b types locals levels globals called results behind a))) (omega (arith, few)) less)
+      unless_in program r b types locals levels globals called results behind (operand_of (starts_of types) a) (expression_code (starts_of types) a p t t) p short (λ less. expression_in program r b called results types locals levels globals behind a p t t numbered (omega (arith, few, kind_few (kind_at r b types locals levels a))) (omega (arith, few)) less)
 
   -- ---- statements
 
@@ -78,7 +78,7 @@ module _ (program : PlainProgram) (r : Routine) (b : Numbering) (types : Types) 
       let long = length-append front back in
       append program r b types locals levels globals called results behind front back
       (unless_in program r b types locals levels globals called results behind (left_with (is_simple (starts_of types) c) (operand_of (starts_of types) a)) (expression_code (starts_of types) a p slot t) p (omega (arith, short, long))
-      (λ less. expression_in program r b called results types locals levels globals behind a p slot t numbered (slot_with_in program r b types locals levels globals called results behind (is_simple (starts_of types) c) a t numbered (omega (arith, few, kind_few (kind_at program r b types locals levels globals called results behind a)))) (omega (arith, few)) less))
+      (λ less. expression_in program r b called results types locals levels globals behind a p slot t numbered (slot_with_in r b types locals levels (is_simple (starts_of types) c) a t numbered (omega (arith, few, kind_few (kind_at r b types locals levels a)))) (omega (arith, few)) less))
       (second (omega (arith, short, long)))
 
   -- what a condition compares
@@ -89,10 +89,10 @@ module _ (program : PlainProgram) (r : Routine) (b : Numbering) (types : Types) 
   sides_in (Some failing) beside a c whole p t first second all few few_second few_all short = pair_in a (Number 0) p t first few short (λ less. tt)
   sides_in None (Some failing) a c whole p t first second all few few_second few_all short =
       let next = p + length (first_code (starts_of types) a c p t) in
-      let free : suc t + words_of_kind (kind_at program r b types locals levels globals called results behind c) ≤ r.slots = omega (arith, few_second, kind_few (kind_at program r b types locals levels globals called results behind c)) in
+      let free : suc t + words_of_kind (kind_at r b types locals levels c) ≤ r.slots = omega (arith, few_second, kind_few (kind_at r b types locals levels c)) in
       pair_in a c p t first few short
       (λ less. unless_in program r b types locals levels globals called results behind (operand_of (starts_of types) c) (expression_code (starts_of types) c next (value_slot (starts_of types) c (suc t)) (suc t)) next less
-      (λ fits. expression_in program r b called results types locals levels globals behind c next (value_slot (starts_of types) c (suc t)) (suc t) second (slot_fits program r b types locals levels globals called results behind c (suc t) second free) (omega (arith, few_second)) fits))
+      (λ fits. expression_in program r b called results types locals levels globals behind c next (value_slot (starts_of types) c (suc t)) (suc t) second (slot_fits r b types locals levels c (suc t) second free) (omega (arith, few_second)) fits))
   sides_in None None a c whole p t first second all few few_second few_all short = pair_in whole (Number 0) p t all few_all short (λ less. tt)
 
   condition_in : (a : Expression) (p t : ℕ) → Fits b types a → t + expression_need a + spare_slots ≤ r.slots → p + length (condition_code (starts_of types) a p t) < length r.code → AreIn program r b types locals levels globals called results behind (condition_code (starts_of types) a p t)
@@ -109,13 +109,13 @@ module _ (program : PlainProgram) (r : Routine) (b : Numbering) (types : Types) 
       → t + expression_need a + spare_slots ≤ r.slots → suc t + expression_need c + spare_slots ≤ r.slots → t + expression_need whole + spare_slots ≤ r.slots
       → IsOperand r (first_operand (starts_of types) (nulled_or null beside a c whole).left (nulled_or null beside a c whole).right t) × IsOperand r (value_operand (starts_of types) (nulled_or null beside a c whole).right (suc t))
   sides_are_operands (Some failing) beside a c whole t first second all few few_second few_all =
-      (value_in program r b types locals levels globals called results behind a t first (omega (arith, few, kind_few (kind_at program r b types locals levels globals called results behind a))), tt)
+      (value_in r b types locals levels a t first (omega (arith, few, kind_few (kind_at r b types locals levels a))), tt)
   sides_are_operands None (Some failing) a c whole t first second all few few_second few_all = (
-    left_with_in program r b types locals levels globals called results behind (is_simple (starts_of types) c) a t first (omega (arith, few, kind_few (kind_at program r b types locals levels globals called results behind a))),
-    value_in program r b types locals levels globals called results behind c (suc t) second (omega (arith, few_second, kind_few (kind_at program r b types locals levels globals called results behind c))),
+    left_with_in r b types locals levels (is_simple (starts_of types) c) a t first (omega (arith, few, kind_few (kind_at r b types locals levels a))),
+    value_in r b types locals levels c (suc t) second (omega (arith, few_second, kind_few (kind_at r b types locals levels c))),
   )
   sides_are_operands None None a c whole t first second all few few_second few_all =
-      (value_in program r b types locals levels globals called results behind whole t all (omega (arith, few_all, kind_few (kind_at program r b types locals levels globals called results behind whole))), tt)
+      (value_in r b types locals levels whole t all (omega (arith, few_all, kind_few (kind_at r b types locals levels whole))), tt)
 
   compared_in : (a : Expression) (t : ℕ) → Fits b types a → t + expression_need a + spare_slots ≤ r.slots → IsOperand r (condition_of (starts_of types) a t).left × IsOperand r (condition_of (starts_of types) a t).right
   compared_in (Unary unary.Not a) t numbered few = compared_in a t numbered (omega (arith, few))
@@ -125,12 +125,12 @@ module _ (program : PlainProgram) (r : Routine) (b : Numbering) (types : Types) 
       sides_are_operands (null_compared o c) (pointers_failing o) a c (Binary a (ThenPointer o c NoOperations) ty) t first second (first, (wide, second, none)) (omega (arith, few)) (omega (arith, few, operand_positive (type_of a), operand_positive (type_of c), words_positive ty)) few
   compared_in (Binary a (ThenPointerPeek n o c NoOperations) ty) t (first, (wide, second, none)) few =
       sides_are_operands (null_compared o c) (pointers_failing o) a c (Binary a (ThenPointerPeek n o c NoOperations) ty) t first second (first, (wide, second, none)) (omega (arith, few)) (omega (arith, few, operand_positive (type_of a), operand_positive (type_of c), words_positive ty)) few
-  compared_in a t numbered few = (value_in program r b types locals levels globals called results behind a t numbered (omega (arith, few, kind_few (kind_at program r b types locals levels globals called results behind a))), tt)
+  compared_in a t numbered few = (value_in r b types locals levels a t numbered (omega (arith, few, kind_few (kind_at r b types locals levels a))), tt)
 
   -- ---- regions
 
   -- a local of this kind gets a value
-  named_in : (kind : Kind) (n : ℕ) (o : Operand) → n < b.locals → HasRoom types n kind → HasOperand program r b types locals levels globals called results behind o (words_of_kind kind) → AreIn program r b types locals levels globals called results behind (named_code (starts_of types) (words_of_kind kind) n o)
+  named_in : (kind : Kind) (n : ℕ) (o : Operand) → n < b.locals → HasRoom types n kind → HasOperand r b types locals levels o (words_of_kind kind) → AreIn program r b types locals levels globals called results behind (named_code (starts_of types) (words_of_kind kind) n o)
   named_in kind n o within room inside = (move_in program r b types locals levels globals called results behind kind (slot_of (starts_of types) n) o (omega (arith, locals n within, room)) inside, tt)
 
   opened_in : (n t : ℕ) → n < b.locals → HasRoom types n kinds.Handle → t + 3 ≤ r.slots → AreIn program r b types locals levels globals called results behind (opened_code (starts_of types) n t)
@@ -210,7 +210,7 @@ module _ (program : PlainProgram) (r : Routine) (b : Numbering) (types : Types) 
       let there : s + converted_words c ≤ r.slots = returned_in (keeps_words from to) kind is refl in
       append program r b types locals levels globals called results behind ((front ++ conversion) ++ leave) back
       (append program r b types locals levels globals called results behind (front ++ conversion) leave
-      (append program r b types locals levels globals called results behind front conversion (unless_slot_in program r b types locals levels globals called results behind known inner p (omega (arith, short, long, long_front)) (λ less. brought_in program r b called results types locals levels globals behind from to a p t t fits (omega (arith, few, kind_few (kind_at program r b types locals levels globals called results behind a))) (omega (arith, few, converted_few c)) (omega (arith, few)) less))
+      (append program r b types locals levels globals called results behind front conversion (unless_slot_in program r b types locals levels globals called results behind known inner p (omega (arith, short, long, long_front)) (λ less. brought_in program r b called results types locals levels globals behind from to a p t t fits (omega (arith, few, kind_few (kind_at r b types locals levels a))) (omega (arith, few, converted_few c)) (omega (arith, few)) less))
       (conversion_in program r b types locals levels globals called results behind from to (span_of a) (operands.Slot s) (p + length front) there (omega (arith, short, long, long_front))))
       (leave_in exits.in_function outside.1)) (omega (arith, there, results, words), tt)
     where
@@ -218,19 +218,19 @@ module _ (program : PlainProgram) (r : Routine) (b : Numbering) (types : Types) 
       value_of None numbered = absurd numbered
       value_of (Some ty) (same, fits) = (sym (type_words ty) ∙ ap words_of_kind (sym same), fits)
 
-      slot_there : (known : Option Operand) → HasOperand program r b types locals levels globals called results behind (operand_or known t) (converted_words (Convert from to a)) → slot_or known t + converted_words (Convert from to a) ≤ r.slots
+      slot_there : (known : Option Operand) → HasOperand r b types locals levels (operand_or known t) (converted_words (Convert from to a)) → slot_or known t + converted_words (Convert from to a) ≤ r.slots
       slot_there (Some (operands.Slot n)) inside = inside
       slot_there (Some (operands.Word w)) inside = omega (arith, few, kind_few from, kind_few to)
       slot_there None inside = inside
 
-      wide_room : from ≡ kind_at program r b types locals levels globals called results behind a → Fits b types a → (words_of_kind from ≡ words_of_kind to) → (known : Option Operand) → operand_of (starts_of types) a ≡ known → slot_or known t + converted_words (Convert from to a) ≤ r.slots
+      wide_room : from ≡ kind_at r b types locals levels a → Fits b types a → (words_of_kind from ≡ words_of_kind to) → (known : Option Operand) → operand_of (starts_of types) a ≡ known → slot_or known t + converted_words (Convert from to a) ≤ r.slots
       wide_room kind is wide (Some o) there =
           slot_there (Some o)
-          (subst (HasOperand program r b types locals levels globals called results behind o) (let same : words_of_kind (kind_at program r b types locals levels globals called results behind a) ≡ converted_words (Convert from to a) = omega (arith, ap words_of_kind kind, wide) in same)
-          (subst (λ (x : Option Operand). HasOperand program r b types locals levels globals called results behind (operand_or x (value_slot (starts_of types) a t)) (words_of_kind (kind_at program r b types locals levels globals called results behind a))) there (value_room program r b types locals levels globals called results behind a t is (omega (arith, few, kind_few (kind_at program r b types locals levels globals called results behind a))))))
+          (subst (HasOperand r b types locals levels o) (let same : words_of_kind (kind_at r b types locals levels a) ≡ converted_words (Convert from to a) = omega (arith, ap words_of_kind kind, wide) in same)
+          (subst (λ (x : Option Operand). HasOperand r b types locals levels (operand_or x (value_slot (starts_of types) a t)) (words_of_kind (kind_at r b types locals levels a))) there (value_room r b types locals levels a t is (omega (arith, few, kind_few (kind_at r b types locals levels a))))))
       wide_room kind is wide None there = omega (arith, few, kind_few from, kind_few to)
 
-      returned_in : (same : Bool) → from ≡ kind_at program r b types locals levels globals called results behind a → Fits b types a → keeps_words from to ≡ same → slot_or (if same then operand_of (starts_of types) a else None) t + converted_words (Convert from to a) ≤ r.slots
+      returned_in : (same : Bool) → from ≡ kind_at r b types locals levels a → Fits b types a → keeps_words from to ≡ same → slot_or (if same then operand_of (starts_of types) a else None) t + converted_words (Convert from to a) ≤ r.slots
       returned_in true kind is wide = wide_room kind is (keeps_wide from to wide) (operand_of (starts_of types) a) refl
       returned_in false kind is wide = omega (arith, few, kind_few from, kind_few to)
 
@@ -303,11 +303,11 @@ module _ (program : PlainProgram) (r : Routine) (b : Numbering) (types : Types) 
   thrown_in (Some a) p t numbered few short =
       let slot = value_slot (starts_of types) a t in
       unless_in program r b types locals levels globals called results behind (operand_of (starts_of types) a) (expression_code (starts_of types) a p slot t) p short
-      (λ less. expression_in program r b called results types locals levels globals behind a p slot t numbered (slot_fits program r b types locals levels globals called results behind a t numbered (omega (arith, few, kind_few (kind_at program r b types locals levels globals called results behind a)))) (omega (arith, few)) less)
+      (λ less. expression_in program r b called results types locals levels globals behind a p slot t numbered (slot_fits r b types locals levels a t numbered (omega (arith, few, kind_few (kind_at r b types locals levels a)))) (omega (arith, few)) less)
 
   thrown_there : (v : Option Expression) (t : ℕ) → FitsThrown b types v → t + thrown_need v + spare_slots ≤ r.slots → IsOperand r (thrown_operand (starts_of types) v t)
   thrown_there None t numbered few = tt
-  thrown_there (Some a) t numbered few = value_in program r b types locals levels globals called results behind a t numbered (omega (arith, few, kind_few (kind_at program r b types locals levels globals called results behind a)))
+  thrown_there (Some a) t numbered few = value_in r b types locals levels a t numbered (omega (arith, few, kind_few (kind_at r b types locals levels a)))
 
   caught_in : (x : Option ℕ) (t : ℕ) → FitsCaught b types x → t + 1 < r.slots → AreIn program r b types locals levels globals called results behind (caught_code (starts_of types) x t)
   caught_in None t numbered few = tt

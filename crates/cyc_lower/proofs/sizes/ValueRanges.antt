@@ -3,7 +3,6 @@ use Rattle.std.proofs.Common.{◌≡◌, ℕ, zero, suc, ◌+◌, ◌≤◌, ◌
 use Rattle.std.specs.List.{AllByRecursion}
 use Rattle.cyc_types.specs.declared.typed.Kind.{Kind}
 use Rattle.cyc_types.specs.declared.typed.Kind.TheVariants as kinds
-use Rattle.cyc_types.specs.declared.typed.Callee.TheVariants as callees
 use Rattle.cyc_types.specs.declared.typed.Operator.{Operator}
 use Rattle.cyc_types.specs.declared.typed.Operator.TheVariants as operators
 use Rattle.cyc_types.specs.declared.typed.PointerOperator.{PointerOperator}
@@ -12,9 +11,8 @@ use Rattle.cyc_types.specs.declared.typed.UnaryOperator.{UnaryOperator}
 use Rattle.cyc_types.specs.declared.typed.UnaryOperator.TheVariants as unary
 use Rattle.cyc_types.specs.declared.typed.LogicalOperator.{LogicalOperator}
 use Rattle.cyc_types.specs.declared.typed.LogicalOperator.TheVariants as logical
-use Rattle.cyc_types.specs.Types.{Ty, words_of, ValueType}
-use Rattle.cyc_types.specs.TypedTrees.{Counter, Load, New, OnHeap, AsUnique, ByHandle, Plain, Fields, Array, Dereference, Target, Lvalue, Local, Global, Expression, Number, NullPointer, Copy, Call, Unary, Binary, Assign, Converted, Convert, Arguments, NoArguments}
-use Rattle.cyc_types.specs.TypedTrees.{MoreArguments, Operations, NoOperations, ThenCompute, ThenTest, ThenPointer, type_of, Signature, Move, Peek, ThenPointerPeek, AddressOfCell, Store, Member, FreeUnique, NumberOfElements, Element, HeapRegion, FreeKey, AddressOf}
+use Rattle.cyc_types.specs.Types.{Ty, words_of}
+use Rattle.cyc_types.specs.TypedTrees.{Dereference, Target, Lvalue, Local, Global, Expression, Converted, Convert, type_of, Signature, Member, Element}
 use Rattle.cyc_types.specs.Numbered.{Numbering}
 use Rattle.cyc_plain.specs.declared.instruction.Comparison.{Comparison}
 use Rattle.cyc_plain.specs.declared.instruction.Comparison.TheVariants as comparisons
@@ -30,27 +28,26 @@ use Rattle.std.specs.Prelude.{◌==◌, max, if◌then◌else◌, ◌⊎◌}
 use Rattle.cyc_words.proofs.Lists.{all_append}
 use Rattle.cyc_meaning.specs.Operators.{null_exception, division_by_zero, array_bounds, array_size}
 use Rattle.cyc_meaning.specs.Values.{kind_of, words_of_kind, begins, behind as cell_end, is_thin, is_kind, bytes_of_kind}
-use Rattle.cyc_meaning.specs.FrameCount.{operand_words, converted_words, argument_words, expression_need, dereference_need, operations_need, place_words}
+use Rattle.cyc_meaning.specs.FrameCount.{operand_words, converted_words, expression_need, dereference_need, place_words}
 use Rattle.cyc_meaning.specs.Pointers.{result_kind as operator_kind}
 use Rattle.cyc_lower.specs.inside.Slots.{starts_of, slot_of, Types, global_of}
-use Rattle.cyc_lower.specs.inside.ValueCode.{converts_there, passed_words, moved_by, move_of, binary_operator, operand_or, code_unless, slot_or, code_unless_slot, left_with, next_slot, check_code, conversion_code, divisor_code, checked_code}
+use Rattle.cyc_lower.specs.inside.ValueCode.{converts_there, passed_words, moved_by, move_of, binary_operator, operand_or, code_unless, slot_or, code_unless_slot, left_with, check_code, conversion_code, divisor_code, checked_code}
 use Rattle.cyc_lower.specs.inside.ValueCode.{operator_code, truth_code, test_code, copy_code, pointer_operator, left_kind, behind_left, pointer_code, index_code, pointer_instructions, address_code, addressed_by, guard_code, count_code}
 use Rattle.cyc_lower.specs.inside.ValueCode.{span_of, tested_code, widened_code, conversion_by, bounds_code, stepped_code, scaled_code, summed_code, bounded_code, thinned_code, reached_code, followed_code, followed_operand, span_in}
 use Rattle.cyc_lower.specs.inside.ValueCode.{reached_operand, word_by_word, load_word, store_word, global_code, keeps_words, scale_of, load_of, store_of, kind_passed, unary_instruction, last_byte_code, blank_code, masked_by, low_byte, inside_code}
 use Rattle.cyc_lower.specs.inside.ObjectCode.{stores_code, cells_code, slots_of_kinds, object_code, free_code, saved_code, measured_code, sized_code, asked_code, begun_code, filled_code, most_elements}
-use Rattle.cyc_lower.specs.inside.ControlCode.{counter_operand}
-use Rattle.cyc_lower.specs.inside.ExpressionCode.{source_of, source_slot, operand_of, left_of, value_slot, slot_with, left_slot, value_operand, converted_operand, printed_operand}
-use Rattle.cyc_lower.specs.inside.ExpressionCode.{load_code, expression_code, brought_code, converted_operand_code, place_operand, place_offset, place_code, pointer_slot, is_simple}
+use Rattle.cyc_lower.specs.inside.ExpressionCode.{source_of, source_slot, operand_of, value_slot, value_operand, converted_operand, load_code, expression_code, brought_code, converted_operand_code, place_operand, place_offset, place_code, pointer_slot, is_simple}
 use Rattle.cyc_lower.specs.inside.Lowering.{results_of, store_address_code, store_code}
-use Rattle.cyc_lower.proofs.slots.Widths.{kind_positive, kind_few, type_words, result_kind, given, words_in, chain_kind, wide_kind, same_kind, more_words, HasGlobal, keeps_wide, changes_words, passed_is, unary_one_word}
-use Rattle.cyc_lower.proofs.relation.code.Fitting.{FitsPlace, FitsCell, Fits, FitsConverted, FitArguments, FitOperations}
+use Rattle.cyc_lower.proofs.slots.Widths.{kind_positive, kind_few, type_words, words_in, wide_kind, same_kind, more_words, HasGlobal, changes_words, passed_is}
+use Rattle.cyc_lower.proofs.relation.code.Fitting.{FitsPlace, FitsCell, Fits, FitsConverted}
 use Rattle.cyc_lower.specs.inside.Lowerable.{is_converted, is_pointer}
 use Rattle.cyc_lower.proofs.emission.Lengths.{past_long}
 use Rattle.cyc_lower.proofs.value_steps.ValueWords.{as_wide}
 use Rattle.cyc_lower.proofs.slots.Slots.{words_positive, global-room, global-inside}
-use Rattle.cyc_lower.proofs.sizes.RangeLemmas.{operand_positive, result_least, IsKnown, AreGlobals, IsIn}
+use Rattle.cyc_lower.proofs.sizes.RangeLemmas.{operand_positive, IsKnown, AreGlobals, IsIn}
 use Rattle.cyc_plain.specs.declared.instruction.UnaryOperator.TheVariants as plain_unary
 use Rattle.cyc_plain.specs.declared.instruction.Request.TheVariants as requests
+use Rattle.cyc_lower.proofs.sizes.ValueRoom.{kind_at, HasOperand, operand_in, given_needs, slot_fits, value_room, value_in, source_fits, less_operand, brought_room, converted_room}
 
 module _ (program : PlainProgram) (r : Routine) (b : Numbering) (types : Types) (locals : (n : ℕ) → n < b.locals → slot_of (starts_of types) n + words_in types.locals n ≤ r.slots) (levels : (l slot : ℕ) → slice_get types.counters l ≡ Some slot → slot < r.slots) (globals : AreGlobals program types.globals) (called : (n : ℕ) (s : Signature) → slice_get b.functions n ≡ Some s → IsKnown program n s) (results : r.results ≡ results_of b.result) (behind : types.raises + 4 < length r.code) where
   abbrev pub AreIn : List Instruction → Type 0
@@ -69,219 +66,14 @@ module _ (program : PlainProgram) (r : Routine) (b : Numbering) (types : Types) 
   unless_slot_in (Some (operands.Word n)) x p short inside = inside short
   unless_slot_in None x p short inside = inside short
 
-  -- the kind of what an expression gives
-  abbrev pub kind_at : Expression → Kind
-  kind_at a = given b.functions a
-
-  -- a value of so many words stands in slots of the function, where it does not stand in one word
-  abbrev pub HasOperand : Operand → (words : ℕ) → Type 0
-  HasOperand (operands.Slot n) words = n + words ≤ r.slots
-  HasOperand (operands.Word w) words = Unit {0}
-
-  operand_in : (o : Operand) (kind : Kind) → HasOperand o (words_of_kind kind) → IsOperand r o
-  operand_in (operands.Slot n) kind inside = omega (arith, inside, kind_positive kind)
-  operand_in (operands.Word w) kind inside = tt
-
-  pub assigned_kind : (l : Lvalue) (c : Converted) (ty : ValueType) → kind_at (Assign l c ty) ≡ kind_passed c
-  assigned_kind l (Convert from to a) ty = refl
-
-  -- what a chain gives has as many as its left operand, or as its operators need
-  pub operator_few : (o : PointerOperator) → words_of_kind (operator_kind o) ≤ words_of_kind (left_kind o)
-  operator_few pointers.AddFat = omega arith
-  operator_few pointers.SubtractFat = omega arith
-  operator_few pointers.ThinIsNull = omega arith
-  operator_few pointers.ThinIsNotNull = omega arith
-  operator_few pointers.FatIsNull = omega arith
-  operator_few pointers.FatIsNotNull = omega arith
-  operator_few pointers.NullIs = omega arith
-  operator_few pointers.NullIsNot = omega arith
-  operator_few pointers.EqualThin = omega arith
-  operator_few pointers.NotEqualThin = omega arith
-
-  chain_needs : (os : Operations) (kind : Kind) (t : Ty) (left : ℕ) → FitOperations b types left t os → words_of_kind (chain_kind kind os) ≤ max (words_of_kind kind) (max 1 (operations_need os t left))
-  chain_needs NoOperations kind t left numbered = omega arith
-  chain_needs (ThenCompute o a os) kind t left (numbered, rest) = omega (arith, chain_needs os kinds.Int t (words_of t) rest)
-  chain_needs (ThenTest o a os) kind t left (numbered, rest) = omega (arith, chain_needs os kinds.Int t (words_of t) rest)
-  chain_needs (ThenPointer o a os) kind t left (wide, numbered, rest) = omega (arith, chain_needs os (operator_kind o) t (words_of t) rest, operator_few o, wide)
-  chain_needs (ThenPointerPeek n o a os) kind t left (wide, numbered, rest) = omega (arith, chain_needs os (operator_kind o) t (words_of t) rest, operator_few o, wide)
-
-  pub stored_kind : (x : Dereference) (c : Converted) (ty : ValueType) → kind_at (Store x c ty) ≡ kind_passed c
-  stored_kind x (Convert from to a) ty = refl
-
-  -- what is given has as many words as are needed for it, or one
-  pub given_needs : (a : Expression) → Fits b types a → words_of_kind (kind_at a) ≤ max 1 (expression_need a)
-  given_needs (Number n) numbered = omega arith
-  given_needs NullPointer numbered = omega arith
-  given_needs (Counter l) numbered = omega arith
-  given_needs (Copy l t) numbered = omega (arith, type_words t)
-  given_needs (Move p n t) numbered = omega (arith, type_words t)
-  given_needs (Peek p n t) numbered = omega (arith, type_words t)
-  given_needs (Call callees.Putchar cs t) numbered = omega arith
-  given_needs (Call callees.Getchar cs t) numbered = omega arith
-  given_needs (Call (callees.Function n) cs t) (s, signature, many, passed, result, numbered) =
-      omega (arith, ap (λ (o : Option Signature). words_of_kind (result_kind o)) signature, (result_least s.result).1, result)
-  given_needs (NumberOfElements a) numbered = omega arith
-  given_needs (Unary o a) numbered = omega (arith, unary_one_word o)
-  given_needs (Binary a os t) (numbered, rest) = omega (arith, given_needs a numbered, chain_needs os (kind_at a) t (operand_words (type_of a)) rest)
-  given_needs (Assign l (Convert from to a) t) numbered = omega arith
-  given_needs (Load (Target k a t)) numbered = omega (arith, type_words t)
-  given_needs (Load (Element a i t)) numbered = omega (arith, type_words t)
-  given_needs (Load (Member k a s f t)) numbered = omega (arith, type_words t)
-  given_needs (FreeUnique a) numbered = omega (arith, operand_positive (type_of a))
-  given_needs (New OnHeap (Plain kind a) t) numbered = omega arith
-  given_needs (New OnHeap (Fields cs) t) numbered = omega arith
-  given_needs (New OnHeap (Array p level n kind a) t) numbered = omega arith
-  given_needs (New AsUnique (Plain kind a) t) numbered = omega arith
-  given_needs (New AsUnique (Fields cs) t) numbered = omega arith
-  given_needs (New AsUnique (Array p level n kind a) t) numbered = omega arith
-  given_needs (New (ByHandle h) (Plain kind a) t) numbered = omega arith
-  given_needs (New (ByHandle h) (Fields cs) t) numbered = omega arith
-  given_needs (New (ByHandle h) (Array p level n kind a) t) numbered = omega arith
-  given_needs HeapRegion numbered = omega arith
-  given_needs (FreeKey a) numbered = omega arith
-  given_needs (AddressOf l t) numbered = omega arith
-  given_needs (AddressOfCell x t) numbered = omega arith
-  given_needs (Store x (Convert from to a) t) numbered = omega arith
-
-  pub slot_fits : (a : Expression) (t : ℕ) → Fits b types a → t + words_of_kind (kind_at a) ≤ r.slots → value_slot (starts_of types) a t + words_of_kind (kind_at a) ≤ r.slots
-  slot_fits (Assign (Local w n) (Convert from to a) ty) t ((within, room), numbered) few = omega (arith, locals n within, room)
-  slot_fits (Unary unary.Widen a) t (one, numbered) few = omega (arith, one, slot_fits a t numbered (omega (arith, few, one)))
-  slot_fits a t numbered few = few
-
-  pub value_room : (a : Expression) (t : ℕ) → Fits b types a → t + words_of_kind (kind_at a) ≤ r.slots → HasOperand (value_operand (starts_of types) a t) (words_of_kind (kind_at a))
-  value_room (Number n) t numbered few = tt
-  value_room NullPointer t numbered few = tt
-  value_room HeapRegion t numbered few = tt
-  value_room (Copy (Local w n) ty) t (within, room) few = omega (arith, locals n within, room)
-  value_room (Move w n ty) t (within, room) few = omega (arith, locals n within, room)
-  value_room (Peek w n ty) t (within, room) few = omega (arith, locals n within, room)
-  value_room (Assign (Local w n) (Convert from to a) ty) t ((within, room), numbered) few = omega (arith, locals n within, room)
-  value_room (Counter l) t numbered few = by (slice_get types.counters l) refl
-    where
-      by : (s : Option ℕ) → slice_get types.counters l ≡ s → HasOperand (operand_or (counter_operand s) t) 1
-      by (Some n) there = omega (arith, levels l n there)
-      by None none = few
-  value_room (Unary unary.Widen a) t (one, numbered) few =
-      subst (HasOperand (value_operand (starts_of types) a t)) one (value_room a t numbered (omega (arith, few, one)))
-  value_room a t numbered few = few
-
-  pub value_in : (a : Expression) (t : ℕ) → Fits b types a → t + words_of_kind (kind_at a) ≤ r.slots → IsOperand r (value_operand (starts_of types) a t)
-  value_in a t numbered few = operand_in (value_operand (starts_of types) a t) (kind_at a) (value_room a t numbered few)
-
-  -- a value that is converted has room before and after
-  pub source_fits : (from to : Kind) (a : Expression) (t : ℕ) → FitsConverted b types (Convert from to a) → t + converted_words (Convert from to a) ≤ r.slots
-      → source_slot (starts_of types) (Convert from to a) t + words_of_kind (kind_at a) ≤ r.slots
-  source_fits from to a t (kind, wide, numbered) few = by (keeps_words from to)
-    where
-      by : (same : Bool) → (if same then value_slot (starts_of types) a t else t) + words_of_kind (kind_at a) ≤ r.slots
-      by true = slot_fits a t numbered (omega (arith, few, ap words_of_kind kind))
-      by false = omega (arith, few, ap words_of_kind kind)
-
-  less_operand : (o : Operand) (words fewer : ℕ) → fewer ≤ words → HasOperand o words → HasOperand o fewer
-  less_operand (operands.Slot n) words fewer less inside = omega (arith, less, inside)
-  less_operand (operands.Word w) words fewer less inside = tt
-
-  pub brought_room : (c : Converted) (t : ℕ) → FitsConverted b types c → t + converted_words c ≤ r.slots → HasOperand (converted_operand (starts_of types) c t) (converted_words c)
-  brought_room (Convert from to a) t (kind, wide, numbered) few = by (keeps_words from to) refl
-    where
-      by : (same : Bool) → keeps_words from to ≡ same
-          → HasOperand (operand_or (if same then operand_of (starts_of types) a else None) (if same then value_slot (starts_of types) a t else t)) (converted_words (Convert from to a))
-      by true wide =
-          subst (HasOperand (value_operand (starts_of types) a t))
-          (let same : words_of_kind (kind_at a) ≡ converted_words (Convert from to a) = omega (arith, ap words_of_kind kind, keeps_wide from to wide) in same)
-          (value_room a t numbered (omega (arith, few, ap words_of_kind kind)))
-      by false wide = few
-
-  pub converted_room : (c : Converted) (t : ℕ) → FitsConverted b types c → t + converted_words c ≤ r.slots → HasOperand (converted_operand (starts_of types) c t) (words_of_kind (kind_passed c))
-  converted_room (Convert from to a) t numbered few =
-      less_operand (converted_operand (starts_of types) (Convert from to a) t) (converted_words (Convert from to a)) (words_of_kind to) (omega arith) (brought_room (Convert from to a) t numbered few)
-
-  converted_value_in : (c : Converted) (t : ℕ) → FitsConverted b types c → t + converted_words c ≤ r.slots → IsOperand r (converted_operand (starts_of types) c t)
-  converted_value_in c t numbered few = operand_in (converted_operand (starts_of types) c t) (kind_passed c) (converted_room c t numbered few)
-
-  pub printed_value_in : (cs : Arguments) (o : Operand) (t : ℕ) → FitArguments b types cs → IsOperand r o → t + argument_words cs ≤ r.slots → IsOperand r (printed_operand (starts_of types) cs o t)
-  printed_value_in NoArguments o t numbered inside few = inside
-  printed_value_in (MoreArguments c cs) o t (first, rest) inside few =
-      printed_value_in cs (converted_operand (starts_of types) c t) t rest (converted_value_in c t first (omega (arith, few))) (omega (arith, few))
-
   -- a value is moved
-  pub move_in : (kind : Kind) (d : ℕ) (o : Operand) → d + words_of_kind kind ≤ r.slots → HasOperand o (words_of_kind kind) → IsIn program r types.locals (move_of (words_of_kind kind) d o)
+  pub move_in : (kind : Kind) (d : ℕ) (o : Operand) → d + words_of_kind kind ≤ r.slots → HasOperand r b types locals levels o (words_of_kind kind) → IsIn program r types.locals (move_of (words_of_kind kind) d o)
   move_in kind d (operands.Word w) room inside = (omega (arith, room, kind_positive kind), tt)
   move_in kind d (operands.Slot n) room inside = by (words_of_kind kind == 1)
     where
       by : (one : Bool) → IsIn program r types.locals (if one then instructions.Move d (operands.Slot n) else instructions.MoveWords d n (words_of_kind kind))
       by true = (omega (arith, room, kind_positive kind), omega (arith, inside, kind_positive kind))
       by false = record { some = kind_positive kind; few = kind_few kind; destination_in_range = room; source_in_range = inside }
-
-  -- the slot for what an operator gives has room for it
-  pub next_in : (os : Operations) (kind : Kind) (d t : ℕ) → d + words_of_kind (chain_kind kind os) ≤ r.slots → t + words_of_kind kind ≤ r.slots → next_slot os d t + words_of_kind kind ≤ r.slots
-  next_in NoOperations kind d t few room = few
-  next_in (ThenCompute o a os) kind d t few room = room
-  next_in (ThenTest o a os) kind d t few room = room
-  next_in (ThenPointer o a os) kind d t few room = room
-  next_in (ThenPointerPeek n o a os) kind d t few room = room
-
-  -- a left operand of an operator on pointers has its words
-  abbrev pub LeftIn : Operations → Operand → Type 0
-  LeftIn (ThenPointer o a os) l = HasOperand l (words_of_kind (left_kind o))
-  LeftIn (ThenPointerPeek n o a os) l = HasOperand l (words_of_kind (left_kind o))
-  LeftIn os l = Unit {0}
-
-  pub next_left_in : (os : Operations) (ty : Ty) (d t left : ℕ) → FitOperations b types left ty os → t + operations_need os ty left ≤ r.slots → LeftIn os (operands.Slot (next_slot os d t))
-  next_left_in NoOperations ty d t left numbered few = tt
-  next_left_in (ThenCompute o a os) ty d t left numbered few = tt
-  next_left_in (ThenTest o a os) ty d t left numbered few = tt
-  next_left_in (ThenPointer o a os) ty d t left (wide, numbered, rest) few = omega (arith, few, wide)
-  next_left_in (ThenPointerPeek n o a os) ty d t left (wide, numbered, rest) few = omega (arith, few, wide)
-
-  pub first_left_in : (a : Expression) (os : Operations) (ty : Ty) (d t left : ℕ) → FitOperations b types left ty os → t + operations_need os ty left ≤ r.slots
-      → LeftIn os (operand_or (left_of (starts_of types) a os) (left_slot (starts_of types) a os d t))
-  first_left_in a NoOperations ty d t left numbered few = tt
-  first_left_in a (ThenCompute o c os) ty d t left numbered few = tt
-  first_left_in a (ThenTest o c os) ty d t left numbered few = tt
-  first_left_in a (ThenPointer o c os) ty d t left (wide, numbered, rest) few = omega (arith, few, wide)
-  first_left_in a (ThenPointerPeek n o c os) ty d t left (wide, numbered, rest) few = omega (arith, few, wide)
-
-  -- where operators follow, there is room for a value
-  abbrev RoomFor : Operations → ℕ → Type 0
-  RoomFor NoOperations t = Unit {0}
-  RoomFor os t = t < r.slots
-
-  pub has_room : (os : Operations) (ty : Ty) (t left : ℕ) → FitOperations b types left ty os → 1 ≤ left → t + operations_need os ty left ≤ r.slots → RoomFor os t
-  has_room NoOperations ty t left numbered some few = tt
-  has_room (ThenCompute o a os) ty t left numbered some few = omega (arith, few, some)
-  has_room (ThenTest o a os) ty t left numbered some few = omega (arith, few, some)
-  has_room (ThenPointer o a os) ty t left numbered some few = omega (arith, few, some)
-  has_room (ThenPointerPeek n o a os) ty t left numbered some few = omega (arith, few, some)
-
-  pub slot_with_in : (simple : Bool) (a : Expression) (t : ℕ) → Fits b types a → t + words_of_kind (kind_at a) ≤ r.slots → slot_with (starts_of types) simple a t + words_of_kind (kind_at a) ≤ r.slots
-  slot_with_in true a t numbered few = slot_fits a t numbered few
-  slot_with_in false a t numbered few = few
-
-  pub left_with_in : (simple : Bool) (a : Expression) (t : ℕ) → Fits b types a → t + words_of_kind (kind_at a) ≤ r.slots → IsOperand r (operand_or (left_with simple (operand_of (starts_of types) a)) (slot_with (starts_of types) simple a t))
-  left_with_in true a t numbered few = value_in a t numbered few
-  left_with_in false a t numbered few = omega (arith, few, kind_positive (kind_at a))
-
-  -- and for what they begin with
-  abbrev LeftRoom : Operations → Expression → ℕ → Type 0
-  LeftRoom NoOperations a t = Unit {0}
-  LeftRoom os a t = t + words_of_kind (kind_at a) ≤ r.slots
-
-  pub left_room : (os : Operations) (a : Expression) (t : ℕ) → Fits b types a → t + expression_need a ≤ r.slots → RoomFor os t → LeftRoom os a t
-  left_room NoOperations a t numbered few room = tt
-  left_room os a t numbered few room = omega (arith, few, room, given_needs a numbered)
-
-  pub left_slot_in : (a : Expression) (os : Operations) (ty : Ty) (d t : ℕ) → Fits b types a → d + words_of_kind (kind_at (Binary a os ty)) ≤ r.slots → LeftRoom os a t
-      → left_slot (starts_of types) a os d t + words_of_kind (kind_at a) ≤ r.slots
-  left_slot_in a NoOperations ty d t numbered few room = few
-  left_slot_in a (ThenCompute o c os) ty d t numbered few room = slot_with_in (is_simple (starts_of types) c) a t numbered room
-  left_slot_in a os ty d t numbered few room = room
-
-  pub left_in : (a : Expression) (os : Operations) (ty : Ty) (d t : ℕ) → Fits b types a → d + words_of_kind (kind_at (Binary a os ty)) ≤ r.slots → LeftRoom os a t
-      → IsOperand r (operand_or (left_of (starts_of types) a os) (left_slot (starts_of types) a os d t))
-  left_in a NoOperations ty d t numbered few room = omega (arith, few, kind_positive (kind_at a))
-  left_in a (ThenCompute o c os) ty d t numbered few room = left_with_in (is_simple (starts_of types) c) a t numbered room
-  left_in a os ty d t numbered few room = omega (arith, room, kind_positive (kind_at a))
 
   guard_in : (tag : ℕ) (failing : Comparison) (o m : Operand) → tag ≤ 4 → IsOperand r o → IsOperand r m → AreIn (guard_code (starts_of types) tag failing o m)
   guard_in tag failing o m few left right = ((left, right, omega (arith, few, behind)), tt)
@@ -332,9 +124,9 @@ module _ (program : PlainProgram) (r : Routine) (b : Numbering) (types : Types) 
       append scaled (inside ++ summed) (scaled_in span m (t + 3) index room)
       (append inside summed (inside_in n m s first index (omega (arith, short, length-append scaled (inside ++ summed)))) (summed_in span n (t + 3) t (omega (arith, first)) room (omega (arith, room))))
 
-  pub followed_in : (k : Kind) (thin : Bool) (span : Option ℕ) (o : Operand) (t p : ℕ) → is_thin k ≡ thin → is_pointer k ≡ true → HasOperand o (words_of_kind k) → t + words_of_kind k < r.slots
+  pub followed_in : (k : Kind) (thin : Bool) (span : Option ℕ) (o : Operand) (t p : ℕ) → is_thin k ≡ thin → is_pointer k ≡ true → HasOperand r b types locals levels o (words_of_kind k) → t + words_of_kind k < r.slots
       → p + length (followed_code (starts_of types) thin span o t p) < length r.code → AreIn (followed_code (starts_of types) thin span o t p)
-  followed_in k true span o t p is pointer inside room short = check_in null_exception o (omega arith) (operand_in o k inside)
+  followed_in k true span o t p is pointer inside room short = check_in null_exception o (omega arith) (operand_in r b types locals levels o k inside)
   followed_in k false span (operands.Word w) t p is pointer inside room short = check_in null_exception (operands.Word w) (omega arith) tt
   followed_in k false span (operands.Slot n) t p is pointer inside room short =
       let fat : k ≡ kinds.Fat = same_kind k kinds.Fat (ap (λ (b : Bool). if b then true else is_kind k kinds.Fat) (sym is) ∙ pointer) in
@@ -351,11 +143,11 @@ module _ (program : PlainProgram) (r : Routine) (b : Numbering) (types : Types) 
   tested_in kinds.NonNull o inside = check_in null_exception o (omega arith) inside
   tested_in to o inside = tt
 
-  widened_in : (o : Operand) → HasOperand o 3 → AreIn (widened_code o)
+  widened_in : (o : Operand) → HasOperand r b types locals levels o 3 → AreIn (widened_code o)
   widened_in (operands.Slot n) inside = ((omega (arith, inside), omega (arith, inside), tt), ((omega (arith, inside), tt), tt))
   widened_in (operands.Word w) inside = tt
 
-  thinned_in : (to : Kind) (span : Option ℕ) (o : Operand) (p : ℕ) → HasOperand o 3 → p + length (thinned_code (starts_of types) to span o p) < length r.code → AreIn (thinned_code (starts_of types) to span o p)
+  thinned_in : (to : Kind) (span : Option ℕ) (o : Operand) (p : ℕ) → HasOperand r b types locals levels o 3 → p + length (thinned_code (starts_of types) to span o p) < length r.code → AreIn (thinned_code (starts_of types) to span o p)
   thinned_in kinds.NonNull span (operands.Slot n) p inside short =
       append (check_code (starts_of types) null_exception (operands.Slot n)) (bounded_code (starts_of types) span n (n + 2) n) (check_in null_exception (operands.Slot n) (omega arith) (omega (arith, inside)))
       (bounded_in span n (n + 2) n (omega (arith, inside)) (omega (arith, inside)) inside)
@@ -363,17 +155,17 @@ module _ (program : PlainProgram) (r : Routine) (b : Numbering) (types : Types) 
   thinned_in to span o p inside short = tt
 
   -- a fat pointer is converted in three words
-  conversion_by_in : (same : Bool) (to : Kind) (span : Option ℕ) (o : Operand) (p words : ℕ) → words_of_kind to ≤ words → (same ≡ false → (to ≡ kinds.Char) ⊎ (3 ≤ words)) → HasOperand o words
+  conversion_by_in : (same : Bool) (to : Kind) (span : Option ℕ) (o : Operand) (p words : ℕ) → words_of_kind to ≤ words → (same ≡ false → (to ≡ kinds.Char) ⊎ (3 ≤ words)) → HasOperand r b types locals levels o words
       → p + length (conversion_by (starts_of types) same to span o p) < length r.code → AreIn (conversion_by (starts_of types) same to span o p)
-  conversion_by_in true to span o p words least three inside short = tested_in to o (operand_in o to (less_operand o words (words_of_kind to) least inside))
+  conversion_by_in true to span o p words least three inside short = tested_in to o (operand_in r b types locals levels o to (less_operand r b types locals levels o words (words_of_kind to) least inside))
   conversion_by_in false kinds.Char span o p words least three inside short = tt
-  conversion_by_in false kinds.Fat span o p words least three inside short = widened_in o (less_operand o words 3 least inside)
+  conversion_by_in false kinds.Fat span o p words least three inside short = widened_in o (less_operand r b types locals levels o words 3 least inside)
   conversion_by_in false to span o p words least three inside short = elim (three refl) [
     | inl char ↦ absurd (let f : to ≡ kinds.Char = char in cc)
-    | inr many ↦ thinned_in to span o p (less_operand o words 3 many inside) short
+    | inr many ↦ thinned_in to span o p (less_operand r b types locals levels o words 3 many inside) short
   ]
 
-  pub conversion_in : (from to : Kind) (span : Option ℕ) (o : Operand) (p : ℕ) → HasOperand o (max (words_of_kind from) (words_of_kind to)) → p + length (conversion_code (starts_of types) from to span o p) < length r.code → AreIn (conversion_code (starts_of types) from to span o p)
+  pub conversion_in : (from to : Kind) (span : Option ℕ) (o : Operand) (p : ℕ) → HasOperand r b types locals levels o (max (words_of_kind from) (words_of_kind to)) → p + length (conversion_code (starts_of types) from to span o p) < length r.code → AreIn (conversion_code (starts_of types) from to span o p)
   conversion_in from to span o p inside short =
       conversion_by_in (keeps_words from to) to span o p (max (words_of_kind from) (words_of_kind to)) (omega arith) changed inside short
     where
@@ -419,12 +211,12 @@ module _ (program : PlainProgram) (r : Routine) (b : Numbering) (types : Types) 
   saves_in zero first n inside few = tt
   saves_in (suc words) first n inside few = ((omega (arith, inside), omega (arith, few)), saves_in words (suc first) (suc n) (omega (arith, inside)) (omega (arith, few)))
 
-  pub global_in : (words first : ℕ) (o : Operand) → 1 ≤ words → first + words ≤ length program.globals → HasOperand o words → AreIn (global_code words first o)
+  pub global_in : (words first : ℕ) (o : Operand) → 1 ≤ words → first + words ≤ length program.globals → HasOperand r b types locals levels o words → AreIn (global_code words first o)
   global_in words first (operands.Slot n) some inside few = saves_in words first n inside few
   global_in words first (operands.Word n) some inside few = ((omega (arith, some, inside), few), tt)
 
   -- all words of a value have room in a global
-  pub assigned_in : (n : ℕ) (c : Converted) (o : Operand) → HasGlobal types n (kind_passed c) → HasOperand o (words_of_kind (kind_passed c)) → AreIn (global_code (passed_words c) (global_of (starts_of types) n) o)
+  pub assigned_in : (n : ℕ) (c : Converted) (o : Operand) → HasGlobal types n (kind_passed c) → HasOperand r b types locals levels o (words_of_kind (kind_passed c)) → AreIn (global_code (passed_words c) (global_of (starts_of types) n) o)
   assigned_in n c o room few =
       subst (λ words. AreIn (global_code words (global_of (starts_of types) n) o)) (sym (passed_is c))
       (global_in (words_of_kind (kind_passed c)) (global_of (starts_of types) n) o (kind_positive (kind_passed c)) (omega (arith, room, global-room types n (global-inside types n (kind_passed c) room), globals.room)) few)
@@ -434,7 +226,7 @@ module _ (program : PlainProgram) (r : Routine) (b : Numbering) (types : Types) 
       (subst (λ words. IsIn program r types.locals (move_of words d (operands.Slot (slot_of (starts_of types) n)))) (type_words t) (move_in (kind_of t) d (operands.Slot (slot_of (starts_of types) n)) few (omega (arith, locals n within, room))), tt)
   load_in (Global n) t d room few = loads_in (words_of t) (global_of (starts_of types) n) d (omega (arith, room, type_words t, global-room types n (global-inside types n (kind_of t) room), globals.room)) (omega (arith, few, type_words t))
 
-  pub copy_in : (is : Bool) (c : Converted) (o : Operand) (d : ℕ) → HasOperand o (words_of_kind (kind_passed c)) → d + words_of_kind (kind_passed c) ≤ r.slots → AreIn (if is then [] else move_of (passed_words c) d o ∷ [])
+  pub copy_in : (is : Bool) (c : Converted) (o : Operand) (d : ℕ) → HasOperand r b types locals levels o (words_of_kind (kind_passed c)) → d + words_of_kind (kind_passed c) ≤ r.slots → AreIn (if is then [] else move_of (passed_words c) d o ∷ [])
   copy_in true c o d inside few = tt
   copy_in false c o d inside few = (subst (λ words. IsIn program r types.locals (move_of words d o)) (sym (passed_is c)) (move_in (kind_passed c) d o few inside), tt)
 
@@ -446,7 +238,7 @@ module _ (program : PlainProgram) (r : Routine) (b : Numbering) (types : Types) 
       by true = tt
       by false = (record { some = omega arith; few = omega arith; destination_in_range = few; source_in_range = inside }, tt)
 
-  index_in : (o : PlainBinary) (l m : Operand) (d : ℕ) → d + 3 ≤ r.slots → HasOperand l 3 → IsOperand r m → AreIn (index_code o l m d)
+  index_in : (o : PlainBinary) (l m : Operand) (d : ℕ) → d + 3 ≤ r.slots → HasOperand r b types locals levels l 3 → IsOperand r m → AreIn (index_code o l m d)
   index_in o (operands.Word n) m d few left right = ((omega (arith, few), tt, right), tt)
   index_in o (operands.Slot n) m d few left right = ((omega (arith, few), omega (arith, left), right), by (n == d))
     where
@@ -454,7 +246,7 @@ module _ (program : PlainProgram) (r : Routine) (b : Numbering) (types : Types) 
       by true = tt
       by false = (record { some = omega arith; few = omega arith; destination_in_range = omega (arith, few); source_in_range = omega (arith, left) }, tt)
 
-  pointer_in : (o : PointerOperator) (l m : Operand) (d : ℕ) → d + words_of_kind (operator_kind o) ≤ r.slots → HasOperand l (words_of_kind (left_kind o)) → IsOperand r l → IsOperand r m → AreIn (pointer_instructions o l m d)
+  pointer_in : (o : PointerOperator) (l m : Operand) (d : ℕ) → d + words_of_kind (operator_kind o) ≤ r.slots → HasOperand r b types locals levels l (words_of_kind (left_kind o)) → IsOperand r l → IsOperand r m → AreIn (pointer_instructions o l m d)
   pointer_in pointers.AddFat l m d few wide left right = index_in (pointer_operator pointers.AddFat) l m d few wide right
   pointer_in pointers.SubtractFat l m d few wide left right = index_in (pointer_operator pointers.SubtractFat) l m d few wide right
   pointer_in pointers.ThinIsNull l m d few wide left right = ((omega (arith, few), left, right), tt)
@@ -466,7 +258,7 @@ module _ (program : PlainProgram) (r : Routine) (b : Numbering) (types : Types) 
   pointer_in pointers.EqualThin l m d few wide left right = ((omega (arith, few), left, right), tt)
   pointer_in pointers.NotEqualThin l m d few wide left right = ((omega (arith, few), left, right), tt)
 
-  pub count_in : (o : Operand) (p d : ℕ) → HasOperand o 3 → d < r.slots → p + length (count_code o p d) < length r.code → AreIn (count_code o p d)
+  pub count_in : (o : Operand) (p d : ℕ) → HasOperand r b types locals levels o 3 → d < r.slots → p + length (count_code o p d) < length r.code → AreIn (count_code o p d)
   count_in (operands.Word n) p d inside few short = ((few, tt), tt)
   count_in (operands.Slot n) p d inside few short =
       let second : n + 1 < r.slots = omega (arith, inside) in
@@ -532,7 +324,7 @@ module _ (program : PlainProgram) (r : Routine) (b : Numbering) (types : Types) 
         ),
       )
 
-  saved_in : (kind : Kind) (address : ℕ) (o : Operand) → address < r.slots → HasOperand o (words_of_kind kind) → AreIn (saved_code kind address o)
+  saved_in : (kind : Kind) (address : ℕ) (o : Operand) → address < r.slots → HasOperand r b types locals levels o (words_of_kind kind) → AreIn (saved_code kind address o)
   saved_in kind address (operands.Slot n) room inside = stores_in kind (words_of_kind kind) address 0 n room inside
   saved_in kind address (operands.Word n) room inside = (store_in kind (operands.Slot address) 0 (operands.Word n) room tt, tt)
 
@@ -573,13 +365,13 @@ module _ (program : PlainProgram) (r : Routine) (b : Numbering) (types : Types) 
   own_needed (Element a i ty) own = omega arith
 
   -- a fat pointer whose index is computed has room where it stands
-  pub pointer_room : (a i : Expression) (t : ℕ) → kind_at a ≡ kinds.Fat → Fits b types a → t + 3 ≤ r.slots → pointer_slot (starts_of types) a i t + 3 ≤ r.slots
+  pub pointer_room : (a i : Expression) (t : ℕ) → kind_at r b types locals levels a ≡ kinds.Fat → Fits b types a → t + 3 ≤ r.slots → pointer_slot (starts_of types) a i t + 3 ≤ r.slots
   pointer_room a i t fat numbered room = by (is_simple (starts_of types) i)
     where
       inside : (known : Option Operand) → operand_of (starts_of types) a ≡ known → slot_or known t + 3 ≤ r.slots
       inside (Some (operands.Slot n)) is =
-          subst (HasOperand (operands.Slot n)) (ap words_of_kind fat)
-          (subst (λ (x : Option Operand). HasOperand (operand_or x (value_slot (starts_of types) a t)) (words_of_kind (kind_at a))) is (value_room a t numbered (omega (arith, room, ap words_of_kind fat))))
+          subst (HasOperand r b types locals levels (operands.Slot n)) (ap words_of_kind fat)
+          (subst (λ (x : Option Operand). HasOperand r b types locals levels (operand_or x (value_slot (starts_of types) a t)) (words_of_kind (kind_at r b types locals levels a))) is (value_room r b types locals levels a t numbered (omega (arith, room, ap words_of_kind fat))))
       inside (Some (operands.Word w)) is = room
       inside None is = room
 
@@ -593,10 +385,10 @@ module _ (program : PlainProgram) (r : Routine) (b : Numbering) (types : Types) 
 
   pub place_operand_in : (x : Dereference) (own t : ℕ) → FitsCell b types x → 1 ≤ own → t + dereference_need x own ≤ r.slots → IsOperand r (place_operand (starts_of types) x t)
   place_operand_in (Target k a ty) own t (pointer, kind_is, wide, numbered) some few =
-      followed_operand_in (is_thin k) (span_in ty) (value_operand (starts_of types) a t) t (value_in a t numbered (omega (arith, few, given_needs a numbered, some))) (omega (arith, few, some))
-  place_operand_in (Member k a s f ty) own t (thin, there, numbered) some few = value_in a t numbered (omega (arith, few, given_needs a numbered, some))
+      followed_operand_in (is_thin k) (span_in ty) (value_operand (starts_of types) a t) t (value_in r b types locals levels a t numbered (omega (arith, few, given_needs r b types locals levels a numbered, some))) (omega (arith, few, some))
+  place_operand_in (Member k a s f ty) own t (thin, there, numbered) some few = value_in r b types locals levels a t numbered (omega (arith, few, given_needs r b types locals levels a numbered, some))
   place_operand_in (Element a i ty) own t (fat, three, first, second) some few =
-      let inside : pointer_slot (starts_of types) a i t + 3 ≤ r.slots = pointer_room a i t fat first (omega (arith, few, some, three, given_needs a first, ap words_of_kind fat)) in
+      let inside : pointer_slot (starts_of types) a i t + 3 ≤ r.slots = pointer_room a i t fat first (omega (arith, few, some, three, given_needs r b types locals levels a first, ap words_of_kind fat)) in
       reached_operand_in (span_in ty) (pointer_slot (starts_of types) a i t) t (omega (arith, inside)) (omega (arith, few, some))
 
   pub addressed_in : (x : Dereference) (p d t : ℕ) → FitsCell b types x → d < r.slots → t + dereference_need x place_words ≤ r.slots
@@ -620,15 +412,15 @@ module _ (program : PlainProgram) (r : Routine) (b : Numbering) (types : Types) 
       let long = length-append address (value ++ write) in
       let behind = length-append value write in
       append address (value ++ write) (address_inside (omega (arith, short, long)))
-      (append value write (value_inside q (omega (arith, short, long, behind))) (saved_in (kind_passed c) t (converted_operand (starts_of types) c (t + 1)) (omega (arith, room)) (converted_room c (t + 1) numbered room)))
+      (append value write (value_inside q (omega (arith, short, long, behind))) (saved_in (kind_passed c) t (converted_operand (starts_of types) c (t + 1)) (omega (arith, room)) (converted_room r b types locals levels c (t + 1) numbered room)))
 
   -- ---- expressions
 
   -- an operator on pointers with its right operand, which stands behind the left one
-  pub right_in : (o : PointerOperator) (a : Expression) (ty : Ty) (p : ℕ) (l : Operand) (d t left : ℕ) → Fits b types a → words_of_kind (left_kind o) ≤ left → d + words_of_kind (operator_kind o) ≤ r.slots → HasOperand l (words_of_kind (left_kind o)) → IsOperand r l
+  pub right_in : (o : PointerOperator) (a : Expression) (ty : Ty) (p : ℕ) (l : Operand) (d t left : ℕ) → Fits b types a → words_of_kind (left_kind o) ≤ left → d + words_of_kind (operator_kind o) ≤ r.slots → HasOperand r b types locals levels l (words_of_kind (left_kind o)) → IsOperand r l
       → t + max (left + operand_words (type_of a) + words_of ty) (left + expression_need a) ≤ r.slots
       → p + length (pointer_code o l (value_operand (starts_of types) a (behind_left o t)) (code_unless (operand_of (starts_of types) a) (expression_code (starts_of types) a p (value_slot (starts_of types) a (behind_left o t)) (behind_left o t))) d) < length r.code
-      → ((slot : ℕ) → slot + words_of_kind (kind_at a) ≤ r.slots → p + length (expression_code (starts_of types) a p slot (behind_left o t)) < length r.code → AreIn (expression_code (starts_of types) a p slot (behind_left o t)))
+      → ((slot : ℕ) → slot + words_of_kind (kind_at r b types locals levels a) ≤ r.slots → p + length (expression_code (starts_of types) a p slot (behind_left o t)) < length r.code → AreIn (expression_code (starts_of types) a p slot (behind_left o t)))
       → AreIn (pointer_code o l (value_operand (starts_of types) a (behind_left o t)) (code_unless (operand_of (starts_of types) a) (expression_code (starts_of types) a p (value_slot (starts_of types) a (behind_left o t)) (behind_left o t))) d)
   right_in o a ty p l d t left numbered wide room all inside few short computed =
       let u = behind_left o t in
@@ -637,14 +429,14 @@ module _ (program : PlainProgram) (r : Routine) (b : Numbering) (types : Types) 
       let operand = code_unless (operand_of (starts_of types) a) inner in
       let m = value_operand (starts_of types) a u in
       let back = pointer_instructions o l m d in
-      let free : u + words_of_kind (kind_at a) ≤ r.slots = omega (arith, few, wide, operand_positive (type_of a), words_positive ty, given_needs a numbered) in
+      let free : u + words_of_kind (kind_at r b types locals levels a) ≤ r.slots = omega (arith, few, wide, operand_positive (type_of a), words_positive ty, given_needs r b types locals levels a numbered) in
       append operand back
-      (unless_in (operand_of (starts_of types) a) inner p (omega (arith, short, length-append operand back)) (λ less. computed slot (slot_fits a u numbered free) less))
-      (pointer_in o l m d room all inside (value_in a u numbered free))
+      (unless_in (operand_of (starts_of types) a) inner p (omega (arith, short, length-append operand back)) (λ less. computed slot (slot_fits r b types locals levels a u numbered free) less))
+      (pointer_in o l m d room all inside (value_in r b types locals levels a u numbered free))
 
   -- an int that becomes a char is an operand, and its low byte comes to a slot
-  pub brought_by : (masking : Bool) (a : Expression) (p d t : ℕ) → Fits b types a → d + words_of_kind (kind_at a) ≤ r.slots → t + words_of_kind (kind_at a) ≤ r.slots
-      → ((slot : ℕ) → slot + words_of_kind (kind_at a) ≤ r.slots → p + length (expression_code (starts_of types) a p slot t) < length r.code → AreIn (expression_code (starts_of types) a p slot t))
+  pub brought_by : (masking : Bool) (a : Expression) (p d t : ℕ) → Fits b types a → d + words_of_kind (kind_at r b types locals levels a) ≤ r.slots → t + words_of_kind (kind_at r b types locals levels a) ≤ r.slots
+      → ((slot : ℕ) → slot + words_of_kind (kind_at r b types locals levels a) ≤ r.slots → p + length (expression_code (starts_of types) a p slot t) < length r.code → AreIn (expression_code (starts_of types) a p slot t))
       → p + length (if masking then masked_by (operand_of (starts_of types) a) (expression_code (starts_of types) a p (value_slot (starts_of types) a t) t) (value_operand (starts_of types) a t) d else expression_code (starts_of types) a p d t) < length r.code
       → AreIn (if masking then masked_by (operand_of (starts_of types) a) (expression_code (starts_of types) a p (value_slot (starts_of types) a t) t) (value_operand (starts_of types) a t) d else expression_code (starts_of types) a p d t)
   brought_by true a p d t numbered room free inside short =
@@ -653,12 +445,12 @@ module _ (program : PlainProgram) (r : Routine) (b : Numbering) (types : Types) 
       let front = code_unless (operand_of (starts_of types) a) inner in
       let back = low_byte (value_operand (starts_of types) a t) d ∷ [] in
       append front back
-      (unless_in (operand_of (starts_of types) a) inner p (omega (arith, short, length-append front back)) (λ less. inside slot (slot_fits a t numbered free) less))
-      ((omega (arith, room, kind_positive (kind_at a)), value_in a t numbered free, tt), tt)
+      (unless_in (operand_of (starts_of types) a) inner p (omega (arith, short, length-append front back)) (λ less. inside slot (slot_fits r b types locals levels a t numbered free) less))
+      ((omega (arith, room, kind_positive (kind_at r b types locals levels a)), value_in r b types locals levels a t numbered free, tt), tt)
   brought_by false a p d t numbered room free inside short = inside d room short
 
-  pub initial_by : (there : Bool) (from to : Kind) (a : Expression) (p d t : ℕ) → from ≡ kind_at a → is_converted from to ≡ true → Fits b types a → d + words_of_kind to ≤ r.slots → t + converted_words (Convert from to a) ≤ r.slots → converts_there from to ≡ there
-      → ((slot : ℕ) → slot + words_of_kind (kind_at a) ≤ r.slots → p + length (brought_code (starts_of types) (Convert from to a) p slot t) < length r.code → AreIn (brought_code (starts_of types) (Convert from to a) p slot t))
+  pub initial_by : (there : Bool) (from to : Kind) (a : Expression) (p d t : ℕ) → from ≡ kind_at r b types locals levels a → is_converted from to ≡ true → Fits b types a → d + words_of_kind to ≤ r.slots → t + converted_words (Convert from to a) ≤ r.slots → converts_there from to ≡ there
+      → ((slot : ℕ) → slot + words_of_kind (kind_at r b types locals levels a) ≤ r.slots → p + length (brought_code (starts_of types) (Convert from to a) p slot t) < length r.code → AreIn (brought_code (starts_of types) (Convert from to a) p slot t))
       → p + length (if there then brought_code (starts_of types) (Convert from to a) p d t else moved_by (starts_of types) (source_of (starts_of types) (Convert from to a)) (brought_code (starts_of types) (Convert from to a) p (source_slot (starts_of types) (Convert from to a) t) t) from to (span_of a) (converted_operand (starts_of types) (Convert from to a) t) p d) < length r.code
       → AreIn (if there then brought_code (starts_of types) (Convert from to a) p d t else moved_by (starts_of types) (source_of (starts_of types) (Convert from to a)) (brought_code (starts_of types) (Convert from to a) p (source_slot (starts_of types) (Convert from to a) t) t) from to (span_of a) (converted_operand (starts_of types) (Convert from to a) t) p d)
   initial_by true from to a p d t kind wide numbered room free lands inside short = inside d (omega (arith, room, ap words_of_kind kind, as_wide from to lands)) short
@@ -674,5 +466,5 @@ module _ (program : PlainProgram) (r : Routine) (b : Numbering) (types : Types) 
       let long = length-append (front ++ conversion) move in
       let long_front = length-append front conversion in
       append (front ++ conversion) move
-      (append front conversion (unless_in known inner p (omega (arith, short, long, long_front)) (λ less. inside slot (source_fits from to a t (kind, wide, numbered) free) less))
-      (conversion_in from to (span_of a) o (p + length front) (brought_room c t (kind, wide, numbered) free) (omega (arith, short, long, long_front)))) (move_in to d o room (converted_room c t (kind, wide, numbered) free), tt)
+      (append front conversion (unless_in known inner p (omega (arith, short, long, long_front)) (λ less. inside slot (source_fits r b types locals levels from to a t (kind, wide, numbered) free) less))
+      (conversion_in from to (span_of a) o (p + length front) (brought_room r b types locals levels c t (kind, wide, numbered) free) (omega (arith, short, long, long_front)))) (move_in to d o room (converted_room r b types locals levels c t (kind, wide, numbered) free), tt)

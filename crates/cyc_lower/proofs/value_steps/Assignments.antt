@@ -33,8 +33,9 @@ use Rattle.cyc_objects.specs.inside.Tables.{Tables}
 use Rattle.cyc_objects.specs.inside.Words.{Points, Is}
 use Rattle.cyc_lower.proofs.relation.contents.Sharing.{shared_written, shared_beside}
 use Rattle.cyc_lower.proofs.relation.contents.HeldValues.{IsWord, IsIn, Holds, held, contents, callers, IsCharAt}
-use Rattle.cyc_lower.proofs.relation.simulation.Relation.{seen_in, shared_seen, types_on, starts_on, types_at, starts_at, in_temporary, in_local, drops, leaves, copies, DataIn, SharedAt, StoreAt, ValueStack}
-use Rattle.cyc_lower.proofs.relation.simulation.Relation.{DroppedStack, AheadStack, LandsStack, HandsOnStack, in_operand, nowhere, ahead, Related, Matches, code_of, bounds_at, top, floor, base_of}
+use Rattle.cyc_lower.proofs.relation.simulation.Relation.{DataIn, SharedAt, in_operand, nowhere, ahead, Related, Matches}
+use Rattle.cyc_lower.proofs.relation.simulation.Stacks.{types_on, starts_on, types_at, starts_at, in_temporary, in_local, drops, leaves, copies, StoreAt, ValueStack, DroppedStack, AheadStack, LandsStack, HandsOnStack, code_of, bounds_at, top, floor, base_of}
+use Rattle.cyc_lower.proofs.relation.simulation.Shared.{seen_in, shared_seen}
 use Rattle.cyc_lower.proofs.object_steps.Handles.{kept_holds}
 use Rattle.cyc_lower.proofs.relation.contents.Data.{IsWord-is, one_word, height-least, Holds-above, data_assigned, data_assigned_global, Is-same}
 use Rattle.cyc_lower.proofs.relation.contents.HandlerData.{floor-least, handlers_beside}

@@ -39,12 +39,14 @@ use Rattle.cyc_lower.specs.inside.ControlCode.{counter_operand}
 use Rattle.cyc_lower.specs.inside.ExpressionCode.{operand_of, value_slot, source_of, source_slot, slot_with, is_simple}
 use Rattle.cyc_lower.specs.inside.Lowering.{lower_program}
 use Rattle.cyc_lower.proofs.relation.simulation.Weights.{weight, stack_weight, object_weight}
-use Rattle.cyc_lower.proofs.relation.code.Stands.{CopyBy, CopyAt, OperandBy, InitialBy, BroughtAt, ConversionAt, ExpressionAt, ArgumentsAt, ObjectAt, MadeAt, ValueAt, AssignmentAt, PrintedAt, DiscardedAt, StoredAt, EachAt, LastByteAt}
+use Rattle.cyc_lower.proofs.relation.code.Stands.{CopyBy, CopyAt, OperandBy, InitialBy, BroughtAt, ConversionAt, ExpressionAt, ArgumentsAt, ObjectAt, MadeAt, ValueAt, AssignmentAt, PrintedAt, StoredAt, EachAt, LastByteAt}
+use Rattle.cyc_lower.proofs.relation.code.Statements.{DiscardedAt}
 use Rattle.cyc_objects.specs.inside.Tables.{Tables}
 use Rattle.cyc_objects.specs.inside.Words.{Is, Points}
 use Rattle.cyc_lower.proofs.relation.contents.HeldValues.{counters_of, Holds, held, contents, IsHandleOf, IsLow, callers}
-use Rattle.cyc_lower.proofs.relation.simulation.Relation.{types_on, starts_on, types_at, starts_at, given_at, called_at, in_temporary, in_local, drops, leaves, copies, prints_only, gives_byte, DataIn, SharedAt, CallAt, to_slot}
-use Rattle.cyc_lower.proofs.relation.simulation.Relation.{ValueStack, DroppedStack, LandsStack, LandsMade, HandsOnStack, PrintsStack, EvaluatingAt, as_operand, into_slot, in_operand, Related, Matches, code_of, bounds_at, top, floor}
+use Rattle.cyc_lower.proofs.relation.simulation.Relation.{DataIn, SharedAt, EvaluatingAt, as_operand, into_slot, in_operand, Related, Matches}
+use Rattle.cyc_lower.proofs.relation.simulation.Stacks.{types_on, starts_on, types_at, starts_at, given_at, called_at, in_temporary, in_local, drops, leaves, copies, prints_only, gives_byte, CallAt, to_slot, ValueStack, DroppedStack, LandsStack, LandsMade, HandsOnStack}
+use Rattle.cyc_lower.proofs.relation.simulation.Stacks.{PrintsStack, code_of, bounds_at, top, floor}
 use Rattle.cyc_lower.proofs.object_steps.Handles.{kept_holds}
 use Rattle.cyc_lower.proofs.relation.contents.Data.{height-least}
 use Rattle.cyc_lower.proofs.relation.contents.HandlerData.{floor-least}

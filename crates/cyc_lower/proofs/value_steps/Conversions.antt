@@ -30,7 +30,8 @@ use Rattle.cyc_lower.proofs.relation.code.Stands.{GuardAt, TestedAt, ConversionB
 use Rattle.cyc_objects.specs.inside.Tables.{Tables}
 use Rattle.cyc_objects.specs.inside.Words.{Is}
 use Rattle.cyc_lower.proofs.relation.contents.HeldValues.{IsIn, Holds, held}
-use Rattle.cyc_lower.proofs.relation.simulation.Relation.{types_on, types_at, DataIn, SharedAt, ValueStack, LandsStack, in_operand, Matches, code_of, bounds_at, top, floor}
+use Rattle.cyc_lower.proofs.relation.simulation.Relation.{DataIn, SharedAt, in_operand, Matches}
+use Rattle.cyc_lower.proofs.relation.simulation.Stacks.{types_on, types_at, ValueStack, LandsStack, code_of, bounds_at, top, floor}
 use Rattle.cyc_lower.proofs.object_steps.Handles.{kept_holds}
 use Rattle.cyc_lower.proofs.relation.contents.Data.{in_words, null_is}
 use Rattle.cyc_lower.proofs.relation.simulation.Accesses.{IsWell, is_fitting}

@@ -22,9 +22,11 @@ use Rattle.cyc_meaning.specs.State.{World, Environment, Operate, Chain, Decide, 
 use Rattle.cyc_meaning.specs.Step.{computed, tested, chosen, looped, step}
 use Rattle.cyc_lower.specs.inside.ControlCode.{opposite}
 use Rattle.cyc_objects.specs.inside.Tables.{Tables}
-use Rattle.cyc_lower.proofs.relation.code.Stands.{ForkAt, StatementAt}
+use Rattle.cyc_lower.proofs.relation.code.Stands.{ForkAt}
+use Rattle.cyc_lower.proofs.relation.code.Statements.{StatementAt}
 use Rattle.cyc_lower.proofs.relation.contents.HeldValues.{IsIn, Holds, held}
-use Rattle.cyc_lower.proofs.relation.simulation.Relation.{types_on, types_at, DataIn, SharedAt, ConditionStack, DecidedStack, GivenAt, decided, LeadsTo, as_condition, behind_statement, StatementStack, in_place, Matches, code_of, bounds_at, floor}
+use Rattle.cyc_lower.proofs.relation.simulation.Relation.{DataIn, SharedAt, GivenAt, decided, LeadsTo, as_condition, behind_statement, Matches}
+use Rattle.cyc_lower.proofs.relation.simulation.Stacks.{types_on, types_at, ConditionStack, DecidedStack, StatementStack, in_place, code_of, bounds_at, floor}
 use Rattle.cyc_lower.proofs.relation.simulation.Matched.{IsMatched, silently, by_one, by_two}
 use Rattle.cyc_lower.proofs.value_steps.ValueWords.{int_of, untrue, opposed, other_place, zero_is}
 

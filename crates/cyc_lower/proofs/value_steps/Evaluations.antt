@@ -33,8 +33,8 @@ use Rattle.cyc_lower.specs.inside.ExpressionCode.{operand_of, value_slot, slot_w
 use Rattle.cyc_lower.proofs.relation.code.Stands.{OperandBy, ExpressionAt, ValueAt, PairAt, ConditionAt, ReturnedAt, ReachedAt, BranchesAt, TestsAt, ForkAt, ComparedAt, Ends}
 use Rattle.cyc_objects.specs.inside.Tables.{Tables}
 use Rattle.cyc_lower.proofs.relation.contents.HeldValues.{Holds, held, IsLow, callers, AreCounted}
-use Rattle.cyc_lower.proofs.relation.simulation.Relation.{types_on, starts_on, given_at, in_temporary, DataIn, SharedAt, to_jump, ValueStack, PlaceStack, ConditionStack, DecidedStack, RightAt}
-use Rattle.cyc_lower.proofs.relation.simulation.Relation.{EvaluatingAt, as_operand, into_slot, for_effect, as_right, as_condition, with_left, code_of, bounds_at, top, floor, BesideAt}
+use Rattle.cyc_lower.proofs.relation.simulation.Relation.{DataIn, SharedAt, RightAt, EvaluatingAt, as_operand, into_slot, for_effect, as_right, as_condition, with_left, BesideAt}
+use Rattle.cyc_lower.proofs.relation.simulation.Stacks.{types_on, starts_on, given_at, in_temporary, to_jump, ValueStack, PlaceStack, ConditionStack, DecidedStack, code_of, bounds_at, top, floor}
 use Rattle.cyc_types.specs.Numbered.{Numbering}
 use Rattle.cyc_lower.proofs.relation.simulation.Accesses.{IsWell}
 use Rattle.cyc_lower.proofs.relation.simulation.Matched.{silently}

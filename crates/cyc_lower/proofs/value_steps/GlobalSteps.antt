@@ -19,7 +19,8 @@ use Rattle.cyc_lower.specs.inside.Lowering.{lower_program}
 use Rattle.cyc_lower.proofs.slots.Widths.{Outside}
 use Rattle.cyc_lower.proofs.relation.code.Stands.{EachAt, GlobalAt}
 use Rattle.cyc_lower.proofs.relation.contents.HeldValues.{IsIn}
-use Rattle.cyc_lower.proofs.relation.simulation.Relation.{SharedAt, Matches, code_of}
+use Rattle.cyc_lower.proofs.relation.simulation.Relation.{SharedAt, Matches}
+use Rattle.cyc_lower.proofs.relation.simulation.Stacks.{code_of}
 use Rattle.cyc_lower.proofs.relation.contents.Data.{Is-same, IsWord-is}
 use Rattle.cyc_lower.proofs.relation.contents.Moves.{put_elsewhere}
 use Rattle.cyc_lower.proofs.relation.simulation.Matched.{IsMatched}

@@ -32,8 +32,8 @@ use Rattle.cyc_lower.proofs.relation.code.Stands.{BroughtAt, ConversionAt, Argum
 use Rattle.cyc_objects.specs.inside.Tables.{Tables}
 use Rattle.cyc_objects.specs.inside.Words.{Is}
 use Rattle.cyc_lower.proofs.relation.contents.HeldValues.{counters_of, IsIn, words_held, height, Holds, held, kept}
-use Rattle.cyc_lower.proofs.relation.simulation.Relation.{types_on, starts_on, given_at, called_at, in_temporary, in_local, DataIn, SharedAt, CallAt, ValueStack, DroppedStack, AheadStack}
-use Rattle.cyc_lower.proofs.relation.simulation.Relation.{LandsStack, LandsMade, EvaluatingAt, as_operand, into_slot, in_operand, ahead, Related, Matches, code_of, bounds_at, top, floor, base_of}
+use Rattle.cyc_lower.proofs.relation.simulation.Relation.{DataIn, SharedAt, EvaluatingAt, as_operand, into_slot, in_operand, ahead, Related, Matches}
+use Rattle.cyc_lower.proofs.relation.simulation.Stacks.{types_on, starts_on, given_at, called_at, in_temporary, in_local, CallAt, ValueStack, DroppedStack, AheadStack, LandsStack, LandsMade, code_of, bounds_at, top, floor, base_of}
 use Rattle.cyc_lower.proofs.object_steps.Handles.{kept_holds, kept_low}
 use Rattle.cyc_lower.proofs.relation.contents.Data.{height-least, Holds-same, Holds-above}
 use Rattle.cyc_lower.proofs.relation.contents.HandlerData.{floor-least, data_written}

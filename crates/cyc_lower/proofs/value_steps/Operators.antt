@@ -47,8 +47,8 @@ use Rattle.cyc_lower.proofs.relation.code.Stands.{OperandBy, CheckAt, CheckedAt,
 use Rattle.cyc_objects.specs.inside.Tables.{Tables}
 use Rattle.cyc_objects.specs.inside.Words.{Is}
 use Rattle.cyc_lower.proofs.relation.contents.HeldValues.{IsIn, Holds, held, IsLow}
-use Rattle.cyc_lower.proofs.relation.simulation.Relation.{types_on, starts_on, in_temporary, DataIn, SharedAt, to_slot, to_jump, ValueStack, ConditionStack, LandsStack, AppliedStack, ReadyAt}
-use Rattle.cyc_lower.proofs.relation.simulation.Relation.{as_operand, into_slot, as_right, in_operand, with_left, Related, Matches, code_of, bounds_at, top, floor, BesideAt, EvaluatingAt}
+use Rattle.cyc_lower.proofs.relation.simulation.Relation.{DataIn, SharedAt, ReadyAt, as_operand, into_slot, as_right, in_operand, with_left, Related, Matches, BesideAt, EvaluatingAt}
+use Rattle.cyc_lower.proofs.relation.simulation.Stacks.{types_on, starts_on, in_temporary, to_slot, to_jump, ValueStack, ConditionStack, LandsStack, AppliedStack, code_of, bounds_at, top, floor}
 use Rattle.cyc_lower.proofs.object_steps.Handles.{kept_holds}
 use Rattle.cyc_lower.proofs.relation.contents.Data.{height-least, Holds-same, Is-same}
 use Rattle.cyc_lower.proofs.relation.contents.HandlerData.{data_written}

@@ -43,8 +43,8 @@ use Rattle.cyc_objects.proofs.Pointers.{pointer-word}
 use Rattle.cyc_objects.proofs.Values.{Grows-row, Is-grows}
 use Rattle.cyc_lower.proofs.relation.contents.Sharing.{shared_declared, row_declared}
 use Rattle.cyc_lower.proofs.relation.contents.HeldValues.{IsIn, with_kind, Holds, kept, callers, row_of, IsLow}
-use Rattle.cyc_lower.proofs.relation.simulation.Relation.{types_on, starts_on, types_at, starts_at, DataIn, SharedAt, to_slot, to_jump, ValueStack, DroppedStack, AheadStack, HandsOnStack, ReadyAt, as_right, in_operand, nowhere}
-use Rattle.cyc_lower.proofs.relation.simulation.Relation.{ahead, decided, with_left, behind_statement, Matches, code_of, bounds_at, top, floor, PlaceStack, call_slots, BesideAt, PartsAt, in_parts, StatementStack}
+use Rattle.cyc_lower.proofs.relation.simulation.Relation.{DataIn, SharedAt, ReadyAt, as_right, in_operand, nowhere, ahead, decided, with_left, behind_statement, Matches, BesideAt, PartsAt, in_parts}
+use Rattle.cyc_lower.proofs.relation.simulation.Stacks.{types_on, starts_on, types_at, starts_at, to_slot, to_jump, ValueStack, DroppedStack, AheadStack, HandsOnStack, code_of, bounds_at, top, floor, PlaceStack, call_slots, StatementStack}
 use Rattle.cyc_lower.proofs.object_steps.Handles.{kept_holds}
 use Rattle.cyc_lower.proofs.relation.contents.Data.{in_words, data_declared, null_is, points_in}
 use Rattle.cyc_lower.proofs.relation.contents.HandlerData.{handlers_beside}

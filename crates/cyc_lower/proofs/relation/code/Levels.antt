@@ -16,7 +16,7 @@ use Rattle.cyc_lower.specs.declared.statements.Exits.{Exits}
 use Rattle.cyc_lower.specs.inside.ValueCode.{reached_operand, followed_operand}
 use Rattle.cyc_meaning.specs.Pointers.{result_kind as operator_kind}
 use Rattle.cyc_lower.proofs.slots.Widths.{chain_kind, made_kind}
-use Rattle.cyc_lower.proofs.relation.simulation.Relation.{to_slot, to_jump, ValueStack, PlaceStack, DecidedStack, DroppedStack, AheadStack, StatementStack, LandsMade, called_at, top, code_of, bounds_at, types_on}
+use Rattle.cyc_lower.proofs.relation.simulation.Stacks.{to_slot, to_jump, ValueStack, PlaceStack, DecidedStack, DroppedStack, AheadStack, StatementStack, LandsMade, called_at, top, code_of, bounds_at, types_on}
 use Rattle.cyc_lower.proofs.relation.code.Tested.{tests_reach}
 use Rattle.cyc_lower.proofs.relation.contents.HeldValues.{held, height, counters_of, arrays_in}
 use Rattle.cyc_lower.proofs.relation.simulation.Matched.{by_lands, by_hands, by_prints}

@@ -19,8 +19,9 @@ use Rattle.cyc_lower.specs.declared.statements.Exits.{Exits}
 use Rattle.cyc_lower.specs.inside.ValueCode.{reached_operand, followed_operand}
 use Rattle.cyc_meaning.specs.Pointers.{result_kind as operator_kind}
 use Rattle.cyc_lower.proofs.slots.Widths.{chain_kind, made_kind}
-use Rattle.cyc_lower.proofs.relation.simulation.Relation.{base_of, Lands, in_temporary, in_local, HandsOn, drops, leaves, copies, Prints, prints_only, gives_byte, to_slot, to_jump, ValueStack, PlaceStack, DecidedStack, ChosenAt, RepeatedAt}
-use Rattle.cyc_lower.proofs.relation.simulation.Relation.{DroppedStack, AheadStack, StatementStack, called_at, returned_at, top, floor, code_of, bounds_at, types_on, LandsStack, LandsMade, HandsOnStack, HandlersStand, CatchesAt}
+use Rattle.cyc_lower.proofs.relation.simulation.Relation.{HandlersStand, CatchesAt}
+use Rattle.cyc_lower.proofs.relation.simulation.Stacks.{base_of, Lands, in_temporary, in_local, HandsOn, drops, leaves, copies, Prints, prints_only, gives_byte, to_slot, to_jump, ValueStack, PlaceStack, DecidedStack, ChosenAt, RepeatedAt, DroppedStack, AheadStack, StatementStack}
+use Rattle.cyc_lower.proofs.relation.simulation.Stacks.{called_at, returned_at, top, floor, code_of, bounds_at, types_on, LandsStack, LandsMade, HandsOnStack}
 use Rattle.cyc_lower.proofs.relation.contents.HandlerData.{handlers_same}
 use Rattle.cyc_lower.proofs.relation.code.Tested.{tests_go, forks_go}
 use Rattle.cyc_plain.proofs.MemoryLaws.{with_slot_of}

@@ -24,7 +24,7 @@ use Rattle.cyc_objects.specs.inside.Tables.{Tables}
 use Rattle.cyc_objects.specs.inside.Words.{Points, Is}
 use Rattle.cyc_objects.proofs.Values.{Is-same as words_same}
 use Rattle.cyc_lower.proofs.relation.contents.HeldValues.{CallSlots, IsLocalRow, IsWord, IsIn, Waiting, words_held, height, Holds, HoldsFrom, content_of, contents, LocalsHold, GlobalsHold, IsCharAt}
-use Rattle.cyc_lower.proofs.relation.simulation.Relation.{call_slots, FramesHold, DataAt, types_at, starts_at, base_of}
+use Rattle.cyc_lower.proofs.relation.simulation.Stacks.{call_slots, FramesHold, DataAt, types_at, starts_at, base_of}
 use Rattle.cyc_objects.proofs.Chars.{char-small}
 
 -- ---- values in slots

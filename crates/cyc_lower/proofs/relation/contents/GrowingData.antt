@@ -15,7 +15,8 @@ use Rattle.cyc_objects.specs.inside.Tables.{Tables, Grows, Row, Placed}
 use Rattle.cyc_objects.proofs.Values.{Is-grows}
 use Rattle.cyc_lower.proofs.relation.places.Known.{global-row_grows, first_word}
 use Rattle.cyc_lower.proofs.relation.contents.HeldValues.{CallSlots, row_of, IsWord, IsIn, Waiting, height, Holds, HoldsFrom, LocalsHold, IsCharAt}
-use Rattle.cyc_lower.proofs.relation.simulation.Relation.{call_slots, AreOfVariables, FramesHold, DataAt, types_at, starts_at, base_of}
+use Rattle.cyc_lower.proofs.relation.simulation.Stacks.{call_slots, FramesHold, DataAt, types_at, starts_at, base_of}
+use Rattle.cyc_lower.proofs.relation.simulation.Shared.{AreOfVariables}
 use Rattle.cyc_lower.specs.inside.ValueCode.{variable_bytes}
 
 -- ---- tables that grow

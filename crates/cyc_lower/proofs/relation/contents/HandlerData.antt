@@ -10,7 +10,8 @@ use Rattle.cyc_lower.specs.inside.Lowering.{scopes_of}
 use Rattle.cyc_lower.proofs.slots.Widths.{Outside}
 use Rattle.cyc_objects.specs.inside.Tables.{Tables}
 use Rattle.cyc_lower.proofs.relation.contents.HeldValues.{behind_records, scopes_in, IsKept, callers, contents, left_by}
-use Rattle.cyc_lower.proofs.relation.simulation.Relation.{floor, HandlersStand, DataAt, base_of}
+use Rattle.cyc_lower.proofs.relation.simulation.Relation.{HandlersStand}
+use Rattle.cyc_lower.proofs.relation.simulation.Stacks.{floor, DataAt, base_of}
 use Rattle.cyc_lower.proofs.relation.contents.Data.{data_above}
 
 -- ---- records of handlers

@@ -17,7 +17,8 @@ use Rattle.cyc_store.proofs.HolderLemmas.{IsPart-down_to}
 use Rattle.cyc_objects.proofs.Values.{Grows-row, Grows-handle}
 use Rattle.cyc_objects.proofs.Variables.{declared, assigned-away, opened-variables, closed-variables, handle-made}
 use Rattle.cyc_lower.proofs.relation.contents.HeldValues.{homes, scopes_in}
-use Rattle.cyc_lower.proofs.relation.simulation.Relation.{HasScopes, SharedAt, SharedBy, ScopesBy, store_by, silent}
+use Rattle.cyc_lower.proofs.relation.simulation.Relation.{SharedAt, SharedBy, ScopesBy}
+use Rattle.cyc_lower.proofs.relation.simulation.Shared.{HasScopes, store_by, silent}
 use Rattle.cyc_lower.specs.inside.Lowering.{scopes_of}
 use Rattle.cyc_lower.proofs.relation.contents.Counters.{counted_less}
 use Rattle.cyc_lower.proofs.relation.contents.GrowingData.{variables_grow}

@@ -13,7 +13,7 @@ use Rattle.cyc_lower.specs.inside.Lowering.{scopes_of}
 use Rattle.cyc_lower.proofs.slots.Widths.{HasRoom, Outside}
 use Rattle.cyc_lower.proofs.slots.Slots.{slot-room}
 use Rattle.cyc_lower.proofs.relation.contents.HeldValues.{Waiting, LocalsHold, Holds, contents, callers, IsCharAt}
-use Rattle.cyc_lower.proofs.relation.simulation.Relation.{FramesHold, DataAt, call_slots, types_at, starts_at, base_of}
+use Rattle.cyc_lower.proofs.relation.simulation.Stacks.{FramesHold, DataAt, call_slots, types_at, starts_at, base_of}
 use Rattle.cyc_lower.proofs.relation.contents.Data.{locals_assigned, locals_kept, frames_kept, globals_kept, globals_below, Holds-above}
 use Rattle.cyc_lower.proofs.relation.contents.HandlerData.{behind-least}
 use Rattle.cyc_plain.specs.inside.Memory.{IsBelow, AreBelow}

@@ -24,7 +24,8 @@ use Rattle.cyc_lower.proofs.slots.Widths.{words_in}
 use Rattle.cyc_lower.proofs.slots.Slots.{slot-apart, global-apart}
 use Rattle.cyc_lower.proofs.relation.places.Known.{global-first, first_word}
 use Rattle.cyc_lower.proofs.relation.contents.HeldValues.{Waiting}
-use Rattle.cyc_lower.proofs.relation.simulation.Relation.{DataAt, silent, code_of, types_at, starts_at}
+use Rattle.cyc_lower.proofs.relation.simulation.Stacks.{DataAt, code_of, types_at, starts_at}
+use Rattle.cyc_lower.proofs.relation.simulation.Shared.{silent}
 use Rattle.cyc_lower.proofs.relation.places.Rows.{local-pointer}
 use Rattle.cyc_lower.proofs.relation.contents.WaitingData.{frame_at}
 use Rattle.cyc_lower.proofs.relation.places.Leads.{IsNamed, is_global, is_local, is_waiting, AreNamed}

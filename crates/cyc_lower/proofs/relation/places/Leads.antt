@@ -14,7 +14,8 @@ use Rattle.cyc_lower.specs.inside.Slots.{starts_of, slot_of, global_types}
 use Rattle.cyc_lower.specs.inside.Lowering.{lower_program}
 use Rattle.cyc_lower.proofs.slots.Widths.{words_in}
 use Rattle.cyc_lower.proofs.relation.contents.HeldValues.{Waiting}
-use Rattle.cyc_lower.proofs.relation.simulation.Relation.{silent, code_of, types_at}
+use Rattle.cyc_lower.proofs.relation.simulation.Stacks.{code_of, types_at}
+use Rattle.cyc_lower.proofs.relation.simulation.Shared.{silent}
 
 -- a variable that is live, by its number: one of so many globals, or a local of the running call or of one that waits
 pub data IsNamed (globals : ℕ) (locals : ℕ → Option ℕ) (outer : List Waiting) (object : ℕ) : Type 0 where

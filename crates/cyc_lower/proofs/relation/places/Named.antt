@@ -24,7 +24,8 @@ use Rattle.cyc_lower.proofs.relation.code.Fitting.{IsFitting}
 use Rattle.cyc_lower.proofs.relation.places.Pinned.{pinned-whole, takes_locals}
 use Rattle.cyc_lower.proofs.sizes.WellFormed.{well_formed}
 use Rattle.cyc_lower.proofs.relation.contents.HeldValues.{Waiting, callers}
-use Rattle.cyc_lower.proofs.relation.simulation.Relation.{silent, code_of, types_at}
+use Rattle.cyc_lower.proofs.relation.simulation.Stacks.{code_of, types_at}
+use Rattle.cyc_lower.proofs.relation.simulation.Shared.{silent}
 use Rattle.cyc_lower.proofs.relation.places.Leads.{IsNamed, is_global, is_local, is_waiting, AreNamed}
 
 -- a call that waits has these locals

@@ -16,7 +16,7 @@ use Rattle.cyc_lower.specs.inside.Slots.{slot_in}
 use Rattle.cyc_lower.specs.inside.Words.{AreOfWordsFunctions, IsOfWordsProgram}
 use Rattle.cyc_lower.specs.inside.Lowering.{globals_of, lower_function, scopes_of}
 use Rattle.cyc_lower.proofs.relation.code.Fitting.{AreFitting, IsFitting}
-use Rattle.cyc_lower.proofs.relation.simulation.Relation.{code_of, local_types, types_at}
+use Rattle.cyc_lower.proofs.relation.simulation.Stacks.{code_of, local_types, types_at}
 use Rattle.cyc_lower.proofs.slots.Slots.{slot-below, locals-apart}
 use Rattle.cyc_lower.proofs.sizes.RangeLemmas.{TakesLocal}
 use Rattle.cyc_lower.proofs.sizes.WellFormed.{function_takes}

@@ -36,8 +36,9 @@ use Rattle.cyc_meaning.specs.SourceMachine.{status_in, seen_of, source_machine}
 use Rattle.cyc_lower.proofs.relation.simulation.Weights.{weight}
 use Rattle.cyc_lower.proofs.relation.contents.HandlerData.{calls_counted, calls_left}
 use Rattle.cyc_lower.proofs.relation.contents.HeldValues.{handling}
-use Rattle.cyc_lower.proofs.relation.simulation.Relation.{seen_in, shared_seen, Lands, in_temporary, in_local, HandsOn, drops, leaves, copies, Prints, prints_only, gives_byte, SharedAt, SharedBy, opened_by, GivenAt}
-use Rattle.cyc_lower.proofs.relation.simulation.Relation.{in_operand, nowhere, ahead, decided, with_left, in_parts, ProceedingAt, behind_statement, behind_call, behind_wrong, Related, Matches, code_of, DataFor}
+use Rattle.cyc_lower.proofs.relation.simulation.Relation.{SharedAt, SharedBy, GivenAt, in_operand, nowhere, ahead, decided, with_left, in_parts, ProceedingAt, behind_statement, behind_call, behind_wrong, Related, Matches, DataFor}
+use Rattle.cyc_lower.proofs.relation.simulation.Stacks.{Lands, in_temporary, in_local, HandsOn, drops, leaves, copies, Prints, prints_only, gives_byte, opened_by, code_of}
+use Rattle.cyc_lower.proofs.relation.simulation.Shared.{seen_in, shared_seen}
 
 module _ (source : Program) where
   -- ---- where a value goes

@@ -17,7 +17,9 @@ use Rattle.cyc_words.proofs.Matching.{way_before}
 use Rattle.cyc_meaning.specs.State.{World, Environment, Entry, Focus, State, Running}
 use Rattle.cyc_meaning.specs.Step.{step}
 use Rattle.cyc_lower.specs.inside.Lowering.{lower_program}
-use Rattle.cyc_lower.proofs.relation.simulation.Relation.{seen_in, shared_seen, SharedAt, Matches, code_of}
+use Rattle.cyc_lower.proofs.relation.simulation.Relation.{SharedAt, Matches}
+use Rattle.cyc_lower.proofs.relation.simulation.Stacks.{code_of}
+use Rattle.cyc_lower.proofs.relation.simulation.Shared.{seen_in, shared_seen}
 use Rattle.cyc_lower.proofs.relation.simulation.Matched.{above, below, matching, shared_within, matches_within_below, Executes, executes, by_places, place_in, known, IsMatched}
 
 -- an instruction, and where it leads

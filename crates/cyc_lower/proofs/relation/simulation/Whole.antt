@@ -49,7 +49,9 @@ use Rattle.cyc_objects.specs.inside.Words.{Is}
 use Rattle.cyc_objects.specs.inside.Related as objects
 use Rattle.cyc_objects.proofs.Start.{start-related}
 use Rattle.cyc_lower.proofs.relation.contents.HeldValues.{callers, contents, MayBeOpen, IsCharAt}
-use Rattle.cyc_lower.proofs.relation.simulation.Relation.{silent, call_slots, Related, Matches, types_at, starts_at}
+use Rattle.cyc_lower.proofs.relation.simulation.Relation.{Related, Matches}
+use Rattle.cyc_lower.proofs.relation.simulation.Stacks.{call_slots, types_at, starts_at}
+use Rattle.cyc_lower.proofs.relation.simulation.Shared.{silent}
 use Rattle.cyc_lower.proofs.relation.code.Fitting.{IsFitting}
 use Rattle.cyc_lower.proofs.relation.contents.Data.{no_locals_hold, Is-same}
 use Rattle.cyc_lower.proofs.relation.simulation.Accesses.{IsWell}
@@ -62,7 +64,8 @@ use Rattle.cyc_lower.proofs.object_steps.Arrays.{repeating}
 use Rattle.cyc_lower.proofs.value_steps.Values.{given}
 use Rattle.cyc_lower.proofs.place_steps.SwapSteps.{swapping, writing_sides}
 use Rattle.cyc_lower.proofs.place_steps.PlaceSteps.{given_place}
-use Rattle.cyc_lower.proofs.call_steps.StatementSteps.{executing, proceeding, breaking, continuing, returning}
+use Rattle.cyc_lower.proofs.call_steps.StatementSteps.{executing, proceeding, breaking, continuing}
+use Rattle.cyc_lower.proofs.call_steps.Returns.{returning}
 use Rattle.cyc_lower.proofs.handler_steps.ExceptionSteps.{naming, throwing, catching}
 use Rattle.cyc_lower.proofs.call_steps.Calls.{FunctionsStand, calling, entering, binding, entered}
 use Rattle.cyc_lower.proofs.emission.Bridge.{functions_stand}
