@@ -169,7 +169,7 @@ fn frames_of(alloc: Global, plain: &Plain) -> Result<Vec<Frame>, AllocError>
 {
     let functions = plain.functions();
     let may_save = if all_return(plain) { MOST_SAVED } else { 0 };
-    let mut frames = Vec::new(alloc);
+    let mut frames = Vec::with_capacity(alloc, functions.len())?;
     let mut most = 0;
     for number in 0..functions.len() {
         let frame = frame_of(alloc, plain, plain.function(number), may_save)?;
