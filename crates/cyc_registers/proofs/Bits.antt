@@ -36,7 +36,7 @@ no_bit a b j first second = bit_at_or a b j ∙ (ap (λ (n : ℕ). max n (bit_at
 
 pub bit_turned : (w j : ℕ) → j < MOST_CHOSEN → bit_at w j ≡ 0 → bit_at (bit_xor ALL_NUMBERS w) j ≡ 1
 bit_turned w j few is =
-    bit_at_xor ALL_NUMBERS w j ∙ (ap (λ (x : ℕ). (x + bit_at w j) % 2) (bit_at_ones 32 j few) ∙ ap (λ (x : ℕ). (1 + x) % 2) is)
+    bit_at_xor ALL_NUMBERS w j ∙ (ap (λ (x : ℕ). (x + bit_at w j) % 2) (bit_at_ones 64 j few) ∙ ap (λ (x : ℕ). (1 + x) % 2) is)
 
 -- nothing of the one is in the other
 pub apart_bits : (a b j : ℕ) → bit_and a b ≡ 0 → bit_at b j ≡ 1 → bit_at a j ≡ 1 → ⊥
@@ -48,6 +48,12 @@ pub bit_between : (a b j : ℕ) → bit_at (bit_and a b) j ≡ 1 → bit_at b j 
 bit_between a b j is = let e : min (bit_at a j) (bit_at b j) ≡ 1 = sym (bit_at_and a b j) ∙ is in least (bit_at a j) (bit_at b j) (bit_at-lt b j) e
   where
     least : (x y : ℕ) → y < 2 → min x y ≡ 1 → y ≡ 1
+    least x y small e = omega (arith, small, e)
+
+pub bit_before : (a b j : ℕ) → bit_at (bit_and a b) j ≡ 1 → bit_at a j ≡ 1
+bit_before a b j is = let e : min (bit_at a j) (bit_at b j) ≡ 1 = sym (bit_at_and a b j) ∙ is in least (bit_at a j) (bit_at b j) (bit_at-lt a j) e
+  where
+    least : (x y : ℕ) → x < 2 → min x y ≡ 1 → x ≡ 1
     least x y small e = omega (arith, small, e)
 
 -- ---- sets of one slot
@@ -216,5 +222,5 @@ one_mask_more masks next are = more masks (2 ^ next) next (next + 1) are (omega 
       | inr apart ↦ absurd (let e : 0 ≡ 1 = sym (bit_at-pow_other next j apart) ∙ is in omega (arith, e))
     ]
 
-pub one_bit : (next : ℕ) → next < MOST_CHOSEN → (1 * 2 ^ next) % 2 ^ 32 ≡ 2 ^ next
-one_bit next few = one_shl next 32 (omega (arith, few))
+pub one_bit : (next : ℕ) → next < MOST_CHOSEN → (1 * 2 ^ next) % 2 ^ 64 ≡ 2 ^ next
+one_bit next few = one_shl next 64 (omega (arith, few))

@@ -14,12 +14,14 @@ use Rattle.cyc_registers.specs.declared.home.Home.{Home}
 use Rattle.cyc_registers.specs.declared.home.Home.TheVariants as homes
 use Rattle.cyc_registers.specs.declared.home.TheConstants.{FIRST_REGISTER, FIRST_PRESERVED, MOST_BOTH, MOST_SAVED}
 use Rattle.cyc_registers.specs.declared.liveness.TheConstants.{MOST_CHOSEN}
+use Rattle.cyc_registers.specs.declared.uses.Uses.{Uses}
 use Rattle.cyc_registers.specs.inside.Interference.{AreHomes, HasRegister, register_of, is_preserved, is_kept, home_of, both_count, saved_count}
 use Rattle.cyc_registers.specs.inside.Liveness.{IsLiveAt, IsLiveLater}
 use Rattle.cyc_registers.specs.inside.LivenessTable.{IsSound, behind_mask, is_within, may_have}
-use Rattle.cyc_registers.specs.inside.Masks.{mask_at, HasBit, AreMasks, range_mask, write_mask}
-use Rattle.cyc_registers.specs.inside.Sharing.{AllSuit, AreApart, AreApartAt, AreGroups, AreHolders, NeverMeet, Suits, is_given, is_single, standing_mask, suits, with_group}
+use Rattle.cyc_registers.specs.inside.Masks.{mask_at, HasBit, AreMasks, range_mask, uses_of, write_mask}
+use Rattle.cyc_registers.specs.inside.Sharing.{AllSuit, AreAlone, AreApartAt, AreGroups, AreHolders, NeverMeet, AreSingle, Suits, is_given, is_single, standing_mask, suits, with_group}
 use Rattle.cyc_registers.proofs.Bits.{apart_bits, bit_left, bit_right, bit_both, bit_within, no_mask, one_alone, range_bit, among_bit}
+use Rattle.cyc_registers.proofs.Meeting.{alone_single}
 use Rattle.cyc_registers.proofs.CheckedLiveness.{live_bit, led_bit, behind_bit, clause_bit, barred_bit, written_bit}
 
 its_number : (register k : ℕ) → Some register ≡ Some k → register ≡ k
@@ -69,18 +71,20 @@ pub none_meet : (program : Program) (r : Routine) (masks live groups : List ℕ)
 none_meet program r masks live groups index i at below = absurd (omega (arith, below))
 
 pub more_meet : (program : Program) (r : Routine) (masks live groups : List ℕ) (count : ℕ) (last : Instruction) → At r count last
-    → AreApartAt program masks live groups last count → NeverMeet program r masks live groups count → NeverMeet program r masks live groups (count + 1)
+    → AreApartAt (uses_of program r.results masks last) live groups last count → NeverMeet program r masks live groups count
+    → NeverMeet program r masks live groups (count + 1)
 more_meet program r masks live groups count last at_last here so_far index i at below = elim (cases_eq index count) [
   | inl same ↦
       let its : last ≡ i = (let e : Some last ≡ Some i = sym at_last ∙ (ap (slice_get r.code) (sym same) ∙ at) in cc) in
-      subst (λ (n : ℕ). AreApartAt program masks live groups i n) (sym same)
-      (subst (λ (j : Instruction). AreApartAt program masks live groups j count) its here)
+      subst (λ (n : ℕ). AreApartAt (uses_of program r.results masks i) live groups i n) (sym same)
+      (subst (λ (j : Instruction). AreApartAt (uses_of program r.results masks j) live groups j count) its here)
   | inr other ↦ so_far index i at (omega (arith, below, other))
 ]
 
 -- no instruction is left out
 pub groups_alone : (program : Program) (r : Routine) (masks live : List ℕ) (count : ℕ) → NeverMeet program r masks live [] count
-groups_alone program r masks live count index i at below number slots is = absurd (no_number slots is)
+groups_alone program r masks live count index i at below =
+    (λ number slots j l is first second. absurd (no_number slots is), λ number slots is. absurd (no_number slots is))
 
 module _ (program : Program) (r : Routine) (masks live holders : List ℕ) (calls clauses barred saved : ℕ)
     (sound : IsSound program r masks live calls clauses barred) (are : AreMasks masks MOST_CHOSEN) where
@@ -257,9 +261,9 @@ module _ (program : Program) (r : Routine) (masks live holders : List ℕ) (call
 
     module _ (groups : List ℕ) (grouped : AreGroups holders (length holders) groups) where
       -- two slots of one register are the same where a set has both, of which each group has one at most
-      one_in : (set a c k j l : ℕ) → ((number slots : ℕ) → slice_get groups number ≡ Some slots → is_single (bit_and set slots) ≡ true)
+      one_in : (set a c k j l : ℕ) → AreAlone groups set
           → HasRegister hs a k → HasRegister hs c k → HasBit masks a j → HasBit masks c l → bit_at set j ≡ 1 → bit_at set l ≡ 1 → a ≡ c
-      one_in set a c k j l single its_a its_c bit_a bit_c in_a in_c =
+      one_in set a c k j l alone its_a its_c bit_a bit_c in_a in_c =
           are.one a c j bit_a (subst (λ (n : ℕ). HasBit masks c n) (sym same) bit_c)
         where
           held_a : bit_at (mask_at holders k) j ≡ 1
@@ -270,24 +274,26 @@ module _ (program : Program) (r : Routine) (masks live holders : List ℕ) (call
 
           same : j ≡ l
           same = elim (grouped k (inside k j held_a)) [
-            | inl alone ↦ one_alone (mask_at holders k) j l alone held_a held_c
+            | inl single ↦ one_alone (mask_at holders k) j l single held_a held_c
             | inr (number, is) ↦
-                one_alone (bit_and set (mask_at holders k)) j l (single number (mask_at holders k) is)
+                alone number (mask_at holders k) j l is
                 (bit_both set (mask_at holders k) j in_a held_a) (bit_both set (mask_at holders k) l in_c held_c)
           ]
 
       module _ (meet : NeverMeet program r masks live groups (length r.code)) where
+        -- what an instruction does
+        abbrev used : Instruction → Uses
+        used i = uses_of program r.results masks i
+
         -- an instruction where it is live
         live_there : (slot index : ℕ) → IsLiveAt program r slot index → (i : Instruction) × At r index i
         live_there slot index (zero, (i, at, is)) = (i, at)
         live_there slot index (suc steps, (i, at, other, next, led, later)) = (i, at)
 
-        standing : (index number slots : ℕ) (i : Instruction) → At r index i → slice_get groups number ≡ Some slots
-            → is_single (bit_and (standing_mask program masks i index live) slots) ≡ true
-        standing index number slots i at is =
-            (and_parts (is_single (bit_and (standing_mask program masks i index live) slots)) _ (meet index i at (slice_get_within r.code index i at) number slots is)).0
+        standing : (index : ℕ) (i : Instruction) → At r index i → AreAlone groups (standing_mask (used i) i index live)
+        standing index i at = (meet index i at (slice_get_within r.code index i at)).0
 
-        live_stands : (i : Instruction) (index j : ℕ) → bit_at (mask_at live index) j ≡ 1 → bit_at (standing_mask program masks i index live) j ≡ 1
+        live_stands : (i : Instruction) (index j : ℕ) → bit_at (mask_at live index) j ≡ 1 → bit_at (standing_mask (used i) i index live) j ≡ 1
         live_stands (instructions.MoveWords destination source count) index j is =
             bit_left (mask_at live index) (write_mask masks program (instructions.MoveWords destination source count)) j is
         live_stands i index j is = is
@@ -298,7 +304,7 @@ module _ (program : Program) (r : Routine) (masks live holders : List ℕ) (call
             let (i, at) = live_there a index live_a in
             let (j, bit_a) = are.some a (has a k its_a).some in
             let (l, bit_c) = are.some c (has c k its_c).some in
-            one_in (standing_mask program masks i index live) a c k j l (λ number slots is. standing index number slots i at is) its_a its_c bit_a bit_c
+            one_in (standing_mask (used i) i index live) a c k j l (standing index i at) its_a its_c bit_a bit_c
             (live_stands i index j (live_bit program r masks live calls clauses barred sound a j are bit_a index live_a))
             (live_stands i index l (live_bit program r masks live calls clauses barred sound c l are bit_c index live_c))
 
@@ -348,7 +354,7 @@ module _ (program : Program) (r : Routine) (masks live holders : List ℕ) (call
                 same = elim (grouped k (inside k j held_a)) [
                   | inl alone ↦ one_alone (mask_at holders k) j l alone held_a held_d
                   | inr (number, is) ↦
-                      let checked = (and_parts (is_single (bit_and (standing_mask program masks i index live) (mask_at holders k))) _ (meet index i at (slice_get_within r.code index i at) number (mask_at holders k) is)).1 in
+                      let checked = (meet index i at (slice_get_within r.code index i at)).1 number (mask_at holders k) is in
                       elim (or_cases (bit_and writing (mask_at holders k) == 0) (is_single (bit_and either (mask_at holders k))) checked) [
                         | inl none ↦ absurd (apart_bits writing (mask_at holders k) l (eqb-true (bit_and writing (mask_at holders k)) 0 none) held_d in_written)
                         | inr single ↦
@@ -364,19 +370,18 @@ module _ (program : Program) (r : Routine) (masks live holders : List ℕ) (call
             let i : Instruction = instructions.MoveWords destination source count in
             let (j, bit_a) = are.some a (has a k its_a).some in
             let (l, bit_d) = are.some d (has d k its_d).some in
-            one_in (standing_mask program masks i index live) a d k j l (λ number slots is. standing index number slots i at is) its_a its_d bit_a bit_d
+            one_in (standing_mask (used i) i index live) a d k j l (standing index i at) its_a its_d bit_a bit_d
             (bit_left (mask_at live index) (write_mask masks program i) j
             (live_bit program r masks live calls clauses barred sound a j are bit_a index (zero, (i, at, from))))
             (bit_right (mask_at live index) (write_mask masks program i) l (among_bit masks destination count d l to bit_d))
 
-        module _ (arrive : AreApart groups (range_mask masks 0 r.parameters) 0 0) where
+        module _ (arrive : AreSingle groups (range_mask masks 0 r.parameters)) where
           -- two parameters have no register together
           two_parameters : (a c k : ℕ) → HasRegister hs a k → HasRegister hs c k → a < r.parameters → c < r.parameters → a ≡ c
           two_parameters a c k its_a its_c below_a below_c =
               let (j, bit_a) = are.some a (has a k its_a).some in
               let (l, bit_c) = are.some c (has c k its_c).some in
-              one_in (range_mask masks 0 r.parameters) a c k j l
-              (λ number slots is. (and_parts (is_single (bit_and (range_mask masks 0 r.parameters) slots)) _ (arrive number slots is)).0) its_a its_c bit_a bit_c
+              one_in (range_mask masks 0 r.parameters) a c k j l (alone_single groups (range_mask masks 0 r.parameters) arrive) its_a its_c bit_a bit_c
               (range_bit masks 0 r.parameters a j (omega arith) (omega (arith, below_a)) bit_a)
               (range_bit masks 0 r.parameters c l (omega arith) (omega (arith, below_c)) bit_c)
 

@@ -14,7 +14,8 @@ use Rattle.cyc_plain.specs.declared.limits.TheConstants.{RECORD_WORDS}
 use Rattle.cyc_plain.specs.inside.Program.{Routine, Program, routine_at}
 use Rattle.cyc_plain.specs.inside.Uses.{At, is_slot, is_among, request_reads, request_writes, reads, writes, leads}
 use Rattle.cyc_registers.specs.declared.liveness.TheConstants.{MOST_CHOSEN}
-use Rattle.cyc_registers.specs.inside.Masks.{mask_at, HasBit, AreMasks, operand_mask, range_mask, request_read_mask, read_mask, request_write_mask, write_mask, bar_mask}
+use Rattle.cyc_registers.specs.declared.uses.Uses.{Uses}
+use Rattle.cyc_registers.specs.inside.Masks.{mask_at, HasBit, AreMasks, operand_mask, range_mask, request_read_mask, read_mask, request_write_mask, write_mask, bar_mask, uses_of}
 use Rattle.cyc_registers.specs.inside.LivenessTable.{behind_mask, unwritten_mask, needed_mask, call_mask, clause_mask, is_within, is_sound_at, IsSound}
 use Rattle.cyc_registers.proofs.Bits.{bit_left, bit_right, bit_both, bit_within, bit_turned, among_bit, other_bit, not_among_bit}
 use Rattle.cyc_registers.specs.inside.Bars.{is_crossing, bars}
@@ -167,14 +168,18 @@ module _ (masks : List ℕ) (slot j : ℕ) (has : HasBit masks slot j) where
 -- ---- a table that was checked
 
 module _ (program : Program) (r : Routine) (masks live : List ℕ) (calls clauses barred : ℕ) (sound : IsSound program r masks live calls clauses barred) where
+  -- what the table of uses has of an instruction
+  abbrev used : Instruction → Uses
+  used i = uses_of program r.results masks i
+
   -- what the check says of one instruction
   checked : (index : ℕ) (i : Instruction) → At r index i
-      → (bit_or (needed_mask program r.results masks i index live) (mask_at live index) ≡ mask_at live index)
-      × (bit_or (call_mask program masks i index live) calls ≡ calls) × (bit_or (clause_mask i live) clauses ≡ clauses) × (bit_or (bar_mask masks i) barred ≡ barred)
+      → (bit_or (needed_mask (used i) i index live) (mask_at live index) ≡ mask_at live index)
+      × (bit_or (call_mask (used i) i index live) calls ≡ calls) × (bit_or (clause_mask i live) clauses ≡ clauses) × (bit_or (bar_mask masks i) barred ≡ barred)
   unfolding is_sound_at
   checked index i at =
-      let needed = needed_mask program r.results masks i index live in
-      let behind = call_mask program masks i index live in
+      let needed = needed_mask (used i) i index live in
+      let behind = call_mask (used i) i index live in
       let in_clause = clause_mask i live in
       let last : Bool = is_within in_clause clauses && is_within (bar_mask masks i) barred in
       let first = and_parts (is_within needed (mask_at live index)) (is_within behind calls && last) (sound index i at) in
@@ -187,17 +192,17 @@ module _ (program : Program) (r : Routine) (masks live : List ℕ) (calls clause
       )
 
   module _ (slot j : ℕ) (are : AreMasks masks MOST_CHOSEN) (has : HasBit masks slot j) where
-    others_bit : (i : Instruction) → writes program i slot ≡ false → bit_at (unwritten_mask program masks i) j ≡ 1
+    others_bit : (i : Instruction) → writes program i slot ≡ false → bit_at (unwritten_mask (used i)) j ≡ 1
     others_bit i other = bit_turned (write_mask masks program i) j (are.below slot j has) (unwritten_bit masks slot j has program MOST_CHOSEN are i other)
 
     live_within : (steps index : ℕ) → IsLiveWithin program r slot steps index → bit_at (mask_at live index) j ≡ 1
     live_within zero index (i, at, is) =
-        bit_within (needed_mask program r.results masks i index live) (mask_at live index) j (checked index i at).0
-        (bit_left (read_mask masks r.results i) (bit_and (behind_mask i index live) (unwritten_mask program masks i)) j
+        bit_within (needed_mask (used i) i index live) (mask_at live index) j (checked index i at).0
+        (bit_left (read_mask masks r.results i) (bit_and (behind_mask i index live) (unwritten_mask (used i))) j
         (read_bit masks slot j has r.results i is))
     live_within (suc steps) index (i, at, other, next, led, wanted) =
-        let others = unwritten_mask program masks i in
-        bit_within (needed_mask program r.results masks i index live) (mask_at live index) j (checked index i at).0
+        let others = unwritten_mask (used i) in
+        bit_within (needed_mask (used i) i index live) (mask_at live index) j (checked index i at).0
         (bit_right (read_mask masks r.results i) (bit_and (behind_mask i index live) others) j
         (bit_both (behind_mask i index live) others j
         (led_bit i index next j live led (live_within steps next wanted))
@@ -211,8 +216,8 @@ module _ (program : Program) (r : Routine) (masks live : List ℕ) (calls clause
         → writes program (instructions.Call function arguments count result) slot ≡ false → IsLiveAt program r slot (suc index) → bit_at calls j ≡ 1
     behind_bit index function arguments count result at other wanted =
         let i : Instruction = instructions.Call function arguments count result in
-        bit_within (call_mask program masks i index live) calls j (checked index i at).1
-        (bit_both (mask_at live (index + 1)) (unwritten_mask program masks i) j
+        bit_within (call_mask (used i) i index live) calls j (checked index i at).1
+        (bit_both (mask_at live (index + 1)) (unwritten_mask (used i)) j
         (subst (λ (n : ℕ). bit_at (mask_at live n) j ≡ 1) (let e : suc index ≡ index + 1 = omega arith in e) (live_bit (suc index) wanted))
         (others_bit i other))
 

@@ -14,6 +14,7 @@ use crate::liveness::{is_sound, liveness_of};
 use crate::numbering::masks_of;
 use crate::sharing::{are_right, groups_of, holders_of};
 use crate::spill_costs::spill_costs_of;
+use crate::uses::all_uses;
 use cyc_plain::{Function, Plain};
 use std::alloc::{AllocError, Global};
 
@@ -71,19 +72,20 @@ pub fn allocate(
     ensures idle { IfOk result (λ given. AreIdle plain.now (routine_of function.now) given.homes.items given.idle.items) }
 {
     let costs = spill_costs_of(alloc, function)?;
-    let masks = masks_of(alloc, &costs.chosen(alloc)?)?;
-    let lives = liveness_of(alloc, plain, function, &masks, &costs.backward)?;
-    if !is_sound(plain, function, &masks, &lives) {
+    let masks = masks_of(alloc, &costs)?;
+    let uses = all_uses(alloc, plain, function, &masks)?;
+    let lives = liveness_of(alloc, function, &uses, &costs.backward)?;
+    if !is_sound(plain, function, &masks, &uses, &lives) {
         return memory_alone(alloc, plain, function);
     }
-    let interference = interference_of(alloc, plain, function, &masks, &lives)?;
+    let interference = interference_of(function, &masks, &uses, &lives);
     let chosen = choose(alloc, function, &costs, &masks, &lives, &interference, most)?;
     let homes = &chosen.homes;
-    let holders = holders_of(alloc, &masks, homes)?;
+    let holders = holders_of(&masks, homes);
     let groups = groups_of(alloc, &holders)?;
     let saved = chosen.saved;
     if !are_right(
-        plain, function, &masks, &lives, &holders, &groups, saved, homes,
+        plain, function, &masks, &uses, &lives, &holders, &groups, saved, homes,
     ) {
         return memory_alone(alloc, plain, function);
     }

@@ -12,6 +12,11 @@ use std::alloc::{AllocError, Global};
 /// How many registers slots may have of those that calls lose.
 const MOST_LOST: usize = (FIRST_PRESERVED - FIRST_REGISTER) as usize;
 
+/// A place for each register, and one for each number that a slot may be chosen as.
+const REGISTERS: usize = REGISTERS_END as usize;
+
+const SLOTS: usize = MOST_CHOSEN as usize;
+
 /// What a register that calls preserve costs: it is saved and restored once for each call of the function, and other functions
 /// find fewer that they need not save.
 const PRESERVED_PRICE: u64 = 4;
@@ -29,11 +34,11 @@ const NO_REGISTER: u8 = 0;
 #[derive(Clone, Copy)]
 struct Candidate {
     slot: usize,
-    mask: u32,
+    mask: u64,
     /// Those that it meets.
-    meets: u32,
+    meets: u64,
     /// Those that are moved to it, or it to them, and that it does not meet.
-    moves: u32,
+    moves: u64,
     /// One that calls lose.
     lost: u64,
     /// Whether that one would stand beside memory.
@@ -58,13 +63,13 @@ struct Offer {
 #[derive(Drop)]
 struct Registers {
     /// The slots of each, by its number.
-    slots: Vec<u32>,
+    slots: [u64; REGISTERS],
     /// That of each slot, by the slot's number.
-    given: Vec<u8>,
+    given: [u8; SLOTS],
     /// The one that each slot is handed over in, so that nothing is to be done for that.
-    wanted: Vec<u8>,
+    wanted: [u8; SLOTS],
     /// The slots that are handed over in each register.
-    handed: Vec<u32>,
+    handed: [u64; REGISTERS],
     /// How many of those that calls lose no slot has.
     free: usize,
     /// How many of those that calls preserve are given: the first of them.
@@ -91,7 +96,7 @@ const NO_OFFER: Offer = Offer {
 };
 
 /// The register in a list of the slot with the lowest number of these.
-fn register_at(list: &[u8], slots: u32) -> u8 {
+fn register_at(list: &[u8], slots: u64) -> u8 {
     match list.get(slots.trailing_zeros() as usize) {
         Some(register) => *register,
         None => NO_REGISTER,
@@ -113,7 +118,7 @@ impl Candidate {
         interference: &Interference,
         slot: usize,
         parameters: usize,
-        mask: u32,
+        mask: u64,
     ) -> Candidate {
         let most = costs.most_at(slot);
         let is_both = mask & (lives.calls | lives.clauses) != 0;
@@ -136,7 +141,7 @@ impl Candidate {
             is_wide: if is_both {
                 lost > preserved
             } else {
-                meets.count_ones() as usize > MOST_LOST
+                meets.count_ones() > MOST_LOST as u32
             },
             gain: most,
         }
@@ -145,13 +150,13 @@ impl Candidate {
 
 impl Registers {
     /// Whether it is a register of those that calls lose, which none of these slots has.
-    fn is_open(&self, register: u8, others: u32) -> bool {
+    fn is_open(&self, register: u8, others: u64) -> bool {
         (FIRST_REGISTER..FIRST_PRESERVED).contains(&register)
             && mask_at(&self.slots, register as usize) & others == 0
     }
 
     /// The first of the registers of these slots, as they stand in this list, that none of the others has.
-    fn first_open(&self, list: &[u8], slots: u32, others: u32) -> Option<u8> {
+    fn first_open(&self, list: &[u8], slots: u64, others: u64) -> Option<u8> {
         let mut left = slots;
         for _ in 0..MOST_CHOSEN {
             if left == 0 {
@@ -166,22 +171,34 @@ impl Registers {
         None
     }
 
-    /// One of these that others have, none of which the slot meets: one of a slot to which it is moved, or else that whose slots
+    /// The first of these that a slot has to which this one is moved, and none that it meets.
+    fn moved(&self, first: u8, end: u8, candidate: &Candidate) -> Option<u8> {
+        if candidate.moves == 0 {
+            return None;
+        }
+        for register in first..end {
+            let slots = mask_at(&self.slots, register as usize);
+            if slots & candidate.moves != 0 && slots & candidate.meets == 0 {
+                return Some(register);
+            }
+        }
+        None
+    }
+
+    /// One of these that others have, none of which the slot meets: that of a slot to which it is moved, or else that whose slots
     /// are fewest, since instructions on one register cannot change places.
     fn shared(&self, first: u8, end: u8, candidate: &Candidate) -> Option<u8> {
-        let mut found = None;
+        let mut found = self.moved(first, end, candidate);
+        if found.is_some() {
+            return found;
+        }
         let mut least = MOST_CHOSEN;
         for register in first..end {
             let slots = mask_at(&self.slots, register as usize);
-            if slots != 0 && slots & candidate.meets == 0 {
-                if slots & candidate.moves != 0 {
-                    return Some(register);
-                }
-                let count = slots.count_ones();
-                if count < least {
-                    least = count;
-                    found = Some(register);
-                }
+            let count = slots.count_ones();
+            if slots != 0 && slots & candidate.meets == 0 && count < least {
+                least = count;
+                found = Some(register);
             }
         }
         found
@@ -203,7 +220,7 @@ impl Registers {
 
     /// One of those that calls lose, which none of these others has: that of a slot to which this one is moved, or the one that this
     /// one is handed over in, or one to which it is moved; or else a free one, while there are more than are kept.
-    fn lost(&self, candidate: &Candidate, others: u32) -> Option<u8> {
+    fn lost(&self, candidate: &Candidate, others: u64) -> Option<u8> {
         let moved = self.first_open(&self.given, candidate.moves, others);
         if moved.is_some() {
             return moved;
@@ -250,9 +267,14 @@ impl Registers {
         }
     }
 
+    /// The next of those that calls preserve: those before it are saved for some slots already.
+    fn next_preserved(&self) -> u8 {
+        FIRST_PRESERVED + self.saved.min(MOST_SAVED) as u8
+    }
+
     /// One of those that calls preserve: one that is saved for another slot already, or the next one.
     fn preserved_offer(&self, candidate: &Candidate) -> Offer {
-        let next = FIRST_PRESERVED + self.saved.min(MOST_SAVED) as u8;
+        let next = self.next_preserved();
         match self.shared(FIRST_PRESERVED, next, candidate) {
             Some(register) => Offer {
                 home: Home::Register { register },
@@ -286,8 +308,23 @@ impl Registers {
         }
     }
 
+    /// Whether a slot had better have a register that calls preserve, though it needs none: one to which it is moved has one, and
+    /// none of those that calls lose.
+    fn is_near_preserved(&self, candidate: &Candidate) -> bool {
+        candidate.preserved >= candidate.gain
+            && self
+                .moved(FIRST_PRESERVED, self.next_preserved(), candidate)
+                .is_some()
+            && self
+                .moved(FIRST_REGISTER, FIRST_PRESERVED, candidate)
+                .is_none()
+    }
+
     /// The best home that is left for a slot.
     fn offer(&self, candidate: &Candidate) -> Offer {
+        if self.is_near_preserved(candidate) {
+            return self.preserved_offer(candidate);
+        }
         let lost = self.lost_offer(candidate);
         if lost.gain >= candidate.gain {
             return lost;
@@ -330,11 +367,11 @@ fn candidates_of(
     alloc: Global,
     function: &Function,
     costs: &SpillCosts,
-    masks: &[u32],
+    masks: &[u64],
     lives: &Lives,
     interference: &Interference,
 ) -> Result<Vec<Candidate>, AllocError> {
-    let mut candidates = Vec::new(alloc);
+    let mut candidates = Vec::with_capacity(alloc, SLOTS.min(masks.len()))?;
     for slot in 0..masks.len() {
         if may_have(function, masks, lives, slot) {
             let mask = mask_at(masks, slot);
@@ -363,22 +400,22 @@ fn wide_in(candidates: &[Candidate]) -> usize {
 
 impl Registers {
     /// All registers, which no slot has so far.
-    fn new(alloc: Global, most: usize, wide: usize) -> Result<Registers, AllocError> {
-        Ok(Registers {
-            slots: vec![in alloc; 0; REGISTERS_END as usize]?,
-            given: vec![in alloc; NO_REGISTER; MOST_CHOSEN as usize]?,
-            wanted: vec![in alloc; NO_REGISTER; MOST_CHOSEN as usize]?,
-            handed: vec![in alloc; 0; REGISTERS_END as usize]?,
+    fn new(most: usize, wide: usize) -> Registers {
+        Registers {
+            slots: [0; REGISTERS],
+            given: [NO_REGISTER; SLOTS],
+            wanted: [NO_REGISTER; SLOTS],
+            handed: [0; REGISTERS],
             free: MOST_LOST,
             saved: 0,
             most,
             both: 0,
             wide,
-        })
+        }
     }
 
     /// Slots that are handed over at one place among arguments, or parameters, want one register.
-    fn want(&mut self, costs: &SpillCosts, masks: &[u32]) {
+    fn want(&mut self, costs: &SpillCosts, masks: &[u64]) {
         for slot in 0..masks.len() {
             let mask = mask_at(masks, slot);
             match costs.place_at(slot) {
@@ -402,7 +439,7 @@ pub(crate) fn choose(
     alloc: Global,
     function: &Function,
     costs: &SpillCosts,
-    masks: &[u32],
+    masks: &[u64],
     lives: &Lives,
     interference: &Interference,
     most: usize,
@@ -410,7 +447,7 @@ pub(crate) fn choose(
     ensures { IfOk result (λ chosen. chosen.saved ≤ most) }
 {
     let mut candidates = candidates_of(alloc, function, costs, masks, lives, interference)?;
-    let mut registers = Registers::new(alloc, most, wide_in(&candidates))?;
+    let mut registers = Registers::new(most, wide_in(&candidates));
     registers.want(costs, masks);
     let mut homes = vec![in alloc; Home::Memory; function.slots]?;
     for _ in 0..MOST_CHOSEN * MOST_LOOKS {

@@ -14,7 +14,7 @@ use cyc_plain::{Function, Instruction, Plain};
 use std::alloc::{AllocError, Global};
 
 /// Whether a slot has no register, or none is live behind this place that has the same.
-fn is_free(holders: &[u32], live: &[u32], homes: &[Home], index: usize, slot: usize) -> bool
+fn is_free(holders: &[u64], live: &[u64], homes: &[Home], index: usize, slot: usize) -> bool
     requires { index < length live.now }
     ensures { result ≡ checks.is_free holders.now live.now homes.now index slot }
 {
@@ -28,8 +28,8 @@ fn is_free(holders: &[u32], live: &[u32], homes: &[Home], index: usize, slot: us
 
 /// Whether a word that is made at this target may be made in front of the branch of this index.
 fn may_fill(
-    holders: &[u32],
-    live: &[u32],
+    holders: &[u64],
+    live: &[u64],
     homes: &[Home],
     code: &[Instruction],
     index: usize,
@@ -50,8 +50,8 @@ fn may_fill(
 
 /// Bars the target of the instruction of this index, where it is a branch whose slot may not be filled from there.
 fn bar(
-    holders: &[u32],
-    live: &[u32],
+    holders: &[u64],
+    live: &[u64],
     homes: &[Home],
     code: &[Instruction],
     index: usize,
@@ -74,9 +74,9 @@ pub(crate) fn fills_of(
     alloc: Global,
     plain: &Plain,
     function: &Function,
-    masks: &[u32],
+    masks: &[u64],
     lives: &Lives,
-    holders: &[u32],
+    holders: &[u64],
     homes: &[Home],
 ) -> Result<Vec<bool>, AllocError>
     requires numbered { AreMasks masks.now MOST_CHOSEN }

@@ -49,7 +49,7 @@ fn is_unkept(homes: &[Home], slot: usize) -> bool
 }
 
 /// Whether a slot whose word is in a register alone is not live behind this place.
-fn is_unused(masks: &[u32], live: &[u32], homes: &[Home], index: usize, slot: usize) -> bool
+fn is_unused(masks: &[u64], live: &[u64], homes: &[Home], index: usize, slot: usize) -> bool
     requires { index < length live.now }
     ensures { result ≡ checks.is_unused masks.now live.now homes.now index slot }
 {
@@ -60,8 +60,8 @@ fn is_unused(masks: &[u32], live: &[u32], homes: &[Home], index: usize, slot: us
 /// Whether the slot so many behind the first is such a one.
 #[tactic(auto, using(crate::proofs::IdleCode::none_unused))]
 fn is_unused_behind(
-    masks: &[u32],
-    live: &[u32],
+    masks: &[u64],
+    live: &[u64],
     homes: &[Home],
     index: usize,
     first: usize,
@@ -79,8 +79,8 @@ fn is_unused_behind(
 /// Whether so many slots from this one on are such ones.
 #[tactic(auto, using(crate::proofs::IdleCode::unused_more))]
 fn are_unused(
-    masks: &[u32],
-    live: &[u32],
+    masks: &[u64],
+    live: &[u64],
     homes: &[Home],
     index: usize,
     first: usize,
@@ -127,8 +127,8 @@ fn is_there(homes: &[Home], slot: usize, source: Operand) -> bool
 }
 
 fn is_idle(
-    masks: &[u32],
-    live: &[u32],
+    masks: &[u64],
+    live: &[u64],
     homes: &[Home],
     index: usize,
     instruction: Instruction,
@@ -170,7 +170,7 @@ pub(crate) fn idle_places(
     alloc: Global,
     plain: &Plain,
     function: &Function,
-    masks: &[u32],
+    masks: &[u64],
     lives: &Lives,
     homes: &[Home],
 ) -> Result<Vec<bool>, AllocError>

@@ -13,6 +13,7 @@ mod moves;
 mod numbering;
 mod sharing;
 mod spill_costs;
+mod uses;
 
 pub use allocation::{Allocation, allocate};
 pub use home::{FIRST_PRESERVED, FIRST_REGISTER, Home, MOST_BOTH, MOST_SAVED, REGISTERS_END};

@@ -8,7 +8,7 @@ use crate::moves::is_crossing;
 use cyc_plain::{Instruction, Operand, Plain, RECORD_WORDS, Request};
 
 /// The mask of a slot, or of a place in the code. Where there is none, 0.
-pub(crate) fn mask_at(masks: &[u32], place: usize) -> u32
+pub(crate) fn mask_at(masks: &[u64], place: usize) -> u64
     ensures { result ≡ masks_of.mask_at masks.now place }
 {
     match masks.get(place) {
@@ -17,7 +17,7 @@ pub(crate) fn mask_at(masks: &[u32], place: usize) -> u32
     }
 }
 
-fn operand_mask(masks: &[u32], operand: Operand) -> u32
+fn operand_mask(masks: &[u64], operand: Operand) -> u64
     ensures { result ≡ masks_of.operand_mask masks.now operand }
 {
     match operand {
@@ -28,7 +28,7 @@ fn operand_mask(masks: &[u32], operand: Operand) -> u32
 
 /// The mask of the slot so many behind the first.
 #[tactic(auto, using(crate::proofs::Bits::no_mask))]
-fn mask_behind(masks: &[u32], first: usize, offset: usize) -> u32
+fn mask_behind(masks: &[u64], first: usize, offset: usize) -> u64
     ensures { result ≡ masks_of.mask_at masks.now (first + offset) }
 {
     if first > masks.len() || offset >= masks.len() - first {
@@ -38,7 +38,7 @@ fn mask_behind(masks: &[u32], first: usize, offset: usize) -> u32
 }
 
 #[tactic(auto, using(crate::proofs::Bits::range_more))]
-pub(crate) fn range_mask(masks: &[u32], first: usize, count: usize) -> u32
+pub(crate) fn range_mask(masks: &[u64], first: usize, count: usize) -> u64
     ensures { result ≡ masks_of.range_mask masks.now first count }
 {
     let mut mask = 0;
@@ -60,7 +60,7 @@ fn results_of(plain: &Plain, function: usize) -> usize
     }
 }
 
-fn request_read_mask(masks: &[u32], request: Request) -> u32
+fn request_read_mask(masks: &[u64], request: Request) -> u64
     ensures { result ≡ masks_of.request_read_mask masks.now request }
 {
     match request {
@@ -74,7 +74,7 @@ fn request_read_mask(masks: &[u32], request: Request) -> u32
 }
 
 /// What an instruction reads, in a function that returns so many words.
-pub(crate) fn read_mask(masks: &[u32], results: usize, instruction: Instruction) -> u32
+pub(crate) fn read_mask(masks: &[u64], results: usize, instruction: Instruction) -> u64
     ensures { result ≡ masks_of.read_mask masks.now results instruction }
 {
     match instruction {
@@ -114,7 +114,7 @@ pub(crate) fn read_mask(masks: &[u32], results: usize, instruction: Instruction)
     }
 }
 
-fn request_write_mask(masks: &[u32], request: Request) -> u32
+fn request_write_mask(masks: &[u64], request: Request) -> u64
     ensures { result ≡ masks_of.request_write_mask masks.now request }
 {
     match request {
@@ -126,7 +126,7 @@ fn request_write_mask(masks: &[u32], request: Request) -> u32
 }
 
 /// What it writes of the slots that it does not bar.
-pub(crate) fn write_mask(masks: &[u32], plain: &Plain, instruction: Instruction) -> u32
+pub(crate) fn write_mask(masks: &[u64], plain: &Plain, instruction: Instruction) -> u64
     ensures { result ≡ masks_of.write_mask masks.now plain.now instruction }
 {
     match instruction {
@@ -155,7 +155,7 @@ pub(crate) fn write_mask(masks: &[u32], plain: &Plain, instruction: Instruction)
 }
 
 /// What it bars from registers.
-pub(crate) fn bar_mask(masks: &[u32], instruction: Instruction) -> u32
+pub(crate) fn bar_mask(masks: &[u64], instruction: Instruction) -> u64
     ensures { result ≡ masks_of.bar_mask masks.now instruction }
 {
     match instruction {

@@ -3,11 +3,12 @@ ghost use Rattle.std.specs.Prelude.{◌≤◌, IfOk};
 ghost use Rattle.cyc_registers.specs.inside.Masks.{AreMasks};
 
 use crate::liveness::MOST_CHOSEN;
+use crate::spill_costs::SpillCosts;
 use std::alloc::{AllocError, Global};
 
 /// A mask for one slot more: where it is chosen the bit of the next number, while there is one. Answers the number after it.
 #[tactic(auto, using(crate::proofs::Bits::no_mask_more, crate::proofs::Bits::one_mask_more, crate::proofs::Bits::one_bit))]
-fn number(masks: &mut Vec<u32>, next: u32, is_chosen: bool) -> Result<u32, AllocError>
+fn number(masks: &mut Vec<u64>, next: u32, is_chosen: bool) -> Result<u32, AllocError>
     requires numbered { AreMasks masks.old.items next }
     requires few { next ≤ MOST_CHOSEN }
     ensures numbered { IfOk result (λ after. AreMasks masks.new.items after) }
@@ -21,15 +22,16 @@ fn number(masks: &mut Vec<u32>, next: u32, is_chosen: bool) -> Result<u32, Alloc
     Ok(next + 1)
 }
 
-/// The masks of slots: those that are chosen get numbers in order, while there are some.
+/// The masks of slots: those that cost most in memory are chosen, and get numbers in order.
 #[tactic(auto, using(crate::proofs::Bits::no_masks, crate::proofs::Bits::fewer_masks))]
-pub(crate) fn masks_of(alloc: Global, chosen: &[bool]) -> Result<Vec<u32>, AllocError>
+pub(crate) fn masks_of(alloc: Global, costs: &SpillCosts) -> Result<Vec<u64>, AllocError>
     ensures { IfOk result (λ masks. AreMasks masks.items MOST_CHOSEN) }
 {
-    let mut masks = Vec::new(alloc);
+    let mut masks = Vec::with_capacity(alloc, costs.count())?;
+    let mut choice = costs.choice(alloc)?;
     let mut next = 0;
-    for is_chosen in chosen {
-        next = number(&mut masks, next, *is_chosen)?;
+    for slot in 0..costs.count() {
+        next = number(&mut masks, next, choice.takes(costs.most_at(slot)))?;
     }
     Ok(masks)
 }

@@ -3,29 +3,29 @@ ghost use Rattle.std.specs.Prelude.{◌≡◌, ◌<◌, ◌≤◌, length, true,
 ghost use Rattle.cyc_plain.specs.inside.Program.{routine_of};
 ghost use Rattle.cyc_registers.specs.inside.Interference.{AreHomes, both_count, home_of, saved_count};
 ghost use Rattle.cyc_registers.specs.inside.LivenessTable.{IsSound};
-ghost use Rattle.cyc_registers.specs.inside.Masks.{AreMasks, range_mask};
+ghost use Rattle.cyc_registers.specs.inside.Masks.{AreMasks, AreUses, range_mask};
 ghost use Rattle.cyc_registers.specs.inside.Sharing as checks;
 
 use crate::home::{FIRST_PRESERVED, FIRST_REGISTER, Home, MOST_BOTH, MOST_SAVED, REGISTERS_END};
 use crate::liveness::{Lives, MOST_CHOSEN, behind_mask, is_within, may_have};
-use crate::masks::{mask_at, range_mask, write_mask};
+use crate::masks::{mask_at, range_mask};
+use crate::uses::Uses;
 use cyc_plain::{Function, Instruction, Plain};
 use std::alloc::{AllocError, Global};
 
+/// A place for each register.
+const REGISTERS: usize = REGISTERS_END as usize;
+
 /// Whether a set has one slot at most.
-fn is_single(slots: u32) -> bool
+fn is_single(slots: u64) -> bool
     ensures { result ≡ checks.is_single slots }
 {
     slots & slots.saturating_sub(1) == 0
 }
 
 /// The slots of each register, by its number. Nothing is promised of them: they are checked with the homes.
-pub(crate) fn holders_of(
-    alloc: Global,
-    masks: &[u32],
-    homes: &[Home],
-) -> Result<Vec<u32>, AllocError> {
-    let mut holders = vec![in alloc; 0; REGISTERS_END as usize]?;
+pub(crate) fn holders_of(masks: &[u64], homes: &[Home]) -> [u64; REGISTERS] {
+    let mut holders = [0; REGISTERS];
     for slot in 0..homes.len() {
         match homes[slot] {
             Home::Memory => {}
@@ -36,11 +36,11 @@ pub(crate) fn holders_of(
             }
         }
     }
-    Ok(holders)
+    holders
 }
 
 /// A set more, if more than one slot is in it.
-fn add_group(groups: &mut Vec<u32>, slots: u32) -> Result<(), AllocError>
+fn add_group(groups: &mut Vec<u64>, slots: u64) -> Result<(), AllocError>
     ensures { IfOk result (λ done. groups.new.items ≡ checks.with_group groups.old.items slots) }
 {
     if is_single(slots) {
@@ -52,7 +52,7 @@ fn add_group(groups: &mut Vec<u32>, slots: u32) -> Result<(), AllocError>
 
 /// The sets of more than one slot that have the same register.
 #[tactic(auto, using(crate::proofs::CheckedHomes::no_groups, crate::proofs::CheckedHomes::more_groups))]
-pub(crate) fn groups_of(alloc: Global, holders: &[u32]) -> Result<Vec<u32>, AllocError>
+pub(crate) fn groups_of(alloc: Global, holders: &[u64]) -> Result<Vec<u64>, AllocError>
     ensures { IfOk result (λ groups. checks.AreGroups holders.now (length holders.now) groups.items) }
 {
     let mut groups = Vec::new(alloc);
@@ -72,9 +72,9 @@ fn is_given(saved: usize, register: u8) -> bool
 /// Whether the home of a slot is right by itself, and its register has it among its slots.
 fn suits(
     function: &Function,
-    masks: &[u32],
+    masks: &[u64],
     lives: &Lives,
-    holders: &[u32],
+    holders: &[u64],
     saved: usize,
     slot: usize,
     home: Home,
@@ -102,9 +102,9 @@ fn suits(
 /// Whether all homes are right by themselves.
 fn all_suit(
     function: &Function,
-    masks: &[u32],
+    masks: &[u64],
     lives: &Lives,
-    holders: &[u32],
+    holders: &[u64],
     saved: usize,
     homes: &[Home],
 ) -> bool
@@ -161,19 +161,43 @@ fn saved_in_first(homes: &[Home], count: usize) -> usize
     saved
 }
 
-/// Whether of a set of slots that share a register one at most is in the first of these masks, and whether, where one is in the second,
-/// none beside it is in that or in the third.
-fn is_apart(standing: u32, written: u32, behind: u32, slots: u32) -> bool
-    ensures { result ≡ checks.is_apart standing written behind slots }
-{
-    is_single(standing & slots) && (written & slots == 0 || is_single((written | behind) & slots))
-}
-
-fn are_apart(groups: &[u32], standing: u32, written: u32, behind: u32) -> bool
-    ensures { result ≡ true → checks.AreApart groups.now standing written behind }
+/// Whether of each group one slot at most is in a set.
+fn are_single(groups: &[u64], set: u64) -> bool
+    ensures { result ≡ true → checks.AreSingle groups.now set }
 {
     for number in 0..groups.len() {
-        if !is_apart(standing, written, behind, groups[number]) {
+        if !is_single(set & groups[number]) {
+            return false;
+        }
+    }
+    true
+}
+
+/// Whether of each group one slot at most is in a set. It is so where the set is within one of which that is known.
+#[tactic(auto, using(crate::proofs::Meeting::alone_within, crate::proofs::Meeting::alone_single))]
+fn are_alone(groups: &[u64], known: u64, set: u64) -> bool
+    requires { checks.AreAlone groups.now known }
+    ensures { result ≡ true → checks.AreAlone groups.now set }
+{
+    is_within(set, known) || are_single(groups, set)
+}
+
+/// Whether of a set of slots that share a register none is in the first of these masks, or one at most in both of them.
+fn is_apart(written: u64, behind: u64, slots: u64) -> bool
+    ensures { result ≡ checks.is_apart written behind slots }
+{
+    written & slots == 0 || is_single((written | behind) & slots)
+}
+
+#[tactic(auto, using(crate::proofs::Meeting::apart_none))]
+fn are_apart(groups: &[u64], written: u64, behind: u64) -> bool
+    ensures { result ≡ true → checks.AreApart groups.now written behind }
+{
+    if written == 0 {
+        return true;
+    }
+    for number in 0..groups.len() {
+        if !is_apart(written, behind, groups[number]) {
             return false;
         }
     }
@@ -181,59 +205,45 @@ fn are_apart(groups: &[u32], standing: u32, written: u32, behind: u32) -> bool
 }
 
 /// What is live at an instruction, and where it moves several words what it writes too.
-fn standing_mask(
-    plain: &Plain,
-    masks: &[u32],
-    instruction: Instruction,
-    index: usize,
-    live: &[u32],
-) -> u32
+fn standing_mask(uses: Uses, instruction: Instruction, index: usize, live: &[u64]) -> u64
     requires { index < length live.now }
-    ensures { result ≡ checks.standing_mask plain.now masks.now instruction index live.now }
+    ensures { result ≡ checks.standing_mask uses instruction index live.now }
 {
     match instruction {
-        Instruction::MoveWords { .. } => {
-            mask_at(live, index) | write_mask(masks, plain, instruction)
-        }
+        Instruction::MoveWords { .. } => mask_at(live, index) | uses.writes,
         _ => mask_at(live, index),
     }
 }
 
-/// Whether no two slots of a group meet at an instruction.
-fn are_apart_at(
-    plain: &Plain,
-    masks: &[u32],
-    live: &[u32],
-    groups: &[u32],
-    instruction: Instruction,
-    index: usize,
-) -> bool
-    requires { index < length live.now }
-    ensures { result ≡ true → checks.AreApartAt plain.now masks.now live.now groups.now instruction index }
-{
-    let standing = standing_mask(plain, masks, instruction, index, live);
-    let written = write_mask(masks, plain, instruction);
-    let behind = behind_mask(instruction, index, live);
-    are_apart(groups, standing, written, behind)
-}
-
-/// Whether no two slots of a group meet anywhere.
-#[tactic(auto, using(crate::proofs::CheckedHomes::none_meet))]
+/// Whether no two slots of a group meet anywhere. Where the run goes on behind an instruction none meet that did not meet there,
+/// but what it writes and what is live behind it.
+#[tactic(auto, using(crate::proofs::CheckedHomes::none_meet, crate::proofs::Meeting::alone_none))]
 fn never_meet(
     plain: &Plain,
     function: &Function,
-    masks: &[u32],
-    lives: &Lives,
-    groups: &[u32],
+    masks: &[u64],
+    uses: &[Uses],
+    live: &[u64],
+    groups: &[u64],
 ) -> bool
-    requires { length lives.now.live.items ≡ length function.now.code.items }
-    ensures { result ≡ true → checks.NeverMeet plain.now (routine_of function.now) masks.now lives.now.live.items groups.now (length function.now.code.items) }
+    requires uses { AreUses plain.now (routine_of function.now) masks.now uses.now }
+    requires all { length uses.now ≡ length function.now.code.items }
+    requires table { length live.now ≡ length function.now.code.items }
+    ensures { result ≡ true → checks.NeverMeet plain.now (routine_of function.now) masks.now live.now groups.now (length function.now.code.items) }
 {
+    let mut known = 0;
     for index in 0..function.code.len() {
         let instruction = function.code[index];
-        if !are_apart_at(plain, masks, &lives.live, groups, instruction, index) {
+        let used = uses[index];
+        let standing = standing_mask(used, instruction, index, live);
+        let behind = behind_mask(instruction, index, live);
+        if !are_alone(groups, known, standing) {
             return false;
         }
+        if !are_apart(groups, used.writes, behind) {
+            return false;
+        }
+        known = standing & behind | used.writes;
     }
     true
 }
@@ -243,31 +253,37 @@ fn never_meet(
 fn may_share(
     plain: &Plain,
     function: &Function,
-    masks: &[u32],
-    lives: &Lives,
-    groups: &[u32],
+    masks: &[u64],
+    uses: &[Uses],
+    live: &[u64],
+    groups: &[u64],
 ) -> bool
-    requires { length lives.now.live.items ≡ length function.now.code.items }
-    ensures meet { result ≡ true → checks.NeverMeet plain.now (routine_of function.now) masks.now lives.now.live.items groups.now (length function.now.code.items) }
-    ensures parameters { result ≡ true → checks.AreApart groups.now (range_mask masks.now 0 function.now.parameters) 0 0 }
+    requires uses { AreUses plain.now (routine_of function.now) masks.now uses.now }
+    requires all { length uses.now ≡ length function.now.code.items }
+    requires table { length live.now ≡ length function.now.code.items }
+    ensures meet { result ≡ true → checks.NeverMeet plain.now (routine_of function.now) masks.now live.now groups.now (length function.now.code.items) }
+    ensures parameters { result ≡ true → checks.AreSingle groups.now (range_mask masks.now 0 function.now.parameters) }
 {
     groups.len() == 0
-        || (are_apart(groups, range_mask(masks, 0, function.parameters), 0, 0)
-            && never_meet(plain, function, masks, lives, groups))
+        || (are_single(groups, range_mask(masks, 0, function.parameters))
+            && never_meet(plain, function, masks, uses, live, groups))
 }
 
 /// Whether homes are right for a function that saves so many registers.
 pub(crate) fn are_right(
     plain: &Plain,
     function: &Function,
-    masks: &[u32],
+    masks: &[u64],
+    uses: &[Uses],
     lives: &Lives,
-    holders: &[u32],
-    groups: &[u32],
+    holders: &[u64],
+    groups: &[u64],
     saved: usize,
     homes: &[Home],
 ) -> bool
     requires numbered { AreMasks masks.now MOST_CHOSEN }
+    requires uses { AreUses plain.now (routine_of function.now) masks.now uses.now }
+    requires all { length uses.now ≡ length function.now.code.items }
     requires sound { IsSound plain.now (routine_of function.now) masks.now lives.now.live.items lives.now.calls lives.now.clauses lives.now.barred }
     requires table { length lives.now.live.items ≡ length function.now.code.items }
     requires groups { checks.AreGroups holders.now (length holders.now) groups.now }
@@ -287,5 +303,5 @@ pub(crate) fn are_right(
     if saved_in_first(homes, function.parameters) > saved {
         return false;
     }
-    may_share(plain, function, masks, lives, groups)
+    may_share(plain, function, masks, uses, &lives.live, groups)
 }

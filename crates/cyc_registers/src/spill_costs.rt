@@ -4,8 +4,10 @@ use crate::liveness::MOST_CHOSEN;
 use cyc_plain::{Function, Instruction, Operand, Request};
 use std::alloc::{AllocError, Global};
 
-/// How often the least gain is doubled at most, until no more slots have it than are looked at.
-const MOST_DOUBLINGS: u32 = 64;
+/// How many bits a gain has, and the highest of them.
+const GAIN_BITS: usize = 64;
+
+const HIGHEST_GAIN_BIT: u64 = 1 << 63;
 
 /// How often the code reads and writes a slot, by a guess of how often each place is executed.
 #[derive(Clone, Copy)]
@@ -69,46 +71,6 @@ fn weight_in(depth: u64) -> u64 {
     }
 }
 
-fn request_operands(request: Request) -> (Option<Operand>, Option<Operand>) {
-    match request {
-        Request::CloseTo { mark } => (Some(mark), None),
-        Request::CloseDynamic { handle } => (Some(handle), None),
-        Request::Allocate { handle, words, .. } => (Some(handle), Some(words)),
-        Request::Free { address } => (Some(address), None),
-        _ => (None, None),
-    }
-}
-
-/// The operands of an instruction, which it may have from registers.
-fn operands_of(instruction: Instruction) -> (Option<Operand>, Option<Operand>) {
-    match instruction {
-        Instruction::Move { source, .. } => (Some(source), None),
-        Instruction::Unary { operand, .. } => (Some(operand), None),
-        Instruction::Binary { left, right, .. } => (Some(left), Some(right)),
-        Instruction::Branch { left, right, .. } => (Some(left), Some(right)),
-        Instruction::WriteByte { source } => (Some(source), None),
-        Instruction::StoreGlobal { source, .. } => (Some(source), None),
-        Instruction::Load { address, .. } => (Some(address), None),
-        Instruction::Store {
-            address,
-            source,
-            ..
-        } => (Some(address), Some(source)),
-        Instruction::LoadByte { address, .. } => (Some(address), None),
-        Instruction::StoreByte {
-            address,
-            source,
-            ..
-        } => (Some(address), Some(source)),
-        Instruction::Ask { request } => request_operands(request),
-        Instruction::Throw { tag, value } => (Some(tag), Some(value)),
-        Instruction::Return { value } => (Some(Operand::Slot { number: value }), None),
-        Instruction::Finish { value } => (Some(Operand::Slot { number: value }), None),
-        Instruction::Uncaught { value, .. } => (Some(value), None),
-        _ => (None, None),
-    }
-}
-
 fn destination_of(instruction: Instruction) -> Option<usize> {
     match instruction {
         Instruction::Move { destination, .. } => Some(destination),
@@ -130,15 +92,23 @@ fn mark(places: &mut Vec<Place>, index: usize) {
     }
 }
 
+/// Marks the places to which an instruction leads.
 fn mark_behind(places: &mut Vec<Place>, instruction: Instruction, index: usize) {
-    if goes_on(instruction) {
-        mark(places, index.saturating_add(1));
-    }
-    if let Some(target) = target_of(instruction) {
-        mark(places, target);
-    }
-    if let Instruction::Try { handler, .. } = instruction {
-        mark(places, handler);
+    match instruction {
+        Instruction::Jump { target } => mark(places, target),
+        Instruction::Branch { target, .. } => {
+            mark(places, index.saturating_add(1));
+            mark(places, target);
+        }
+        Instruction::Try { handler, .. } => {
+            mark(places, index.saturating_add(1));
+            mark(places, handler);
+        }
+        _ => {
+            if goes_on(instruction) {
+                mark(places, index.saturating_add(1));
+            }
+        }
     }
 }
 
@@ -155,9 +125,57 @@ impl SpillCosts {
         }
     }
 
-    fn read_operand(&mut self, operand: Option<Operand>, weight: u64) {
-        if let Some(Operand::Slot { number }) = operand {
+    fn read_operand(&mut self, operand: Operand, weight: u64) {
+        if let Operand::Slot { number } = operand {
             self.read(number, weight);
+        }
+    }
+
+    fn read_operands(&mut self, first: Operand, second: Operand, weight: u64) {
+        self.read_operand(first, weight);
+        self.read_operand(second, weight);
+    }
+
+    fn read_request(&mut self, request: Request, weight: u64) {
+        match request {
+            Request::CloseTo { mark } => self.read_operand(mark, weight),
+            Request::CloseDynamic { handle } => self.read_operand(handle, weight),
+            Request::Allocate { handle, words, .. } => self.read_operands(handle, words, weight),
+            Request::Free { address } => self.read_operand(address, weight),
+            _ => {}
+        }
+    }
+
+    /// What an instruction reads that it may have from registers.
+    fn read_all(&mut self, instruction: Instruction, weight: u64) {
+        match instruction {
+            Instruction::Move { source, .. }
+            | Instruction::WriteByte { source }
+            | Instruction::StoreGlobal { source, .. } => self.read_operand(source, weight),
+            Instruction::Unary { operand, .. } => self.read_operand(operand, weight),
+            Instruction::Binary { left, right, .. } | Instruction::Branch { left, right, .. } => {
+                self.read_operands(left, right, weight)
+            }
+            Instruction::Load { address, .. } | Instruction::LoadByte { address, .. } => {
+                self.read_operand(address, weight)
+            }
+            Instruction::Store {
+                address,
+                source,
+                ..
+            }
+            | Instruction::StoreByte {
+                address,
+                source,
+                ..
+            } => self.read_operands(address, source, weight),
+            Instruction::Ask { request } => self.read_request(request, weight),
+            Instruction::Throw { tag, value } => self.read_operands(tag, value, weight),
+            Instruction::Return { value } | Instruction::Finish { value } => {
+                self.read(value, weight)
+            }
+            Instruction::Uncaught { value, .. } => self.read_operand(value, weight),
+            _ => {}
         }
     }
 
@@ -187,9 +205,7 @@ impl SpillCosts {
 
     /// An instruction that is executed so often.
     fn add(&mut self, instruction: Instruction, weight: u64) {
-        let (first, second) = operands_of(instruction);
-        self.read_operand(first, weight);
-        self.read_operand(second, weight);
+        self.read_all(instruction, weight);
         if let Some(slot) = destination_of(instruction) {
             self.write(slot, weight);
         }
@@ -283,44 +299,63 @@ impl SpillCosts {
         }
     }
 
-    fn count_from(&self, least: u64) -> u32 {
-        let mut count: u32 = 0;
-        for slot in 0..self.slots.len() {
-            if self.most_at(slot) >= least {
-                count = count.saturating_add(1);
-            }
-        }
-        count
+    /// How many slots there are.
+    pub(crate) fn count(&self) -> usize {
+        self.slots.len()
     }
 
-    /// The least gain that no more slots have than are looked at.
-    fn least(&self) -> u64 {
-        let mut least: u64 = 1;
-        for _ in 0..MOST_DOUBLINGS {
-            if self.count_from(least) <= MOST_CHOSEN {
+    /// How many slots there are for each number of zero bits in front of what they gain.
+    fn counts(&self, alloc: Global) -> Result<Vec<u32>, AllocError> {
+        let mut counts: Vec<u32> = vec![in alloc; 0; GAIN_BITS]?;
+        for slot in 0..self.slots.len() {
+            if let Some(count) = counts.get_mut(self.most_at(slot).leading_zeros() as usize) {
+                *count = count.saturating_add(1);
+            }
+        }
+        Ok(counts)
+    }
+
+    /// Which slots are looked at: those that gain most.
+    pub(crate) fn choice(&self, alloc: Global) -> Result<Choice, AllocError> {
+        let mut choice = Choice {
+            least: 1,
+            left: MOST_CHOSEN,
+        };
+        if self.slots.len() <= MOST_CHOSEN as usize {
+            return Ok(choice);
+        }
+        let counts = self.counts(alloc)?;
+        let mut least: u64 = HIGHEST_GAIN_BIT;
+        for zeros in 0..counts.len() {
+            if counts[zeros] > choice.left {
+                choice.least = least.saturating_mul(2);
                 break;
             }
-            least = least.saturating_mul(2);
+            choice.left = choice.left - counts[zeros];
+            least = least / 2;
         }
-        least
+        Ok(choice)
     }
+}
 
-    /// The slots that are looked at: those that gain most.
-    pub(crate) fn chosen(&self, alloc: Global) -> Result<Vec<bool>, AllocError> {
-        let least = self.least();
-        let mut chosen = vec![in alloc; false; self.slots.len()]?;
-        let mut left = MOST_CHOSEN.saturating_sub(self.count_from(least));
-        for slot in 0..self.slots.len() {
-            let most = self.most_at(slot);
-            let is_next = least > 1 && left > 0 && most >= least / 2 && most < least;
-            if is_next {
-                left = left.saturating_sub(1);
-            }
-            if let Some(is_chosen) = chosen.get_mut(slot) {
-                *is_chosen = is_next || most >= least;
-            }
+/// Which slots are looked at: those with the least gain or more, and of those with half of it as many as are left.
+#[derive(Clone, Copy)]
+pub(crate) struct Choice {
+    least: u64,
+    left: u32,
+}
+
+impl Choice {
+    /// Whether a slot that gains so much is looked at.
+    pub(crate) fn takes(&mut self, gain: u64) -> bool {
+        if gain >= self.least {
+            return true;
         }
-        Ok(chosen)
+        if self.least == 1 || self.left == 0 || gain < self.least / 2 {
+            return false;
+        }
+        self.left = self.left.saturating_sub(1);
+        true
     }
 }
 

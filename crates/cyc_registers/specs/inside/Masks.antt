@@ -1,6 +1,6 @@
 -- Sets of chosen slots as numbers: bit j stands for the slot that was chosen as number j. `masks` has for each slot the bit of
 -- its number, or 0, so that one pass over the code asks for all of them at once.
-use Rattle.std.specs.Prelude.{◌≡◌, ℕ, zero, suc, ◌+◌, ◌<◌, if◌then◌else◌, List, bit_or, slice_index_or}
+use Rattle.std.specs.Prelude.{◌≡◌, ℕ, zero, suc, ◌+◌, ◌<◌, if◌then◌else◌, List, Some, bit_or, slice_get, slice_index_or}
 use Rattle.std.specs.Int.{bit_at}
 use Rattle.cyc_plain.specs.declared.instruction.Instruction.{Instruction}
 use Rattle.cyc_plain.specs.declared.instruction.Instruction.TheVariants as instructions
@@ -9,7 +9,9 @@ use Rattle.cyc_plain.specs.declared.instruction.Operand.TheVariants as operands
 use Rattle.cyc_plain.specs.declared.instruction.Request.{Request}
 use Rattle.cyc_plain.specs.declared.instruction.Request.TheVariants as requests
 use Rattle.cyc_plain.specs.declared.limits.TheConstants.{RECORD_WORDS}
-use Rattle.cyc_plain.specs.inside.Program.{Program, routine_at}
+use Rattle.cyc_plain.specs.inside.Program.{Program, Routine, routine_at}
+use Rattle.cyc_plain.specs.inside.Uses.{At}
+use Rattle.cyc_registers.specs.declared.uses.Uses.{Uses}
 use Rattle.cyc_registers.specs.inside.Bars.{is_crossing}
 
 -- the mask of a slot, or of a place in the code; where there is none, 0
@@ -102,3 +104,13 @@ bar_mask masks (instructions.AddressOf destination taken count) = range_mask mas
 bar_mask masks (instructions.Try first handler) = range_mask masks first RECORD_WORDS
 bar_mask masks (instructions.Leave first) = range_mask masks first RECORD_WORDS
 bar_mask masks instruction = 0
+
+-- what it does
+abbrev pub uses_of : Program → (results : ℕ) → (masks : List ℕ) → Instruction → Uses
+uses_of program results masks i =
+    record { reads = read_mask masks results i; writes = write_mask masks program i; bars = bar_mask masks i }
+
+-- a table of what each instruction of a function does
+abbrev pub AreUses : Program → Routine → (masks : List ℕ) → List Uses → Type 0
+AreUses program r masks table =
+    (index : ℕ) (i : Instruction) → At r index i → slice_get table index ≡ Some (uses_of program r.results masks i)

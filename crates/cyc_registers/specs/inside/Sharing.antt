@@ -1,6 +1,7 @@
 -- The homes of slots as they are checked, so that all of them together are right. `holders` has for each register the slots that
 -- have it, and `groups` those of these sets that have more than one, which never meet.
 use Rattle.std.specs.Prelude.{◌≡◌, ℕ, suc, ◌+◌, ◌-◌, ◌<◌, ◌⊎◌, Bool, true, false, ◌==◌, ◌&&◌, ◌||◌, nat_le, nat_lt, if◌then◌else◌, List, [], ◌∷◌, ◌++◌, length, Some, None, slice_get, bit_and, bit_or}
+use Rattle.std.specs.Int.{bit_at}
 use Rattle.cyc_plain.specs.declared.instruction.Instruction.{Instruction}
 use Rattle.cyc_plain.specs.declared.instruction.Instruction.TheVariants as instructions
 use Rattle.cyc_plain.specs.inside.Program.{Routine, Program}
@@ -12,7 +13,8 @@ use Rattle.cyc_registers.specs.inside.Interference.{HasRegister, register_of, is
 use Rattle.cyc_registers.specs.inside.Bars.{bars}
 use Rattle.cyc_registers.specs.inside.Liveness.{IsLiveAt}
 use Rattle.cyc_registers.specs.inside.LivenessTable.{behind_mask, is_within, may_have}
-use Rattle.cyc_registers.specs.inside.Masks.{mask_at, write_mask}
+use Rattle.cyc_registers.specs.declared.uses.Uses.{Uses}
+use Rattle.cyc_registers.specs.inside.Masks.{mask_at, uses_of}
 
 -- the set has one slot at most
 abbrev pub is_single : (slots : ℕ) → Bool
@@ -50,29 +52,36 @@ AreGroups holders count groups =
     → (is_single (mask_at holders register) ≡ true) ⊎ ((number : ℕ) × (slice_get groups number ≡ Some (mask_at holders register)))
 
 -- what is live at an instruction, and where it moves several words what it writes too: none of these is where another was
-abbrev pub standing_mask : Program → (masks : List ℕ) → Instruction → (index : ℕ) → List ℕ → ℕ
-standing_mask program masks (instructions.MoveWords destination source count) index live =
-    bit_or (mask_at live index) (write_mask masks program (instructions.MoveWords destination source count))
-standing_mask program masks i index live = mask_at live index
+abbrev pub standing_mask : Uses → Instruction → (index : ℕ) → List ℕ → ℕ
+standing_mask uses (instructions.MoveWords destination source count) index live = bit_or (mask_at live index) uses.writes
+standing_mask uses i index live = mask_at live index
 
--- Of the slots of a group one at most is in the first set; where one is in the second, none beside it is in that or in the third.
-abbrev pub is_apart : (standing written behind slots : ℕ) → Bool
-is_apart standing written behind slots =
-    is_single (bit_and standing slots) && (bit_and written slots == 0 || is_single (bit_and (bit_or written behind) slots))
+-- of each group one slot at most is in the set
+abbrev pub AreSingle : (groups : List ℕ) → (set : ℕ) → Type 0
+AreSingle groups set = (number slots : ℕ) → slice_get groups number ≡ Some slots → is_single (bit_and set slots) ≡ true
 
-abbrev pub AreApart : (groups : List ℕ) → (standing written behind : ℕ) → Type 0
-AreApart groups standing written behind =
-    (number slots : ℕ) → slice_get groups number ≡ Some slots → is_apart standing written behind slots ≡ true
+-- the same, bit by bit
+abbrev pub AreAlone : (groups : List ℕ) → (set : ℕ) → Type 0
+AreAlone groups set =
+    (number slots j l : ℕ) → slice_get groups number ≡ Some slots → bit_at (bit_and set slots) j ≡ 1 → bit_at (bit_and set slots) l ≡ 1 → j ≡ l
 
--- no two slots of a group meet at an instruction
-abbrev pub AreApartAt : Program → (masks live groups : List ℕ) → Instruction → (index : ℕ) → Type 0
-AreApartAt program masks live groups i index =
-    AreApart groups (standing_mask program masks i index live) (write_mask masks program i) (behind_mask i index live)
+-- where a slot of a group is in the first set, none beside it is in that or in the second
+abbrev pub is_apart : (written behind slots : ℕ) → Bool
+is_apart written behind slots = bit_and written slots == 0 || is_single (bit_and (bit_or written behind) slots)
+
+abbrev pub AreApart : (groups : List ℕ) → (written behind : ℕ) → Type 0
+AreApart groups written behind =
+    (number slots : ℕ) → slice_get groups number ≡ Some slots → is_apart written behind slots ≡ true
+
+-- no two slots of a group meet at an instruction: none that stand there, and none that is written and one that is live behind it
+abbrev pub AreApartAt : Uses → (live groups : List ℕ) → Instruction → (index : ℕ) → Type 0
+AreApartAt uses live groups i index =
+    AreAlone groups (standing_mask uses i index live) × AreApart groups uses.writes (behind_mask i index live)
 
 -- nor at any of the first ones, so many of them
 abbrev pub NeverMeet : Program → Routine → (masks live groups : List ℕ) → (count : ℕ) → Type 0
 NeverMeet program r masks live groups count =
-    (index : ℕ) (i : Instruction) → At r index i → index < count → AreApartAt program masks live groups i index
+    (index : ℕ) (i : Instruction) → At r index i → index < count → AreApartAt (uses_of program r.results masks i) live groups i index
 
 -- a home that suits a slot, whatever others have its register
 pub record Suits (program : Program) (r : Routine) (slot : ℕ) (home : Home) : Type 0 where

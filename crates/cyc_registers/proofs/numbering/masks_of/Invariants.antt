@@ -4,5 +4,5 @@ use Rattle.cyc_registers.specs.inside.Masks.{AreMasks}
 use Rattle.cyc_registers.proofs.numbering.masks_of.Given as goal
 
 -- the masks so far, and the next number
-abbrev pub invariant-loop-is_chosen : goal.invariant-loop-is_chosen
-invariant-loop-is_chosen l = AreMasks l.masks.items l.next × (l.next ≤ MOST_CHOSEN)
+abbrev pub invariant-loop-slot : goal.invariant-loop-slot
+invariant-loop-slot l = AreMasks l.masks.items l.next × (l.next ≤ MOST_CHOSEN)

@@ -6,4 +6,4 @@ use Rattle.cyc_registers.proofs.sharing.are_apart.Given as goal
 -- the groups so far
 abbrev pub invariant-loop-number : goal.invariant-loop-number
 invariant-loop-number l =
-    (k slots : ℕ) → slice_get l.groups k ≡ Some slots → k < l.number → is_apart l.standing l.written l.behind slots ≡ true
+    (k slots : ℕ) → slice_get l.groups k ≡ Some slots → k < l.number → is_apart l.written l.behind slots ≡ true

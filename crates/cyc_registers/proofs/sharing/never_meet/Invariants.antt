@@ -1,7 +1,8 @@
 use Rattle.cyc_plain.specs.inside.Program.{routine_of}
-use Rattle.cyc_registers.specs.inside.Sharing.{NeverMeet}
+use Rattle.cyc_registers.specs.inside.Sharing.{AreAlone, NeverMeet}
 use Rattle.cyc_registers.proofs.sharing.never_meet.Given as goal
 
--- nowhere at the instructions so far
+-- nowhere at the instructions so far, nor in the set that is known
 abbrev pub invariant-loop-index : goal.invariant-loop-index
-invariant-loop-index l = NeverMeet l.plain (routine_of l.function) l.masks l.lives.live.items l.groups l.index
+invariant-loop-index l =
+    NeverMeet l.plain (routine_of l.function) l.masks l.live l.groups l.index × AreAlone l.groups l.known

@@ -1,0 +1,47 @@
+//! What each instruction of a function does with the chosen slots. It is asked once of each, and then looked up by its place.
+ghost use Rattle.std.specs.Prelude.{◌≡◌, length, IfOk};
+ghost use Rattle.cyc_plain.specs.inside.Program.{routine_of};
+ghost use Rattle.cyc_registers.specs.inside.Masks as masks_of;
+
+use crate::masks::{bar_mask, read_mask, write_mask};
+use cyc_plain::{Function, Instruction, Plain};
+use std::alloc::{AllocError, Global};
+
+/// What an instruction does with the chosen slots, as masks.
+#[derive(Clone, Copy)]
+pub(crate) struct Uses {
+    /// What it reads.
+    pub(crate) reads: u64,
+    /// What it writes of the slots that it does not bar.
+    pub(crate) writes: u64,
+    /// What it bars from registers.
+    pub(crate) bars: u64,
+}
+
+/// What an instruction does, in a function that returns so many words.
+fn uses_of(plain: &Plain, results: usize, masks: &[u64], instruction: Instruction) -> Uses
+    ensures { result ≡ masks_of.uses_of plain.now results masks.now instruction }
+{
+    Uses {
+        reads: read_mask(masks, results, instruction),
+        writes: write_mask(masks, plain, instruction),
+        bars: bar_mask(masks, instruction),
+    }
+}
+
+/// What each instruction of a function does.
+pub(crate) fn all_uses(
+    alloc: Global,
+    plain: &Plain,
+    function: &Function,
+    masks: &[u64],
+) -> Result<Vec<Uses>, AllocError>
+    ensures table { IfOk result (λ uses. length uses.items ≡ length function.now.code.items) }
+    ensures uses { IfOk result (λ uses. masks_of.AreUses plain.now (routine_of function.now) masks.now uses.items) }
+{
+    let mut uses = Vec::with_capacity(alloc, function.code.len())?;
+    for index in 0..function.code.len() {
+        uses.push(uses_of(plain, function.results, masks, function.code[index]))?;
+    }
+    Ok(uses)
+}
