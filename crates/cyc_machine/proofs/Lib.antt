@@ -8,6 +8,8 @@ pub mod MemoryLaws
 pub mod Bytes
 -- the fast loop
 pub mod Operations
+pub mod Jumps
+pub mod FastLoop
 pub mod Serving
 -- words that are kept, and those that are left out
 pub mod Widening

@@ -15,7 +15,8 @@ use Rattle.cyc_store.proofs.TieLemmas.{chain-also}
 use Rattle.cyc_store.proofs.TieClosing.{one-all, all-from}
 use Rattle.cyc_pagestore.proofs.Rows.{not-away, one-or-not, moved-out, moved-in, moved-apart}
 use Rattle.cyc_pagestore.proofs.Reaching.{reach-stale, reach-empty, reach-same}
-use Rattle.cyc_pagestore.proofs.Backing.{with_at, at-same, at-other, rest-no_root, root-in, region-stays, as-row, root-member}
+use Rattle.cyc_pagestore.proofs.Backing.{with_at, at-same, at-other, rest-no_root, root-in, region-stays, as-row}
+use Rattle.cyc_pagestore.proofs.Growing.{root-member}
 
 -- ---- a chain of rows is given back
 

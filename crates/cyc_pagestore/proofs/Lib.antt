@@ -2,6 +2,8 @@ pub mod Rows
 pub mod Reaching
 pub mod Marking
 pub mod Backing
+pub mod Fresh
+pub mod Growing
 pub mod Closing
 pub mod Pooled
 pub mod Calls

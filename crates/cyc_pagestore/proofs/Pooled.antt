@@ -18,7 +18,9 @@ use Rattle.cyc_pagestore.specs.inside.Links.{Links, removed, first_of, next_of, 
 use Rattle.cyc_pagestore.specs.inside.Live.{filled_by, reach, AreNewer, AreOne, Readies}
 use Rattle.cyc_pagestore.specs.inside.Table.{IsRoot, no_spot, spot_at, Backing, backing_of, Backs, IsBacked}
 use Rattle.cyc_pagestore.proofs.Rows.{relinked-length}
-use Rattle.cyc_pagestore.proofs.Backing.{with_at, at-same, at-other, root-away, taken-backs, readied-backs, cut-backs, begun-backs, added-backs, filled-backs, newest-member}
+use Rattle.cyc_pagestore.proofs.Backing.{with_at, at-same, at-other, taken-backs, readied-backs}
+use Rattle.cyc_pagestore.proofs.Fresh.{root-away, cut-backs, begun-backs}
+use Rattle.cyc_pagestore.proofs.Growing.{added-backs, filled-backs, newest-member}
 use Rattle.cyc_pagestore.proofs.Closing.{gives, closed-backs}
 
 -- rows where one is another
