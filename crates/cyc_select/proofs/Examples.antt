@@ -10,7 +10,8 @@ use Rattle.cyc_plain.specs.declared.instruction.BinaryOperator.TheVariants.{Add,
 use Rattle.cyc_plain.specs.inside.Program.{Program}
 use Rattle.cyc_frame.specs.inside.Frame.{Frame}
 use Rattle.cyc_isa.specs.declared.instr.MemoryOp.TheVariants.{LoadWord, LoadByte, StoreByte}
-use Rattle.cyc_select.specs.inside.Selection.{body_count, load_at, store_at}
+use Rattle.cyc_select.specs.inside.Counts.{body_count}
+use Rattle.cyc_select.specs.inside.Selection.{load_at, store_at}
 
 abbrev nothing : Program
 nothing = record { functions = []; globals = []; main = 0 }

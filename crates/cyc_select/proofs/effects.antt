@@ -1,4 +1,5 @@
 -- what an ordinary instruction does to registers and memory, and stretches of a run
 pub mod Views
 pub mod Effects
+pub mod Sequences
 pub mod Walks

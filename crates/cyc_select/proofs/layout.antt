@@ -1,5 +1,6 @@
 -- the code is formed, has its places, and stands where the counts say
 pub mod Whole
+pub mod Inside
 pub mod Formed
 pub mod Parts
 pub mod Structure

@@ -1,5 +1,6 @@
 -- when a state of the machine stands for one of the plain program
 pub mod Matches
+pub mod Waiting
 pub mod Standing
 pub mod Values
 pub mod Arriving

@@ -2,6 +2,10 @@
 pub mod Answers
 pub mod Hoisting
 pub mod Simple
+pub mod Divisions
+pub mod Branches
+pub mod Services
+pub mod Globals
 pub mod Moves
 pub mod Accesses
 pub mod Requests
@@ -12,6 +16,7 @@ pub mod Entries
 pub mod Passing
 pub mod Copies
 pub mod Returns
+pub mod Behind
 pub mod Leaving
 pub mod Records
 pub mod Handlers

@@ -5,5 +5,11 @@ pub mod Selected
 -- what the functions inside the crate promise each other
 pub mod Numbers
 pub mod Plans
+pub mod Instructions
+pub mod Slots
+pub mod Operands
+pub mod Passing
+pub mod Hoisting
+pub mod Counts
 pub mod Selection
 pub mod Emission

@@ -1,7 +1,9 @@
 //! The lines that call the store.
 ghost use Rattle.std.specs.Prelude.{◌≡◌, ◌+◌, ◌≤◌, [], ◌∷◌, OnOk};
 ghost use Rattle.cyc_plain.specs.inside.Requests.{first_operand, second_operand, answer_count, destination_of};
-ghost use Rattle.cyc_select.specs.inside.Selection.{ordinary, give_code, argument_code, service_number, regions_code, answer_code, ask_code, ask_count};
+ghost use Rattle.cyc_select.specs.inside.Slots.{give_code};
+ghost use Rattle.cyc_select.specs.inside.Counts.{ask_count};
+ghost use Rattle.cyc_select.specs.inside.Selection.{ordinary, argument_code, service_number, regions_code, answer_code, ask_code};
 ghost use Rattle.cyc_select.specs.inside.Emission.{AddsLines, IsReached, IsArgumentFound, AreReached, IsRequestFound};
 
 use crate::calling::RESULTS;

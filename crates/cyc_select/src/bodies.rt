@@ -2,7 +2,8 @@
 ghost use Rattle.std.specs.Prelude.{◌≡◌, ◌+◌, ◌<◌, ◌≤◌, ◌++◌, OnOk, length};
 ghost use Rattle.cyc_plain.specs.inside.Program.{routine_at};
 ghost use Rattle.cyc_plain.specs.inside.WellFormed.{IsInRange};
-ghost use Rattle.cyc_select.specs.inside.Selection.{body, behind, place_lines, instruction_line};
+ghost use Rattle.cyc_select.specs.inside.Counts.{instruction_line};
+ghost use Rattle.cyc_select.specs.inside.Selection.{body, behind, place_lines};
 ghost use Rattle.cyc_select.specs.inside.Emission.{AddsLines, IsKnown, most_lines};
 
 use crate::code::Line;

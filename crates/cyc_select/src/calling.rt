@@ -1,6 +1,9 @@
 //! The lines of calls and returns, and of moves of several words.
 ghost use Rattle.std.specs.Prelude.{◌≡◌, ◌+◌, ◌*◌, ◌<◌, ◌≤◌, [], ◌∷◌, ◌++◌, true, length, OnOk};
-ghost use Rattle.cyc_select.specs.inside.Selection.{coming, load, store, pass, spill, spills, copies, ordinary, load_all, load_words, store_all, moves, all_moved, move_words, calling_code, room_code, returned_code, saves, restores, way_code, saving_code, restoring_code, ending_code, returning_code};
+ghost use Rattle.cyc_select.specs.inside.Instructions.{load, store};
+ghost use Rattle.cyc_select.specs.inside.Slots.{coming, load_all, load_words, store_all, saves, restores, way_code, saving_code, restoring_code};
+ghost use Rattle.cyc_select.specs.inside.Passing.{pass, spill, spills, copies};
+ghost use Rattle.cyc_select.specs.inside.Selection.{ordinary, moves, all_moved, move_words, calling_code, room_code, returned_code, ending_code, returning_code};
 ghost use Rattle.cyc_select.specs.inside.Emission.{AddsLines, IsReached, AreReached, most_lines};
 
 use crate::code::Line;

@@ -4,8 +4,11 @@ ghost use Rattle.cyc_plain.specs.inside.Program.{routine_of, routine_at, instruc
 ghost use Rattle.cyc_plain.specs.inside.WellFormed.{IsPlain, IsInRange};
 ghost use Rattle.cyc_frame.specs.inside.Layout.{AreFrames, frame_at};
 ghost use Rattle.cyc_registers.specs.declared.home.TheConstants.{MOST_BOTH, MOST_SAVED};
-ghost use Rattle.cyc_select.specs.inside.Selection.{coming, arrival_count, way_count, saving_count, reload_count, spill_count, spills_count, pass_count, copies_count, moves_count};
-ghost use Rattle.cyc_select.specs.inside.Selection.{move_words_count, operator_count, ending_count, body_count, behind_count, is_idle, count_of, code_count, function_count};
+ghost use Rattle.cyc_select.specs.inside.Slots.{coming, arrival_count, way_count, saving_count};
+ghost use Rattle.cyc_select.specs.inside.Operands.{reload_count, moves_count, operator_count};
+ghost use Rattle.cyc_select.specs.inside.Passing.{spill_count, spills_count, pass_count, copies_count};
+ghost use Rattle.cyc_select.specs.inside.Hoisting.{is_idle};
+ghost use Rattle.cyc_select.specs.inside.Counts.{move_words_count, ending_count, body_count, behind_count, count_of, code_count, function_count};
 ghost use Rattle.cyc_select.specs.inside.Emission.{AreFew, most_lines, instruction_lines, function_starts};
 
 use crate::asking::ask_count;

@@ -1,6 +1,8 @@
 //! Words of globals. The first globals are reached from a register, and each other one from a half that comes before it.
 ghost use Rattle.std.specs.Prelude.{◌≡◌, ◌<◌};
-ghost use Rattle.cyc_select.specs.inside.Selection.{is_near, upper_of_global, reach_code, reach_count, at_global, ordinary, load_global, store_global};
+ghost use Rattle.cyc_select.specs.inside.Slots.{is_near, upper_of_global, reach_code, at_global};
+ghost use Rattle.cyc_select.specs.inside.Operands.{reach_count};
+ghost use Rattle.cyc_select.specs.inside.Selection.{ordinary, load_global, store_global};
 ghost use Rattle.cyc_select.specs.inside.Emission.{AddsLines, IsReached, IsFound};
 
 use crate::constants::{FIRST, GLOBALS, NEAR_GLOBALS, SECOND};

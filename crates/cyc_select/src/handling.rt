@@ -2,7 +2,9 @@
 ghost use Rattle.std.specs.Prelude.{◌≡◌, suc, ◌+◌, ◌*◌, ◌<◌, ◌≤◌, [], ◌∷◌, length, OnOk};
 ghost use Rattle.cyc_plain.specs.declared.limits.TheConstants.{RECORD_WORDS};
 ghost use Rattle.cyc_registers.specs.declared.home.TheConstants.{MOST_BOTH};
-ghost use Rattle.cyc_select.specs.inside.Selection.{ordinary, load, store_slot, slot_offset, reload_count, load_record, recorded_code, caught_code, opened_code, try_code, unwound_code, throw_code};
+ghost use Rattle.cyc_select.specs.inside.Instructions.{load, store_slot, slot_offset};
+ghost use Rattle.cyc_select.specs.inside.Operands.{reload_count};
+ghost use Rattle.cyc_select.specs.inside.Selection.{ordinary, load_record, recorded_code, caught_code, opened_code, try_code, unwound_code, throw_code};
 ghost use Rattle.cyc_select.specs.inside.Emission.{AddsLines, IsFound, AreReached, most_lines};
 
 use crate::code::Line;

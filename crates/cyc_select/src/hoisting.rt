@@ -1,7 +1,9 @@
 //! The first line of a branch's target, in front of the branch.
 ghost use Rattle.std.specs.Prelude.{◌≡◌, ◌+◌, ◌≤◌, slice_get};
-ghost use Rattle.cyc_select.specs.inside.Selection.{value_register, word_first, slot_first, operand_first, operands_first, operation_first, plan_first, divided_first, test_first, copy_first, load_first, move_first};
-ghost use Rattle.cyc_select.specs.inside.Selection.{first_line, given_register, own_register, target_of, tests_register, is_spare, is_own, may_write, copied_if, hoisted_at, hoisted, hoisted_count, test_count};
+ghost use Rattle.cyc_select.specs.inside.Slots.{value_register, is_own};
+ghost use Rattle.cyc_select.specs.inside.Operands.{test_count};
+ghost use Rattle.cyc_select.specs.inside.Hoisting.{word_first, slot_first, operand_first, operands_first, operation_first, plan_first, divided_first, test_first, copy_first, load_first, move_first, first_line, given_register, own_register, target_of, tests_register, is_spare, may_write, copied_if};
+ghost use Rattle.cyc_select.specs.inside.Hoisting.{hoisted_at, hoisted, hoisted_count};
 
 use crate::code::Condition;
 use crate::constants::{FIRST, SECOND, THIRD, THIRD_RESULT, ZERO};

@@ -1,7 +1,9 @@
 //! Single instructions of the machine, by what they are used for.
 ghost use Rattle.std.specs.Prelude.{◌≡◌, ◌+◌, ◌*◌, ◌<◌, ◌≤◌};
 ghost use Rattle.cyc_isa.specs.Decoding.{register_of, shift_amount_of, trap_code_of};
-ghost use Rattle.cyc_select.specs.inside.Selection.{load, store, copy, slot_offset, load_slot, store_slot, add_immediate, small, or_immediate, minus, is_zero, syscall, load_upper, or_lower, push_frame, pop_frame};
+ghost use Rattle.cyc_select.specs.inside.Instructions.{load, store, copy, slot_offset, store_slot, add_immediate, small, minus, is_zero, syscall, load_upper, or_lower};
+ghost use Rattle.cyc_select.specs.inside.Slots.{load_slot, push_frame, pop_frame};
+ghost use Rattle.cyc_select.specs.inside.Operands.{or_immediate};
 ghost use Rattle.cyc_select.specs.inside.Emission.{IsReached};
 
 use crate::constants::{FRAME, ZERO};

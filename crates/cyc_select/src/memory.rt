@@ -1,6 +1,7 @@
 //! The lines that load and store words of memory.
 ghost use Rattle.std.specs.Prelude.{◌≡◌, ◌+◌, ◌≤◌, OnOk};
-ghost use Rattle.cyc_select.specs.inside.Selection.{ordinary, address_of, far_plan, address_code, address_register, near_half, at_address, address_count, load_at, store_at};
+ghost use Rattle.cyc_select.specs.inside.Operands.{far_plan, address_code, address_register, near_half, at_address, address_count};
+ghost use Rattle.cyc_select.specs.inside.Selection.{ordinary, address_of, load_at, store_at};
 ghost use Rattle.cyc_select.specs.inside.Emission.{AddsLines, IsReached, IsFound};
 
 use crate::constants::{FIRST, FRAME, SECOND};

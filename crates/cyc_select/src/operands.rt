@@ -2,8 +2,10 @@
 ghost use Rattle.std.specs.Prelude.{◌≡◌, ◌≤◌, length, OnOk};
 ghost use Rattle.cyc_registers.specs.inside.Interference.{home_of, both_count, saved_count};
 ghost use Rattle.cyc_registers.specs.declared.home.TheConstants.{MOST_BOTH, MOST_SAVED};
-ghost use Rattle.cyc_select.specs.inside.Selection.{coming, coming_home, arriving_home, arriving, arrivals, ordinary, value_register, is_kept, made_in, keep_code, keep_count, give_code, give_count, is_own, hand_code, hand_count, bring_code};
-ghost use Rattle.cyc_select.specs.inside.Selection.{bring_all, is_taken, passed_from, move_count, reload, reloads, reload_count, arrival_count, word_code, load_code, operand_code, operand_register, word_count, load_count, operand_count};
+ghost use Rattle.cyc_select.specs.inside.Slots.{coming, coming_home, arriving_home, arriving, arrivals, value_register, is_kept, made_in, keep_code, give_code, is_own, hand_code, bring_code, bring_all, reload, reloads, arrival_count};
+ghost use Rattle.cyc_select.specs.inside.Operands.{keep_count, give_count, hand_count, move_count, reload_count, word_code, load_code, operand_code, operand_register, word_count, load_count, operand_count};
+ghost use Rattle.cyc_select.specs.inside.Passing.{is_taken, passed_from};
+ghost use Rattle.cyc_select.specs.inside.Selection.{ordinary};
 ghost use Rattle.cyc_select.specs.inside.Emission.{AddsLines, IsReached, AreReached, IsFound};
 
 use crate::constants::{FIRST, ZERO};

@@ -1,8 +1,9 @@
 //! The lines of an operator, of a test, and of what else a function does with its own slots.
 ghost use Rattle.std.specs.Prelude.{◌≡◌, ◌+◌, ◌*◌, ◌<◌, ◌≤◌, ◌^◌, [], ◌∷◌, ◌++◌, OnOk};
-ghost use Rattle.cyc_select.specs.inside.Selection.{give_code, small, syscall, arithmetic_of, immediate_of, shift_of, shift_by_of, multiply_divide_of, move_from_of, operation_code, outcome_code, operands_code};
-ghost use Rattle.cyc_select.specs.inside.Selection.{operation_of, computed_code, plan_code, test_code, branch_on, condition_of, operation_count, outcome_count, count_of_operation, plan_count, test_count};
-ghost use Rattle.cyc_select.specs.inside.Selection.{ordinary, product_code, quotient_code, divided_code, divide_code, is_tested, part_of, operator_code, move_code, branch_code, write_code, uncaught_code};
+ghost use Rattle.cyc_select.specs.inside.Instructions.{small, syscall, arithmetic_of, immediate_of, shift_of, shift_by_of, multiply_divide_of, move_from_of};
+ghost use Rattle.cyc_select.specs.inside.Slots.{give_code};
+ghost use Rattle.cyc_select.specs.inside.Operands.{operation_code, outcome_code, operands_code, operation_of, computed_code, plan_code, test_code, branch_on, condition_of, operation_count, outcome_count, count_of_operation, plan_count, test_count, is_tested};
+ghost use Rattle.cyc_select.specs.inside.Selection.{ordinary, product_code, quotient_code, divided_code, divide_code, part_of, operator_code, move_code, branch_code, write_code, uncaught_code};
 ghost use Rattle.cyc_select.specs.inside.Emission.{AddsLines, IsReached, IsFound, IsPlanFound, IsTestFound, most_lines};
 
 use crate::code::{Condition, Line};

@@ -1,6 +1,6 @@
 //! How the machine computes what an operator or a comparison says: by which instructions, and of which operands.
 ghost use Rattle.std.specs.Prelude.{◌≡◌};
-ghost use Rattle.cyc_select.specs.inside.Selection.{far_plan};
+ghost use Rattle.cyc_select.specs.inside.Operands.{far_plan};
 ghost use Rattle.cyc_select.specs.inside.Plans.{arithmetic_plan, immediate_plan, immediate_or, shift_plan, multiply_divide_plan, product_plan, mirrored, zero_plan, equal_plan, less_plan, less_unsigned_plan, at_most_plan};
 ghost use Rattle.cyc_select.specs.inside.Plans.{compared_plan, is_mirrored, comparison_plan, unary_plan, sum_plan, difference_plan, bits_plan, operator_plan, is_swapped, binary_plan, sign_of, sign_or, order_test, test_of};
 

@@ -5,7 +5,9 @@ ghost use Rattle.cyc_plain.specs.inside.WellFormed.{IsPlain};
 ghost use Rattle.cyc_frame.specs.inside.Layout.{AreFrames, frame_at};
 ghost use Rattle.cyc_words.specs.Fault.{memory_fault};
 ghost use Rattle.cyc_select.specs.inside.Selected.{IsCodeOf};
-ghost use Rattle.cyc_select.specs.inside.Selection.{saving_count, routine_lines, start_code, code_lines, function_lines, function_line, select_of};
+ghost use Rattle.cyc_select.specs.inside.Slots.{saving_count};
+ghost use Rattle.cyc_select.specs.inside.Counts.{function_line};
+ghost use Rattle.cyc_select.specs.inside.Selection.{routine_lines, start_code, code_lines, function_lines, select_of};
 ghost use Rattle.cyc_select.specs.inside.Emission.{AddsLines, IsKnown, IsReady};
 
 use crate::code::{Code, Line};

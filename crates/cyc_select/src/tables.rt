@@ -3,7 +3,8 @@ ghost use Rattle.std.specs.Prelude.{◌≡◌, ◌+◌, ◌<◌, ◌≤◌, ◌=
 ghost use Rattle.cyc_plain.specs.inside.Program.{routine_at};
 ghost use Rattle.cyc_frame.specs.inside.Layout.{frame_at};
 ghost use Rattle.cyc_registers.specs.declared.home.TheConstants.{MOST_BOTH, MOST_SAVED};
-ghost use Rattle.cyc_select.specs.inside.Selection.{reload_count, function_line, instruction_line};
+ghost use Rattle.cyc_select.specs.inside.Operands.{reload_count};
+ghost use Rattle.cyc_select.specs.inside.Counts.{function_line, instruction_line};
 ghost use Rattle.cyc_select.specs.inside.Emission.{AreReached, IsKnown};
 
 use crate::counting::{frame_in, results_of};

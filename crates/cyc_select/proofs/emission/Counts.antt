@@ -27,12 +27,14 @@ use Rattle.cyc_select.specs.declared.plan.Test.{Test}
 use Rattle.cyc_select.specs.declared.plan.Test.TheVariants as tests
 use Rattle.cyc_select.specs.inside.Plans.{arithmetic_plan, immediate_plan, immediate_or, zero_plan, differs_plan, equal_plan, unary_plan, binary_plan}
 use Rattle.cyc_select.specs.inside.Numbers.{fits_signed, negated_half, is_word, is_zero_word}
-use Rattle.cyc_select.specs.inside.Selection.{value_register, is_kept, fetch_from, fetch_count, keep_code, keep_count, give_to, give_code, give_count_to, give_count, bring_code, bring_all, gives_count, move_to, move_count_to, move_count, moves_count, move_words_count}
-use Rattle.cyc_select.specs.inside.Selection.{is_taken, passed_from, spill_from, spill, spills, spill_count_from, spill_count, spills_count, pass_from, pass, copies, pass_count_from, pass_count, copies_count, load_words, load_all, store_all, moves, all_moved}
-use Rattle.cyc_select.specs.inside.Selection.{moved_code, result_registers, argument_code, argument_count, service_number, answer_code, small, or_immediate, load_upper, constant, is_tested, word_code, load_code, operand_code, operand_register, made_in, operation_code}
-use Rattle.cyc_select.specs.inside.Selection.{outcome_code, operands_code, operation_of, computed_code, plan_code, test_code, divided_code, store_slot, add_immediate, minus, word_count, load_count, operand_count, far_plan, address_code, address_count, operation_count}
-use Rattle.cyc_select.specs.inside.Selection.{outcome_count, count_of_operation, plan_count, test_count, divide_count, operator_count, regions_code, regions_count, is_near, upper_of_global, reach_code, reach_count, at_global, global_code, with_hoisted, hoisted_count}
-use Rattle.cyc_select.specs.inside.Selection.{is_own}
+use Rattle.cyc_select.specs.inside.Instructions.{small, load_upper, constant, store_slot, add_immediate, minus}
+use Rattle.cyc_select.specs.inside.Slots.{value_register, is_kept, keep_code, give_to, give_code, bring_code, bring_all, load_words, load_all, store_all, result_registers, made_in, is_near, upper_of_global, reach_code, at_global, global_code, is_own}
+use Rattle.cyc_select.specs.inside.Operands.{fetch_from, fetch_count, keep_count, give_count_to, give_count, gives_count, move_count_to, move_count, moves_count, or_immediate, is_tested, word_code, load_code, operand_code, operand_register, operation_code, outcome_code, operands_code, operation_of}
+use Rattle.cyc_select.specs.inside.Operands.{computed_code, plan_code, test_code, word_count, load_count, operand_count, far_plan, address_code, address_count, operation_count, outcome_count, count_of_operation, plan_count, test_count, divide_count, operator_count, reach_count}
+use Rattle.cyc_select.specs.inside.Passing.{is_taken, passed_from, spill_from, spill, spills, spill_count_from, spill_count, spills_count, pass_from, pass, copies, pass_count_from, pass_count, copies_count}
+use Rattle.cyc_select.specs.inside.Hoisting.{with_hoisted, hoisted_count}
+use Rattle.cyc_select.specs.inside.Counts.{move_words_count, argument_count, regions_count}
+use Rattle.cyc_select.specs.inside.Selection.{move_to, moves, all_moved, moved_code, argument_code, service_number, answer_code, divided_code, regions_code}
 use Rattle.cyc_select.proofs.relation.Values.{memory_kept}
 use Rattle.cyc_isa.specs.declared.instr.MemoryOp.{MemoryOp}
 

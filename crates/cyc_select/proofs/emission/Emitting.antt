@@ -13,7 +13,10 @@ use Rattle.cyc_registers.specs.declared.home.Home.{Home}
 use Rattle.cyc_registers.specs.declared.home.Home.TheVariants as homes
 use Rattle.cyc_select.specs.declared.code.Line.TheVariants as lines
 use Rattle.cyc_select.specs.declared.code.Line.{Line}
-use Rattle.cyc_select.specs.inside.Selection.{arriving, load, store, saves_from, restores_from, value_register, pass, copies, spill, spills, move_to, moves, reload, reloads_from, ordinary}
+use Rattle.cyc_select.specs.inside.Instructions.{load, store}
+use Rattle.cyc_select.specs.inside.Slots.{arriving, saves_from, restores_from, value_register, reload, reloads_from}
+use Rattle.cyc_select.specs.inside.Passing.{pass, copies, spill, spills}
+use Rattle.cyc_select.specs.inside.Selection.{move_to, moves, ordinary}
 use Rattle.cyc_select.proofs.relation.Arriving.{reloads_next, arriving_all}
 
 ordinary_append : (is js : List Instr) → ordinary (is ++ js) ≡ ordinary is ++ ordinary js

@@ -18,8 +18,11 @@ use Rattle.cyc_registers.specs.inside.Interference.{AreHomes, saved_count}
 use Rattle.cyc_frame.specs.inside.Layout.{IsFrame, AreFrames, frame_at, loses, loses_any, returns, returns_any}
 use Rattle.cyc_frame.specs.inside.Frame.{Frame}
 use Rattle.cyc_select.specs.declared.constants.TheConstants.{START_LINES}
-use Rattle.cyc_select.specs.inside.Selection.{coming, arrival_count, reload_count, ending_count, body_count, behind_count, is_idle, count_of, code_count, function_count, functions_count}
-use Rattle.cyc_select.specs.inside.Selection.{function_line, instruction_line, behind, place_lines, code_lines, function_lines, way_count, saving_count, routine_lines, hoisted}
+use Rattle.cyc_select.specs.inside.Slots.{coming, arrival_count, way_count, saving_count}
+use Rattle.cyc_select.specs.inside.Operands.{reload_count}
+use Rattle.cyc_select.specs.inside.Hoisting.{is_idle, hoisted}
+use Rattle.cyc_select.specs.inside.Counts.{ending_count, body_count, behind_count, count_of, code_count, function_count, functions_count, function_line, instruction_line}
+use Rattle.cyc_select.specs.inside.Selection.{behind, place_lines, code_lines, function_lines, routine_lines}
 use Rattle.cyc_select.specs.inside.Plans.{test_of}
 use Rattle.cyc_select.specs.inside.Emission.{AreReached, AreFew, most_lines, instruction_lines, function_starts, AreReady, AreTables}
 use Rattle.cyc_words.proofs.Lists.{slice_get_below}

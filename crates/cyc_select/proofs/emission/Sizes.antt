@@ -27,11 +27,14 @@ use Rattle.cyc_select.specs.declared.plan.Test.{Test}
 use Rattle.cyc_select.specs.inside.Plans.{unary_plan, binary_plan, test_of}
 use Rattle.cyc_select.specs.inside.Labelled.{Labelled, words_of, all_words}
 use Rattle.cyc_select.specs.inside.Selected.{words_at}
-use Rattle.cyc_select.specs.inside.Selection.{arrivals, coming, product_code, quotient_code, operand_count, operand_register, slot_offset, recorded_code, caught_code, reload_count, value_register, move_to, keep_code, give_code}
-use Rattle.cyc_select.specs.inside.Selection.{moved_code, reloads, opened_code, made_in, ordinary, argument_code, service_number, answer_code, unwound_code, address_code, at_address, copies, bring_all, word_code, load_code, load_count}
-use Rattle.cyc_select.specs.inside.Selection.{operand_code, plan_code, test_code, condition_of, hoisted, with_hoisted, behind_hoisted, branch_code, divided_code, divide_code, is_tested, part_of, result_registers, ending_code}
-use Rattle.cyc_select.specs.inside.Selection.{operator_code, body, behind, place_lines, is_idle, count_of, function_count, function_line, instruction_line, code_lines, function_lines, small, syscall, store, add_immediate, push_frame}
-use Rattle.cyc_select.specs.inside.Selection.{load, regions_code, load_at, store_at, spills, spills_count, calling_code, global_code, saves_from, way_code, saving_code, restoring_code, way_count, saving_count, returning_code, routine_lines}
+use Rattle.cyc_select.specs.inside.Instructions.{slot_offset, small, syscall, store, add_immediate, load}
+use Rattle.cyc_select.specs.inside.Slots.{arrivals, coming, value_register, keep_code, give_code, reloads, made_in, bring_all, result_registers, push_frame, global_code, saves_from, way_code, saving_code, restoring_code, way_count, saving_count}
+use Rattle.cyc_select.specs.inside.Operands.{operand_count, operand_register, reload_count, address_code, at_address, word_code, load_code, load_count, operand_code, plan_code, test_code, condition_of, is_tested}
+use Rattle.cyc_select.specs.inside.Passing.{copies, spills, spills_count}
+use Rattle.cyc_select.specs.inside.Hoisting.{hoisted, with_hoisted, behind_hoisted, is_idle}
+use Rattle.cyc_select.specs.inside.Counts.{count_of, function_count, function_line, instruction_line}
+use Rattle.cyc_select.specs.inside.Selection.{product_code, quotient_code, recorded_code, caught_code, move_to, moved_code, opened_code, ordinary, argument_code, service_number, answer_code, unwound_code, branch_code, divided_code, divide_code, part_of, ending_code, operator_code, body, behind}
+use Rattle.cyc_select.specs.inside.Selection.{place_lines, code_lines, function_lines, regions_code, load_at, store_at, calling_code, returning_code, routine_lines}
 use Rattle.cyc_isa.specs.Decoding.{register_of}
 use Rattle.cyc_isa.specs.declared.instr.BranchOp.TheVariants as branch
 use Rattle.cyc_select.proofs.emission.Counts.{length_keep, length_give, length_move, length_moved, length_spills, spills_few, length_copies, copies_few, move_words_small, keep_few, give_small, move_small, argument_small}
@@ -42,7 +45,7 @@ use Rattle.cyc_select.proofs.steps.Returns.{loaded, length_loaded}
 use Rattle.cyc_select.proofs.emission.Numbering.{ReadsFew, losing, losing_next, returning, returning_next, IsSaving, AreSaved, saved_first, saved_next}
 use Rattle.cyc_select.proofs.relation.Values.{length_reloads}
 use Rattle.cyc_select.proofs.relation.Arriving.{length_arrivals}
-use Rattle.cyc_select.proofs.effects.Walks.{Stands}
+use Rattle.cyc_select.proofs.effects.Sequences.{Stands}
 
 words_ordinary : (is : List Instr) → all_words (ordinary is) ≡ length is
 words_ordinary [] = refl

@@ -1,14 +1,12 @@
 -- Each line of the code is formed, and each part has few words.
-use Rattle.std.proofs.Common.{◌≡◌, ℕ, zero, suc, ◌+◌, ◌-◌, ◌*◌, ◌/◌, ◌%◌, ◌^◌, ◌<◌, ◌≤◌, Bool, true, false, List, [], ◌∷◌, ◌++◌, length, take, Option, None, Some, slice_get, refl, sym, ap, subst, ◌∙◌, arith, inl, inr}
+use Rattle.std.proofs.Common.{◌≡◌, ℕ, zero, suc, ◌+◌, ◌-◌, ◌*◌, ◌/◌, ◌%◌, ◌^◌, ◌<◌, ◌≤◌, Bool, true, false, List, [], ◌∷◌, ◌++◌, length, take, Option, None, Some, slice_get, refl, ap, subst, ◌∙◌, arith}
 use Rattle.std.specs.Prelude.{◌==◌, ◌&&◌, nat_lt, if◌then◌else◌, slice_index_or}
 use Rattle.std.specs.List.{AllByRecursion}
-use Rattle.std.proofs.lemmas.Bool.{cases_Bool, cases_lt, eqb-true, ltb-true}
-use Rattle.std.proofs.lemmas.List.{get_or_past}
+use Rattle.std.proofs.lemmas.Bool.{eqb-true, ltb-true}
 use Rattle.std.proofs.lemmas.Option.{none-some}
 use Rattle.cyc_words.specs.Word.{IsWord}
-use Rattle.cyc_words.proofs.Lists.{slice_get_below, all_append}
+use Rattle.cyc_words.proofs.Lists.{all_append}
 use Rattle.cyc_words.proofs.Members.{All_from_recursion, All_at}
-use Rattle.cyc_words.proofs.Items.{below_from_slice_get}
 use Rattle.cyc_plain.specs.declared.limits.TheConstants.{MOST_FRAME_WORDS}
 use Rattle.cyc_registers.specs.inside.Bars.{is_crossing}
 use Rattle.cyc_isa.specs.declared.instr.Instr.{Instr}
@@ -28,14 +26,13 @@ use Rattle.cyc_isa.specs.declared.instr.MemoryOp.TheVariants.{LoadWord, StoreWor
 use Rattle.cyc_isa.specs.declared.instr.MoveFromOp.{MoveFromOp}
 use Rattle.cyc_isa.specs.declared.instr.MoveFromOp.TheVariants.{High, Low}
 use Rattle.cyc_machine.specs.declared.constants.TheConstants.{ARGUMENT, END_UNCAUGHT, GET_BYTE, PUT_BYTE, RETURN_ADDRESS, SECOND_ARGUMENT, SERVICE}
-use Rattle.cyc_plain.specs.inside.Program.{Routine, Program, CodePlace, no_routine, routine_at}
+use Rattle.cyc_plain.specs.inside.Program.{Routine, Program, no_routine, routine_at}
 use Rattle.cyc_plain.specs.inside.Step.{instruction_at}
 use Rattle.cyc_plain.specs.declared.instruction.Request.{Request}
 use Rattle.cyc_plain.specs.declared.instruction.Request.TheVariants as requests
 use Rattle.cyc_plain.specs.inside.Requests.{first_operand, second_operand, answer_count, destination_of}
 use Rattle.cyc_plain.specs.inside.WellFormed.{IsOperand, IsArgument, IsInRange, IsWellFormed, HasWords, IsOfWord, IsArgumentOfWord, HasWord, leaves}
 use Rattle.cyc_plain.proofs.Placed.{routine_in, goes_behind, has_code}
-use Rattle.cyc_plain.proofs.Steps.{function_known}
 use Rattle.cyc_frame.specs.inside.Layout.{AreFrames, frame_at, slot_word}
 use Rattle.cyc_frame.specs.inside.Frame.{Frame}
 use Rattle.cyc_registers.specs.declared.home.Home.{Home}
@@ -53,31 +50,26 @@ use Rattle.cyc_select.specs.declared.plan.Plan.{Plan}
 use Rattle.cyc_select.specs.declared.plan.Test.{Test}
 use Rattle.cyc_select.specs.declared.plan.Test.TheVariants as tests
 use Rattle.cyc_select.specs.inside.Plans.{unary_plan, binary_plan, test_of}
-use Rattle.cyc_select.specs.inside.Labelled.{Labelled, IsFormed, IsFormedLine}
+use Rattle.cyc_select.specs.inside.Labelled.{IsFormed, IsFormedLine}
 use Rattle.cyc_select.specs.inside.Numbers.{fits_signed, is_zero_word}
-use Rattle.cyc_select.specs.inside.Selection.{coming, arriving, arrivals, saves_from, restores_from, saves, restores, way_code, way_count, value_register, product_code, quotient_code, passed_from, spill_from, pass_from, pass, is_kept, load_from}
-use Rattle.cyc_select.specs.inside.Selection.{fetch_from, move_to, keep_code, give_to, give_code, bring_code, bring_all, load_words, reloads_from, reloads, opened_code, made_in, slot_offset, ordinary, result_registers, argument_code, service_number}
-use Rattle.cyc_select.specs.inside.Selection.{answer_code, unwound_code, far_plan, address_code, near_half, at_address, copies, load_all, store_all, moves, all_moved, store_slot, pop_frame, load_upper, constant, or_immediate, is_tested, part_of}
-use Rattle.cyc_select.specs.inside.Selection.{plan_count, small, syscall, add_immediate, minus, upper_of_global, word_code, load_code, load_count, operand_code, operand_register, operands_code, operation_code, outcome_code, operation_of}
-use Rattle.cyc_select.specs.inside.Selection.{computed_code, plan_code, test_code, condition_of, hoisted, branch_code, behind_count, divided_code, divide_code, divide_count, ending_code, ending_count, operator_code, operator_count, body, behind}
-use Rattle.cyc_select.specs.inside.Selection.{place_lines, is_idle, body_count, count_of, code_count, function_count, functions_count, function_line, instruction_line, code_lines, function_lines, start_lines, select_of, regions_code, load_at}
-use Rattle.cyc_select.specs.inside.Selection.{store_at, spill, spills, spills_count, calling_code, operand_count, global_code, is_near, global_address, load, store, saving_code, restoring_code, saving_count, returning_code, routine_lines, is_own, first_line, write_code, store_global}
+use Rattle.cyc_select.specs.inside.Instructions.{slot_offset, store_slot, load_upper, constant, small, syscall, add_immediate, minus, load, store}
+use Rattle.cyc_select.specs.inside.Slots.{coming, arriving, arrivals, saves_from, restores_from, saves, restores, way_code, way_count, value_register, is_kept, load_from, keep_code, give_to, give_code, bring_code, bring_all, load_words, reloads_from, reloads, made_in, result_registers, load_all}
+use Rattle.cyc_select.specs.inside.Slots.{store_all, pop_frame, upper_of_global, global_code, is_near, global_address, saving_code, restoring_code, saving_count, is_own}
+use Rattle.cyc_select.specs.inside.Operands.{fetch_from, far_plan, address_code, near_half, at_address, or_immediate, is_tested, plan_count, word_code, load_code, load_count, operand_code, operand_register, operands_code, operation_code, outcome_code, operation_of, computed_code, plan_code}
+use Rattle.cyc_select.specs.inside.Operands.{test_code, condition_of, divide_count, operator_count, operand_count}
+use Rattle.cyc_select.specs.inside.Passing.{passed_from, spill_from, pass_from, pass, copies, spill, spills, spills_count}
+use Rattle.cyc_select.specs.inside.Hoisting.{hoisted, is_idle, first_line}
+use Rattle.cyc_select.specs.inside.Counts.{behind_count, ending_count, body_count, count_of, code_count, function_count, functions_count, function_line, instruction_line}
+use Rattle.cyc_select.specs.inside.Selection.{product_code, quotient_code, move_to, opened_code, ordinary, argument_code, service_number, answer_code, unwound_code, moves, all_moved, part_of, branch_code, divided_code, divide_code, ending_code, operator_code, body, behind, place_lines, code_lines}
+use Rattle.cyc_select.specs.inside.Selection.{function_lines, start_lines, select_of, regions_code, load_at, store_at, calling_code, returning_code, routine_lines, write_code, store_global}
 use Rattle.cyc_select.proofs.relation.Arriving.{length_arriving}
 use Rattle.cyc_select.proofs.layout.Lines.{line_first, line_next}
 use Rattle.cyc_select.proofs.values.Plans.{AllOfTest, all_unary, all_binary, all_test}
-use Rattle.cyc_select.proofs.emission.Counts.{operation_some, move_some, move_words_some, give_some, length_registers, answer_few, service_small}
+use Rattle.cyc_select.proofs.emission.Counts.{length_registers, answer_few, service_small}
 use Rattle.cyc_select.proofs.steps.Hoisting.{Hoists, hoists, first_begins, test_starts}
 use Rattle.cyc_select.proofs.steps.Returns.{loaded}
 use Rattle.cyc_select.proofs.layout.Structure.{length_body, stand}
-use Rattle.cyc_select.proofs.effects.Walks.{Stands, stands_front}
-
--- ---- lists
-
--- what stands lies within the code
-pub within_code : (code : Labelled) (n : ℕ) (ls : List Line) → 0 < length ls → Stands code n ls → n + length ls ≤ length code.lines
-within_code code n [] some stands = absurd (omega (arith, some))
-within_code code n (l ∷ []) some (first, rest) = omega (arith, below_from_slice_get code.lines n l first)
-within_code code n (l ∷ m ∷ ls) some (first, rest) = omega (arith, within_code code (n + 1) (m ∷ ls) (omega arith) rest)
+use Rattle.cyc_select.proofs.layout.Inside.{few_results, range_at, count_some, body_inside, place_inside}
 
 -- ---- over all parts of the code
 
@@ -104,119 +96,6 @@ module _ (program : Program) (frames : List Frame) (P : Line → Type 0) where
       (λ k n below is.
       let next : first + suc k ≡ suc first + k = omega arith in
       subst (λ (f : ℕ). AllByRecursion P (routine_lines program frames f n (slice_index_or routines k no_routine))) next (each (suc k) n (omega (arith, below)) (omega (arith, is)))))
-
-pub few_results : (program : Program) → IsWellFormed program → (function : ℕ) → (routine_at program function).results ≤ 3
-few_results program well function = elim (cases_lt function (length program.functions)) [
-  | inl below ↦ (routine_in program function well below).results
-  | inr past ↦ subst (λ (r : Routine). r.results ≤ 3) (sym (get_or_past program.functions function no_routine past)) (let e : 0 ≤ 3 = omega arith in e)
-]
-
-some_either : (b : Bool) (m n : ℕ) → 0 < m → 0 < n → 0 < (if b then m else n)
-some_either true m n first second = first
-some_either false m n first second = second
-
--- what an instruction of the program names is there
-pub range_at : (program : Program) → IsWellFormed program → (place : CodePlace) (i : Instruction) → instruction_at program place ≡ Some i → IsInRange program (routine_at program place.function) i
-range_at program well place i at =
-    All_at (IsInRange program (routine_at program place.function)) (routine_at program place.function).code place.index i
-    (routine_in program place.function well (function_known program place i at)).instructions at
-
-pub count_some : (program : Program) (frames : List Frame) (function : ℕ) (i : Instruction) → IsInRange program (routine_at program function) i → 0 < body_count program frames function i
-count_some program frames function (plain.Move destination source) in_range = move_some (frame_at frames function) destination source
-count_some program frames function (plain.Unary operator destination operand) in_range = omega (arith, operation_some (unary_plan operator operand).operation)
-count_some program frames function (plain.Binary operator destination left right) in_range = some_either (is_tested operator right) _ _ (omega arith) (omega (arith, operation_some (binary_plan operator left right).operation))
-count_some program frames function (plain.Jump target) in_range = omega arith
-count_some program frames function (plain.Branch comparison left right target) in_range = omega arith
-count_some program frames function (plain.Call callee arguments count result) in_range = omega arith
-count_some program frames function (plain.Return value) in_range = omega arith
-count_some program frames function (plain.ReadByte destination) in_range = omega arith
-count_some program frames function (plain.WriteByte source) in_range = omega arith
-count_some program frames function (plain.AddressOf destination slot count) in_range = omega arith
-count_some program frames function (plain.LoadGlobal destination global) in_range = omega arith
-count_some program frames function (plain.StoreGlobal global source) in_range = omega arith
-count_some program frames function (plain.MoveWords destination source count) in_range = move_words_some (frame_at frames function) destination source count in_range.some in_range.few
-count_some program frames function (plain.Load destination address offset) in_range = omega arith
-count_some program frames function (plain.Store address offset source) in_range = omega arith
-count_some program frames function (plain.LoadByte destination address offset) in_range = omega arith
-count_some program frames function (plain.StoreByte address offset source) in_range = omega arith
-count_some program frames function (plain.Ask request) in_range = omega arith
-count_some program frames function (plain.CountLexical destination) in_range = give_some (frame_at frames function) destination
-count_some program frames function (plain.Try first handler) in_range = omega arith
-count_some program frames function (plain.Leave first) in_range = omega arith
-count_some program frames function (plain.Throw tag value) in_range = omega arith
-count_some program frames function (plain.Finish value) in_range = omega arith
-count_some program frames function (plain.Uncaught tag value) in_range = omega arith
-count_some program frames function (plain.Enter callee) in_range = omega arith
-
--- ---- each place lies within the code
-
-module _ (program : Program) (well : IsWellFormed program) (frames : List Frame) (fit : AreFrames program frames) (code : Labelled)
-    (stand : (function index : ℕ) (i : Instruction) → instruction_at program (record { function = function; index = index }) ≡ Some i
-    → Stands code (instruction_line program frames function index) (place_lines program frames function index (instruction_line program frames function index) i ++ behind program frames function i))
-    (long : (function line : ℕ) (i : Instruction) → length (body program frames function line i) ≡ body_count program frames function i) where
-  -- the lines of an instruction that is not idle
-  pub body_stands : (function index : ℕ) (i : Instruction) → instruction_at program (record { function = function; index = index }) ≡ Some i → is_idle (frame_at frames function) index i ≡ false
-      → Stands code (instruction_line program frames function index) (body program frames function (instruction_line program frames function index) i ++ behind program frames function i)
-  body_stands function index i at busy =
-      subst (λ (b : Bool). Stands code (instruction_line program frames function index) ((if b then [] else body program frames function (instruction_line program frames function index) i) ++ behind program frames function i)) busy
-      (stand function index i at)
-
-  pub body_inside : (function index : ℕ) (i : Instruction) → instruction_at program (record { function = function; index = index }) ≡ Some i → is_idle (frame_at frames function) index i ≡ false
-      → instruction_line program frames function index + body_count program frames function i ≤ length code.lines
-  body_inside function index i at busy =
-      let line : ℕ = instruction_line program frames function index in
-      let some = count_some program frames function i (range_at program well (record { function = function; index = index }) i at) in
-      omega (
-        arith,
-        long function line i,
-        within_code code line (body program frames function line i) (omega (arith, long function line i, some))
-            (stands_front code line (body program frames function line i) (behind program frames function i) (body_stands function index i at busy)),
-      )
-
-  -- behind an idle place stands another
-  idle_before : (function index : ℕ) (i : Instruction) → instruction_at program (record { function = function; index = index }) ≡ Some i → is_idle (frame_at frames function) index i ≡ true
-      → index + 1 < length (routine_at program function).code
-  idle_before function index i at idle = go i at idle
-    where
-      known : function < length program.functions
-      known = function_known program (record { function = function; index = index }) i at
-
-      stays : (j : Instruction) → slice_get (routine_at program function).code index ≡ Some j → leaves j ≡ false → index + 1 < length (routine_at program function).code
-      stays j there other = goes_behind program (routine_at program function) index j (routine_in program function well known) there other
-
-      go : (j : Instruction) → instruction_at program (record { function = function; index = index }) ≡ Some j → is_idle (frame_at frames function) index j ≡ true → index + 1 < length (routine_at program function).code
-      go (plain.Move destination source) there is = stays (plain.Move destination source) there refl
-      go (plain.MoveWords destination source count) there is = stays (plain.MoveWords destination source count) there refl
-      go (plain.Unary operator destination operand) there is = stays (plain.Unary operator destination operand) there refl
-      go (plain.Binary operator destination left right) there is = stays (plain.Binary operator destination left right) there refl
-      go (plain.Branch comparison left right target) there is = stays (plain.Branch comparison left right target) there refl
-      go (plain.Jump target) there is =
-          let next : target ≡ suc index = fit.idle function known index (plain.Jump target) there is in
-          let below : target < length (routine_at program function).code = range_at program well (record { function = function; index = index }) (plain.Jump target) there in
-          omega (arith, next, below)
-      go j there is = absurd (let e : false ≡ true = is in cc)
-
-  -- the line of each place is there: it is the place's own, or that of one behind it
-  pub place_inside : (function index : ℕ) → index < length (routine_at program function).code → instruction_line program frames function index < length code.lines
-  place_inside function index below = go (length (routine_at program function).code - suc index) index (omega (arith, below))
-    where
-      own : (k : ℕ) (i : Instruction) → slice_get (routine_at program function).code k ≡ Some i → is_idle (frame_at frames function) k i ≡ false → instruction_line program frames function k < length code.lines
-      own k i at busy =
-          omega (arith, body_inside function k i at busy, count_some program frames function i (range_at program well (record { function = function; index = k }) i at))
-
-      go : (n k : ℕ) → k + suc n ≡ length (routine_at program function).code → instruction_line program frames function k < length code.lines
-      go zero k is =
-          let (i, at) = slice_get_below (routine_at program function).code k (omega (arith, is)) in
-          elim (cases_Bool (is_idle (frame_at frames function) k i)) [
-            | inl idle ↦ absurd (omega (arith, is, idle_before function k i at idle))
-            | inr busy ↦ own k i at busy
-          ]
-      go (suc n) k is =
-          let (i, at) = slice_get_below (routine_at program function).code k (omega (arith, is)) in
-          elim (cases_Bool (is_idle (frame_at frames function) k i)) [
-            | inl idle ↦ omega (arith, line_next program frames function k i at, go n (k + 1) (omega (arith, is)))
-            | inr busy ↦ own k i at busy
-          ]
 
 module _ (program : Program) (well : IsWellFormed program) (words : HasWords program) (frames : List Frame) (fit : AreFrames program frames) where
   total : ℕ

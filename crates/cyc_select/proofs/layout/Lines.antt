@@ -5,7 +5,8 @@ use Rattle.cyc_plain.specs.inside.Program.{Program, routine_at}
 use Rattle.cyc_plain.specs.inside.Step.{instruction_at}
 use Rattle.cyc_frame.specs.inside.Frame.{Frame}
 use Rattle.cyc_frame.specs.inside.Layout.{frame_at}
-use Rattle.cyc_select.specs.inside.Selection.{saving_count, count_of, code_count, function_line, instruction_line}
+use Rattle.cyc_select.specs.inside.Slots.{saving_count}
+use Rattle.cyc_select.specs.inside.Counts.{count_of, code_count, function_line, instruction_line}
 
 -- the lines of code up to an instruction, and with it
 lines_count_next : (program : Program) (frames : List Frame) (function first : ℕ) (code : List Instruction) (k : ℕ) (i : Instruction) → slice_get code k ≡ Some i

@@ -12,8 +12,9 @@ use Rattle.cyc_plain.specs.inside.WellFormed.{IsWellFormed, leaves}
 use Rattle.cyc_plain.proofs.Placed.{routine_in, has_code}
 use Rattle.cyc_frame.specs.inside.Frame.{Frame}
 use Rattle.cyc_select.specs.declared.constants.TheConstants.{START_LINES}
-use Rattle.cyc_select.specs.inside.Selection.{behind_count, place_count, code_count, function_count, functions_count, function_line, instruction_line, start_lines, function_lines, select_of}
-use Rattle.cyc_select.proofs.layout.Formed.{few_results}
+use Rattle.cyc_select.specs.inside.Counts.{behind_count, place_count, code_count, function_count, functions_count, function_line, instruction_line}
+use Rattle.cyc_select.specs.inside.Selection.{start_lines, function_lines, select_of}
+use Rattle.cyc_select.proofs.layout.Inside.{few_results}
 use Rattle.cyc_select.proofs.layout.Lines.{line_next, line_first}
 use Rattle.cyc_select.proofs.runs.Runs.{behind_of, previous_count, body_of, own_of, previous_fits}
 use Rattle.cyc_select.proofs.layout.Structure.{length_functions}

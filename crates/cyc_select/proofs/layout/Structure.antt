@@ -26,11 +26,14 @@ use Rattle.cyc_select.specs.declared.plan.Plan.{Plan}
 use Rattle.cyc_select.specs.declared.plan.Test.{Test}
 use Rattle.cyc_select.specs.inside.Labelled.{Labelled}
 use Rattle.cyc_select.specs.inside.Plans.{unary_plan, binary_plan, test_of}
-use Rattle.cyc_select.specs.inside.Selection.{arrivals, coming, value_register, product_code, quotient_code, copies_count, move_to, keep_code, keep_count, give_code, give_count, moved_code, reloads, reload_count, opened_code, made_in, ordinary, argument_code}
-use Rattle.cyc_select.specs.inside.Selection.{service_number, answer_code, unwound_code, address_code, at_address, copies, bring_all, small, syscall, word_code, load_code, load_count, operand_code, operand_register, plan_code, plan_count, test_code}
-use Rattle.cyc_select.specs.inside.Selection.{condition_of, hoisted, with_hoisted, behind_hoisted, divided_code, divide_code, divide_count, is_tested, part_of, result_registers, ending_code, ending_count, operator_code, operator_count, body, behind}
-use Rattle.cyc_select.specs.inside.Selection.{place_lines, is_idle, body_count, behind_count, place_count, count_of, code_count, function_count, functions_count, function_line, instruction_line, code_lines, function_lines, start_lines, select_of, regions_code}
-use Rattle.cyc_select.specs.inside.Selection.{load_at, store_at, address_count, operand_count, spills, spills_count, calling_code, global_code, load, store, saves, way_code, saving_code, restoring_code, way_count, saving_count, returning_code, routine_lines}
+use Rattle.cyc_select.specs.inside.Instructions.{small, syscall, load, store}
+use Rattle.cyc_select.specs.inside.Slots.{arrivals, coming, value_register, keep_code, give_code, reloads, made_in, bring_all, result_registers, global_code, saves, way_code, saving_code, restoring_code, way_count, saving_count}
+use Rattle.cyc_select.specs.inside.Operands.{keep_count, give_count, reload_count, address_code, at_address, word_code, load_code, load_count, operand_code, operand_register, plan_code, plan_count, test_code, condition_of, divide_count, is_tested, operator_count, address_count, operand_count}
+use Rattle.cyc_select.specs.inside.Passing.{copies_count, copies, spills, spills_count}
+use Rattle.cyc_select.specs.inside.Hoisting.{hoisted, with_hoisted, behind_hoisted, is_idle}
+use Rattle.cyc_select.specs.inside.Counts.{ending_count, body_count, behind_count, place_count, count_of, code_count, function_count, functions_count, function_line, instruction_line}
+use Rattle.cyc_select.specs.inside.Selection.{product_code, quotient_code, move_to, moved_code, opened_code, ordinary, argument_code, service_number, answer_code, unwound_code, divided_code, divide_code, part_of, ending_code, operator_code, body, behind, place_lines, code_lines, function_lines}
+use Rattle.cyc_select.specs.inside.Selection.{start_lines, select_of, regions_code, load_at, store_at, calling_code, returning_code, routine_lines}
 use Rattle.cyc_select.proofs.steps.Calls.{length_ordinary}
 use Rattle.cyc_select.proofs.emission.Counts.{length_keep, length_give, length_move, length_moved, length_spills, length_copies, length_argument, length_answer, length_regions, length_results}
 use Rattle.cyc_select.proofs.emission.Counts.{length_registers, length_word, length_load, length_operand, length_address, length_plan, length_test, length_hoisted, length_divided, length_global}
@@ -38,7 +41,7 @@ use Rattle.cyc_select.proofs.steps.Preserving.{length_saves}
 use Rattle.cyc_select.proofs.steps.Returns.{loaded, length_loaded}
 use Rattle.cyc_select.proofs.relation.Values.{length_reloads}
 use Rattle.cyc_select.proofs.relation.Arriving.{length_arrivals}
-use Rattle.cyc_select.proofs.effects.Walks.{Stands, stands_front, stands_back}
+use Rattle.cyc_select.proofs.effects.Sequences.{Stands, stands_front, stands_back}
 
 slice_get-seam : (front : List Line) (l : Line) (rest : List Line) → slice_get (front ++ l ∷ rest) (length front) ≡ Some l
 slice_get-seam [] l rest = refl

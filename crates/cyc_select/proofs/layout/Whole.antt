@@ -12,8 +12,10 @@ use Rattle.cyc_frame.specs.inside.Layout.{frame_at, AreFrames}
 use Rattle.cyc_select.specs.declared.constants.TheConstants.{MAX_START_WORDS, START_LINES}
 use Rattle.cyc_select.specs.inside.Labelled.{words_of, all_words, IsCode}
 use Rattle.cyc_select.specs.inside.Selected.{IsCodeOf, words_at}
-use Rattle.cyc_select.specs.inside.Selection.{function_count, function_line, routine_lines, function_lines, start_lines, select_of}
-use Rattle.cyc_select.proofs.layout.Formed.{few_results, formed}
+use Rattle.cyc_select.specs.inside.Counts.{function_count, function_line}
+use Rattle.cyc_select.specs.inside.Selection.{routine_lines, function_lines, start_lines, select_of}
+use Rattle.cyc_select.proofs.layout.Inside.{few_results}
+use Rattle.cyc_select.proofs.layout.Formed.{formed}
 use Rattle.cyc_select.proofs.emission.Numbering.{reads_few, is_saving, are_saved}
 use Rattle.cyc_select.proofs.layout.Parts.{place_in, own_function, parts}
 use Rattle.cyc_select.proofs.runs.Runs.{own_of}

@@ -14,11 +14,12 @@ use Rattle.cyc_registers.specs.inside.Interference.{AreHomes, register_of, home_
 use Rattle.cyc_registers.specs.inside.Interference as homing
 use Rattle.cyc_registers.specs.inside.Liveness.{IsLiveAt}
 use Rattle.cyc_select.specs.declared.constants.TheConstants.{FRAME}
-use Rattle.cyc_select.specs.inside.Selection.{reload, reloads_from, slot_offset, value_register, is_kept, coming_home, coming, arriving_home, arriving, arrivals, arrival_count}
+use Rattle.cyc_select.specs.inside.Instructions.{slot_offset}
+use Rattle.cyc_select.specs.inside.Slots.{reload, reloads_from, value_register, is_kept, coming_home, coming, arriving_home, arriving, arrivals, arrival_count}
 use Rattle.cyc_select.proofs.relation.Cells.{IsCell}
 use Rattle.cyc_select.proofs.relation.Values.{Caches, AreAlone, AreValues, are_reloaded, length_reload}
 use Rattle.cyc_select.proofs.effects.Views.{Contents}
-use Rattle.cyc_select.proofs.effects.Walks.{after_r, after_w, AreSafe}
+use Rattle.cyc_select.proofs.effects.Sequences.{after_r, after_w, AreSafe}
 
 -- ---- homes, one by one
 

@@ -19,7 +19,9 @@ use Rattle.cyc_frame.specs.inside.Layout.{AreFrames, frame_at}
 use Rattle.cyc_select.specs.declared.constants.TheConstants.{FRAME}
 use Rattle.cyc_select.specs.inside.Labelled.{Labelled, IsFormed}
 use Rattle.cyc_select.specs.inside.Machine as labelled
-use Rattle.cyc_select.specs.inside.Selection.{slot_offset, value_register, instruction_line}
+use Rattle.cyc_select.specs.inside.Instructions.{slot_offset}
+use Rattle.cyc_select.specs.inside.Slots.{value_register}
+use Rattle.cyc_select.specs.inside.Counts.{instruction_line}
 use Rattle.cyc_select.proofs.values.Computing.{HeldIn, IsHeld}
 use Rattle.cyc_select.proofs.relation.Matches.{At}
 use Rattle.cyc_select.proofs.relation.Standing.{Standing, slot_cell, slot_word_is, stage_of}

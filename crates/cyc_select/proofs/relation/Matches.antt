@@ -26,12 +26,17 @@ use Rattle.cyc_select.specs.inside.Labelled.{Labelled, IsFormed}
 use Rattle.cyc_select.specs.inside.Machine as labelled
 use Rattle.cyc_select.specs.inside.Machine.{State, Running, Ended}
 use Rattle.cyc_select.specs.inside.Plans.{test_of}
-use Rattle.cyc_select.specs.inside.Selection.{coming, slot_offset, value_register, is_kept, is_idle, test_count, function_line, instruction_line, count_of}
+use Rattle.cyc_select.specs.inside.Instructions.{slot_offset}
+use Rattle.cyc_select.specs.inside.Slots.{coming, value_register, is_kept}
+use Rattle.cyc_select.specs.inside.Operands.{test_count}
+use Rattle.cyc_select.specs.inside.Hoisting.{is_idle}
+use Rattle.cyc_select.specs.inside.Counts.{function_line, instruction_line, count_of}
 use Rattle.cyc_select.proofs.values.Blocks.{ValuesSame, lasting}
 use Rattle.cyc_select.proofs.layout.Lines.{line_next}
 use Rattle.cyc_select.proofs.effects.Views.{Contents, written}
 use Rattle.cyc_select.proofs.effects.Walks.{Now, now_at}
-use Rattle.cyc_select.proofs.relation.Standing.{preserved_of, Finds, under_way, entering, behind_line, stage_of, Standing, slot_address, standing_registers, standing_at, standing_slot, standing_unkept}
+use Rattle.cyc_select.proofs.relation.Waiting.{preserved_of, Finds, behind_line}
+use Rattle.cyc_select.proofs.relation.Standing.{under_way, entering, stage_of, Standing, slot_address, standing_registers, standing_at, standing_slot, standing_unkept}
 use Rattle.cyc_select.proofs.relation.Values.{Caches, caches_past, made_caches}
 
 -- the registers of what a function returns

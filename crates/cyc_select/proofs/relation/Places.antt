@@ -29,10 +29,11 @@ use Rattle.cyc_select.specs.declared.code.Line.TheVariants as lines
 use Rattle.cyc_select.specs.inside.Labelled.{Labelled, IsFormed}
 use Rattle.cyc_select.specs.inside.Machine as labelled
 use Rattle.cyc_select.specs.inside.Machine.{State, Running}
-use Rattle.cyc_select.specs.inside.Selection.{slot_offset, value_register, is_kept}
+use Rattle.cyc_select.specs.inside.Instructions.{slot_offset}
+use Rattle.cyc_select.specs.inside.Slots.{value_register, is_kept}
 use Rattle.cyc_select.proofs.relation.Cells.{IsCell, IsLive}
-use Rattle.cyc_select.proofs.relation.Standing.{preserved_of, in_frame_at, saved_at, left_same, LeftBy, Stage, frame_size, Chain, Lies, chain_kept, chain_lies, AreRecords, IsBeyond}
-use Rattle.cyc_select.proofs.relation.Standing.{IsNewest, AreBased, based_here, back_in, Standing, lies, word_cell, global_cell, standing_at, standing_slot, standing_global, standing_saved}
+use Rattle.cyc_select.proofs.relation.Waiting.{preserved_of, left_same, LeftBy, frame_size, Chain, Lies, chain_kept, chain_lies, AreRecords, IsBeyond, IsNewest, AreBased, based_here, back_in}
+use Rattle.cyc_select.proofs.relation.Standing.{in_frame_at, saved_at, Stage, Standing, lies, word_cell, global_cell, standing_at, standing_slot, standing_global, standing_saved}
 use Rattle.cyc_select.proofs.relation.Stores.{laid_live}
 use Rattle.cyc_select.proofs.relation.Values.{barred_kept, unbarred}
 use Rattle.cyc_select.proofs.effects.Views.{Contents, written, saved_in, IsWritable, Width, OneWord, OneByte, load_op, store_op, word_place, loaded_part, stored_word}

@@ -21,11 +21,13 @@ use Rattle.cyc_frame.specs.inside.Layout.{frame_at}
 use Rattle.cyc_registers.specs.declared.home.Home.{Home}
 use Rattle.cyc_registers.specs.declared.home.Home.TheVariants as homes
 use Rattle.cyc_select.specs.declared.constants.TheConstants.{FIRST, FRAME}
-use Rattle.cyc_select.specs.inside.Selection.{slot_offset, value_register, or_else, is_kept, made_in, reloads_from, reloads, reload_count}
+use Rattle.cyc_select.specs.inside.Instructions.{slot_offset}
+use Rattle.cyc_select.specs.inside.Slots.{value_register, or_else, is_kept, made_in, reloads_from, reloads}
+use Rattle.cyc_select.specs.inside.Operands.{reload_count}
 use Rattle.cyc_select.proofs.values.Blocks.{ValuesSame}
 use Rattle.cyc_select.proofs.relation.Cells.{IsCell}
 use Rattle.cyc_select.proofs.effects.Views.{Contents}
-use Rattle.cyc_select.proofs.effects.Walks.{after_r, after_w, AreSafe}
+use Rattle.cyc_select.proofs.effects.Sequences.{after_r, after_w, AreSafe}
 use Rattle.cyc_registers.specs.inside.Liveness.{IsLiveAt}
 
 -- ---- homes

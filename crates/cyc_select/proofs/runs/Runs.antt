@@ -41,8 +41,12 @@ use Rattle.cyc_select.specs.inside.Machine.{State, Running, Ended, IsReturnPoint
 use Rattle.cyc_select.specs.declared.constants.TheConstants.{HANDLERS}
 use Rattle.cyc_select.specs.declared.code.Line.{Line}
 use Rattle.cyc_select.specs.declared.code.Line.TheVariants as lines
-use Rattle.cyc_select.specs.inside.Selection.{coming, reload_count, recorded_code, caught_code, opened_code, body, behind, place_lines, is_idle, body_count, behind_count, place_count, ordinary, spills, spills_count, copies_count}
-use Rattle.cyc_select.specs.inside.Selection.{calling_code, function_line, divide_code, divide_count, plan_code, plan_count, is_tested, part_of, count_of, operator_count, instruction_line, saving_code, saving_count}
+use Rattle.cyc_select.specs.inside.Slots.{coming, saving_code, saving_count}
+use Rattle.cyc_select.specs.inside.Operands.{reload_count, divide_count, plan_code, plan_count, is_tested, operator_count}
+use Rattle.cyc_select.specs.inside.Passing.{spills, spills_count, copies_count}
+use Rattle.cyc_select.specs.inside.Hoisting.{is_idle}
+use Rattle.cyc_select.specs.inside.Counts.{body_count, behind_count, place_count, function_line, count_of, instruction_line}
+use Rattle.cyc_select.specs.inside.Selection.{recorded_code, caught_code, opened_code, body, behind, place_lines, ordinary, calling_code, divide_code, part_of}
 use Rattle.cyc_select.proofs.emission.Counts.{length_spills}
 use Rattle.cyc_select.proofs.layout.Lines.{line_next, line_first}
 use Rattle.cyc_select.specs.inside.Numbers.{is_plain_divisor}
@@ -52,10 +56,16 @@ use Rattle.cyc_select.proofs.values.Operations.{product_quotient, product_remain
 use Rattle.cyc_select.proofs.values.Plans.{multiply_divide_result, if_low}
 use Rattle.cyc_select.proofs.relation.Values.{Caches}
 use Rattle.cyc_select.proofs.effects.Views.{Contents}
-use Rattle.cyc_select.proofs.effects.Walks.{Stands, stands_front, stands_back, stands_until, Rises, rising_distinct, rising_inside, comes_map, Quiet, Walk, walk_end, walk_few, walk_to, walk_rest}
-use Rattle.cyc_select.proofs.relation.Standing.{IsNewest, stage_of, Standing, behind_line}
+use Rattle.cyc_select.proofs.effects.Sequences.{Stands, stands_front, stands_back, stands_until, Rises, rising_distinct, rising_inside, comes_map}
+use Rattle.cyc_select.proofs.effects.Walks.{Quiet, Walk, walk_end, walk_few, walk_to, walk_rest}
+use Rattle.cyc_select.proofs.relation.Waiting.{IsNewest, behind_line}
+use Rattle.cyc_select.proofs.relation.Standing.{stage_of, Standing}
 use Rattle.cyc_select.proofs.relation.Matches.{After, At, Ready, Begun, Matches, Reached, Passed, weight, is_straight, HasMore}
-use Rattle.cyc_select.proofs.steps.Simple.{address_goes, move_goes, unary_goes, binary_goes, divide_goes, jump_goes, branch_goes, read_goes, write_goes, load_global_goes, count_lexical_goes, store_global_goes, uncaught_goes}
+use Rattle.cyc_select.proofs.steps.Simple.{move_goes, unary_goes, binary_goes}
+use Rattle.cyc_select.proofs.steps.Divisions.{divide_goes}
+use Rattle.cyc_select.proofs.steps.Branches.{jump_goes, branch_goes}
+use Rattle.cyc_select.proofs.steps.Services.{read_goes, write_goes, uncaught_goes}
+use Rattle.cyc_select.proofs.steps.Globals.{address_goes, load_global_goes, count_lexical_goes, store_global_goes}
 use Rattle.cyc_select.proofs.steps.Accesses.{move_words_goes, load_goes, store_goes, load_byte_goes, store_byte_goes}
 use Rattle.cyc_select.proofs.steps.Requests.{ask_goes}
 use Rattle.cyc_select.proofs.steps.Handlers.{catch_goes, leave_goes, try_goes}
@@ -65,9 +75,9 @@ use Rattle.cyc_select.proofs.steps.Entries.{entered_goes}
 use Rattle.cyc_select.proofs.steps.Calls.{length_ordinary, call_last}
 use Rattle.cyc_select.proofs.steps.Enters.{enter_goes}
 use Rattle.cyc_select.proofs.steps.Passing.{call_goes}
-use Rattle.cyc_select.proofs.steps.Returns.{behind_goes}
+use Rattle.cyc_select.proofs.steps.Behind.{behind_goes}
 use Rattle.cyc_select.proofs.steps.Leaving.{return_goes}
-use Rattle.cyc_select.proofs.layout.Formed.{body_stands, place_inside}
+use Rattle.cyc_select.proofs.layout.Inside.{body_stands, place_inside}
 
 -- ---- the lines of each place
 

@@ -35,14 +35,19 @@ use Rattle.cyc_select.specs.declared.code.Line.TheVariants as lines
 use Rattle.cyc_select.specs.inside.Labelled.{Labelled, IsFormed, AreAddresses}
 use Rattle.cyc_select.specs.inside.Machine as labelled
 use Rattle.cyc_select.specs.inside.Machine.{State, Running, machine, memory_of, word_in, globals_of, start}
-use Rattle.cyc_select.specs.inside.Selection.{slot_offset, body, behind, place_lines, body_count, arithmetic_of, shift_by_of, push_frame, ordinary, start_lines, function_line, instruction_line, load_upper, or_lower, saving_code}
+use Rattle.cyc_select.specs.inside.Instructions.{slot_offset, arithmetic_of, shift_by_of, load_upper, or_lower}
+use Rattle.cyc_select.specs.inside.Slots.{push_frame, saving_code}
+use Rattle.cyc_select.specs.inside.Counts.{body_count, function_line, instruction_line}
+use Rattle.cyc_select.specs.inside.Selection.{body, behind, place_lines, ordinary, start_lines}
 use Rattle.cyc_select.proofs.relation.Arriving.{came_in}
 use Rattle.cyc_select.proofs.relation.Cells.{cell, place_of-data, place_of-stack}
 use Rattle.cyc_select.proofs.Laws.{code_is_lawful}
 use Rattle.cyc_select.proofs.values.Operations.{take_small}
 use Rattle.cyc_select.proofs.effects.Views.{Contents, View}
-use Rattle.cyc_select.proofs.effects.Walks.{Stands, stands_front, stands_back, Rises, comes_map, Quiet, Walk, Now, walk_end, walk_few, walk_block, walk_jump, after_r}
-use Rattle.cyc_select.proofs.relation.Standing.{left_past, preserved_of, entering, frame_size, Standing, slots_fit}
+use Rattle.cyc_select.proofs.effects.Sequences.{Stands, stands_front, stands_back, Rises, comes_map, after_r}
+use Rattle.cyc_select.proofs.effects.Walks.{Quiet, Walk, Now, walk_end, walk_few, walk_block, walk_jump}
+use Rattle.cyc_select.proofs.relation.Waiting.{left_past, preserved_of, frame_size, slots_fit}
+use Rattle.cyc_select.proofs.relation.Standing.{entering, Standing}
 use Rattle.cyc_select.proofs.relation.Stores.{new_laid, new_counted}
 use Rattle.cyc_select.proofs.relation.Matches.{Matches}
 use Rattle.cyc_select.proofs.runs.Runs.{own_of, matching, all_steps}

@@ -33,8 +33,11 @@ use Rattle.cyc_select.specs.inside.Labelled.{Labelled, IsFormed}
 use Rattle.cyc_select.specs.inside.Machine as labelled
 use Rattle.cyc_select.specs.inside.Machine.{State, Running}
 use Rattle.cyc_select.specs.inside.Numbers.{fits_signed}
-use Rattle.cyc_select.specs.inside.Selection.{value_register, is_kept, made_in, keep_code, keep_count, slot_offset, load_words, store_all, result_registers, ordinary, all_moved, moves, moves_count, move_words_count, operand_code}
-use Rattle.cyc_select.specs.inside.Selection.{operand_register, operation_of, far_plan, address_code, address_register, near_half, at_address, address_count, operand_count, body, body_count, instruction_line, load_at, store_at, count_of}
+use Rattle.cyc_select.specs.inside.Instructions.{slot_offset}
+use Rattle.cyc_select.specs.inside.Slots.{value_register, is_kept, made_in, keep_code, load_words, store_all, result_registers}
+use Rattle.cyc_select.specs.inside.Operands.{keep_count, moves_count, operand_code, operand_register, operation_of, far_plan, address_code, address_register, near_half, at_address, address_count, operand_count}
+use Rattle.cyc_select.specs.inside.Counts.{move_words_count, body_count, instruction_line, count_of}
+use Rattle.cyc_select.specs.inside.Selection.{ordinary, all_moved, moves, body, load_at, store_at}
 use Rattle.cyc_select.proofs.values.Blocks.{ValuesSame, all_same, lasting_same, Keeps, puts_keeps}
 use Rattle.cyc_select.proofs.relation.Cells.{IsCell}
 use Rattle.cyc_select.proofs.values.Computing.{IsHeld, operand_puts, operation_leaves, not_second, first_scratch, second_scratch, first_aside, second_aside, scratch_writable, made_scratch}
@@ -44,13 +47,14 @@ use Rattle.cyc_select.proofs.relation.Held.{operand_held, operand_is_word}
 use Rattle.cyc_select.proofs.layout.Lines.{line_next}
 use Rattle.cyc_select.proofs.relation.Matches.{After, At, Reached, reached, result_register, within}
 use Rattle.cyc_select.proofs.steps.Moves.{is_ahead, moved, moved_copied, are_moved}
-use Rattle.cyc_select.proofs.steps.Returns.{same_slots, stored}
+use Rattle.cyc_select.proofs.steps.Behind.{same_slots, stored}
 use Rattle.cyc_select.proofs.steps.Simple.{Agrees, gets, gives_made}
 use Rattle.cyc_select.proofs.relation.Standing.{under_way, Standing, slot_cell, slot_word_is, standing_registers, standing_at, stage_of}
 use Rattle.cyc_select.proofs.relation.Places.{Sort, OfBlock, OfCell, IsWordAt, placed, walk_read, walk_write, is_found}
 use Rattle.cyc_select.proofs.relation.Values.{Caches, caches_past, moved_caches, unbarred, barred_kept, among, not_among}
 use Rattle.cyc_select.proofs.effects.Views.{Contents, Width, OneWord, OneByte, load_op, store_op, word_place, loaded_part, stored_word}
-use Rattle.cyc_select.proofs.effects.Walks.{stored_is_word, Stands, stands_first, stands_behind, after_r, after_w, Walk, now_at, now_is, walk_end, walk_few, walk_from, walk_block}
+use Rattle.cyc_select.proofs.effects.Sequences.{stored_is_word, Stands, stands_first, stands_behind, after_r, after_w}
+use Rattle.cyc_select.proofs.effects.Walks.{Walk, now_at, now_is, walk_end, walk_few, walk_from, walk_block}
 
 -- ---- several words in registers
 

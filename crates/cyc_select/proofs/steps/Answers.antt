@@ -14,10 +14,11 @@ use Rattle.cyc_registers.specs.inside.Interference.{AreHomes}
 use Rattle.cyc_frame.specs.inside.Layout.{AreFrames, frame_at}
 use Rattle.cyc_frame.specs.inside.Frame.{Frame}
 use Rattle.cyc_select.specs.declared.constants.TheConstants.{ZERO, FRAME, LOWEST, HANDLERS, REGIONS, GLOBALS}
-use Rattle.cyc_select.specs.inside.Selection.{value_register, is_kept, made_in, slot_offset, store_slot, copy, give_to, give_code, bring_code, bring_all, result_registers}
+use Rattle.cyc_select.specs.inside.Instructions.{slot_offset, store_slot, copy}
+use Rattle.cyc_select.specs.inside.Slots.{value_register, is_kept, made_in, give_to, give_code, bring_code, bring_all, result_registers}
 use Rattle.cyc_select.proofs.values.Blocks.{lasting_same, safe_append}
 use Rattle.cyc_select.proofs.effects.Views.{Contents, written}
-use Rattle.cyc_select.proofs.effects.Walks.{after_r, after_w, after_r-append, after_w-append, AreSafe}
+use Rattle.cyc_select.proofs.effects.Sequences.{after_r, after_w, after_r-append, after_w-append, AreSafe}
 use Rattle.cyc_select.proofs.relation.Standing.{under_way, Standing, slot_address, slot_cell, standing_registers, standing_slot, standing_unkept}
 use Rattle.cyc_select.proofs.relation.Values.{made_in_is}
 use Rattle.cyc_machine.specs.declared.constants.TheConstants.{RETURN_ADDRESS}

@@ -32,15 +32,21 @@ use Rattle.cyc_select.specs.declared.code.Line.TheVariants as lines
 use Rattle.cyc_select.specs.inside.Labelled.{Labelled, IsFormed, AreAddresses}
 use Rattle.cyc_select.specs.inside.Machine as labelled
 use Rattle.cyc_select.specs.inside.Machine.{State, Running, Ended}
-use Rattle.cyc_select.specs.inside.Selection.{coming, value_register, is_kept, passed_from, copies_count, slot_offset, minus, small, push_frame, copies, ordinary, syscall, calling_code, function_line}
+use Rattle.cyc_select.specs.inside.Instructions.{slot_offset, minus, small, syscall}
+use Rattle.cyc_select.specs.inside.Slots.{coming, value_register, is_kept, push_frame}
+use Rattle.cyc_select.specs.inside.Passing.{passed_from, copies_count, copies}
+use Rattle.cyc_select.specs.inside.Counts.{function_line}
+use Rattle.cyc_select.specs.inside.Selection.{ordinary, calling_code}
 use Rattle.cyc_select.proofs.relation.Cells.{IsCell}
 use Rattle.cyc_select.proofs.emission.Counts.{length_copies}
 use Rattle.cyc_select.proofs.values.Operations.{add_small, take_small}
 use Rattle.cyc_select.proofs.relation.Arriving.{came_in, comes_to_memory}
 use Rattle.cyc_select.proofs.effects.Views.{Contents}
-use Rattle.cyc_select.proofs.effects.Walks.{Stands, stands_front, stands_back, after_r, after_w, Walk, walk_end, walk_few, walk_block, walk_branch, walk_call, walk_full}
+use Rattle.cyc_select.proofs.effects.Sequences.{Stands, stands_front, stands_back, after_r, after_w}
+use Rattle.cyc_select.proofs.effects.Walks.{Walk, walk_end, walk_few, walk_block, walk_branch, walk_call, walk_full}
 use Rattle.cyc_select.proofs.steps.Copies.{Copied, copied_all}
-use Rattle.cyc_select.proofs.relation.Standing.{left_past, left_same, LeftBy, Finds, preserved_of, entering, frame_size, Holds, Chain, IsNewest, Standing, behind_line, IsBack, stage_of, saves_at, lies, chain_kept, slot_inside, word_cell, AreBased, based_here, slots_fit}
+use Rattle.cyc_select.proofs.relation.Waiting.{left_past, left_same, LeftBy, Finds, preserved_of, frame_size, Holds, Chain, IsNewest, behind_line, IsBack, saves_at, chain_kept, AreBased, based_here, slots_fit}
+use Rattle.cyc_select.proofs.relation.Standing.{entering, Standing, stage_of, lies, slot_inside, word_cell}
 use Rattle.cyc_select.proofs.relation.Matches.{After, At, Reached, reached, within}
 
 pub length_ordinary : (is : List Instr) → length (ordinary is) ≡ length is

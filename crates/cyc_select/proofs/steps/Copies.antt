@@ -11,14 +11,16 @@ use Rattle.cyc_plain.specs.inside.State.{Words, put}
 use Rattle.cyc_plain.proofs.SlotLaws.{put-same, put-other}
 use Rattle.cyc_frame.specs.inside.Layout.{slot_word}
 use Rattle.cyc_frame.specs.inside.Frame.{Frame}
-use Rattle.cyc_select.specs.inside.Selection.{value_register, or_else, is_kept, made_in, slot_offset, load, store_slot, copy, keep_code, give_to, is_taken, free_register, passed_from, pass_from, pass, copies, is_own, give_code}
+use Rattle.cyc_select.specs.inside.Instructions.{slot_offset, load, store_slot, copy}
+use Rattle.cyc_select.specs.inside.Slots.{value_register, or_else, is_kept, made_in, keep_code, give_to, is_own, give_code}
+use Rattle.cyc_select.specs.inside.Passing.{is_taken, free_register, passed_from, pass_from, pass, copies}
 use Rattle.cyc_select.proofs.values.Blocks.{safe_append}
 use Rattle.cyc_select.proofs.relation.Cells.{IsCell}
 use Rattle.cyc_select.proofs.values.Operations.{address_at}
 use Rattle.cyc_select.proofs.effects.Views.{Contents}
-use Rattle.cyc_select.proofs.relation.Standing.{frame_size}
+use Rattle.cyc_select.proofs.relation.Waiting.{frame_size}
 use Rattle.cyc_select.proofs.relation.Values.{made_in_is}
-use Rattle.cyc_select.proofs.effects.Walks.{after_r, after_w, after_r-append, after_w-append, AreSafe}
+use Rattle.cyc_select.proofs.effects.Sequences.{after_r, after_w, after_r-append, after_w-append, AreSafe}
 
 not_taken : (callee : Frame) (slot j k : ℕ) → j < slot → is_taken callee slot k ≡ false → made_in callee j ≢ k
 not_taken callee zero j k below free same = omega (arith, below)

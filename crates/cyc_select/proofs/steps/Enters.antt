@@ -25,12 +25,16 @@ use Rattle.cyc_select.specs.declared.code.Line.TheVariants as lines
 use Rattle.cyc_select.specs.inside.Labelled.{Labelled, IsFormed}
 use Rattle.cyc_select.specs.inside.Machine as labelled
 use Rattle.cyc_select.specs.inside.Machine.{State, Running, Ended}
-use Rattle.cyc_select.specs.inside.Selection.{small, ordinary, syscall, room_code, instruction_line}
+use Rattle.cyc_select.specs.inside.Instructions.{small, syscall}
+use Rattle.cyc_select.specs.inside.Counts.{instruction_line}
+use Rattle.cyc_select.specs.inside.Selection.{ordinary, room_code}
 use Rattle.cyc_select.proofs.values.Operations.{add_small}
 use Rattle.cyc_select.proofs.relation.Values.{Caches}
 use Rattle.cyc_select.proofs.effects.Views.{Contents}
-use Rattle.cyc_select.proofs.effects.Walks.{Stands, stands_back, after_r, Walk, walk_end, walk_few, walk_block, walk_branch, walk_full}
-use Rattle.cyc_select.proofs.relation.Standing.{frame_size, Standing, stage_of, lies, based_here, slots_fit}
+use Rattle.cyc_select.proofs.effects.Sequences.{Stands, stands_back, after_r}
+use Rattle.cyc_select.proofs.effects.Walks.{Walk, walk_end, walk_few, walk_block, walk_branch, walk_full}
+use Rattle.cyc_select.proofs.relation.Waiting.{frame_size, based_here, slots_fit}
+use Rattle.cyc_select.proofs.relation.Standing.{Standing, stage_of, lies}
 use Rattle.cyc_select.proofs.relation.Matches.{After, At, Reached, reached_entering}
 
 module _ (program : Program) (well : IsWellFormed program) (frames : List Frame) (fit : AreFrames program frames) (code : Labelled) (formed : IsFormed code) (addresses : ℕ → ℕ) (pages calls : ℕ) (few : calls ≤ 4096)

@@ -17,12 +17,17 @@ use Rattle.cyc_frame.specs.inside.Frame.{Frame}
 use Rattle.cyc_select.specs.declared.constants.TheConstants.{FRAME, LOWEST, HANDLERS, REGIONS, GLOBALS}
 use Rattle.cyc_select.specs.inside.Labelled.{Labelled, IsFormed}
 use Rattle.cyc_select.specs.inside.Machine.{State, Running}
-use Rattle.cyc_select.specs.inside.Selection.{slot_offset, arrivals, ordinary, store, way_code, way_count, saves, saving_code, saving_count, function_line, instruction_line}
+use Rattle.cyc_select.specs.inside.Instructions.{slot_offset, store}
+use Rattle.cyc_select.specs.inside.Slots.{arrivals, way_code, way_count, saves, saving_code, saving_count}
+use Rattle.cyc_select.specs.inside.Counts.{function_line, instruction_line}
+use Rattle.cyc_select.specs.inside.Selection.{ordinary}
 use Rattle.cyc_select.proofs.layout.Lines.{line_first}
 use Rattle.cyc_select.proofs.effects.Views.{Contents}
-use Rattle.cyc_select.proofs.effects.Walks.{Stands, after_r, after_w, after_r-append, after_w-append, AreSafe, Walk, now_at, now_is, walk_few, walk_from, walk_block}
+use Rattle.cyc_select.proofs.effects.Sequences.{Stands, after_r, after_w, after_r-append, after_w-append, AreSafe}
+use Rattle.cyc_select.proofs.effects.Walks.{Walk, now_at, now_is, walk_few, walk_from, walk_block}
 use Rattle.cyc_select.proofs.relation.Cells.{IsCell}
-use Rattle.cyc_select.proofs.relation.Standing.{entering, stage_of, preserved_of, left_past, Lies, IsBack, back_in, Standing, lies, word_cell, return_address, return_cell, slot_address, slot_cell, standing_registers, standing_begun}
+use Rattle.cyc_select.proofs.relation.Waiting.{preserved_of, left_past, Lies, IsBack, back_in}
+use Rattle.cyc_select.proofs.relation.Standing.{entering, stage_of, Standing, lies, word_cell, return_address, return_cell, slot_address, slot_cell, standing_registers, standing_begun}
 use Rattle.cyc_select.proofs.relation.Arriving.{Arrived, arrived, length_arrivals}
 use Rattle.cyc_select.proofs.relation.Matches.{After, Ready, Entered}
 use Rattle.cyc_select.proofs.steps.Preserving.{AreSaved, are_saved, entered_left, length_saves}

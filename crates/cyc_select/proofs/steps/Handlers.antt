@@ -28,7 +28,11 @@ use Rattle.cyc_select.specs.declared.code.Line.TheVariants as lines
 use Rattle.cyc_select.specs.inside.Labelled.{Labelled, IsFormed, AreAddresses}
 use Rattle.cyc_select.specs.inside.Machine as labelled
 use Rattle.cyc_select.specs.inside.Machine.{State, Running, IsReturnPoint}
-use Rattle.cyc_select.specs.inside.Selection.{reloads, reload_count, ordinary, load, slot_offset, store_all, recorded_code, caught_code, opened_code, body, instruction_line}
+use Rattle.cyc_select.specs.inside.Instructions.{load, slot_offset}
+use Rattle.cyc_select.specs.inside.Slots.{reloads, store_all}
+use Rattle.cyc_select.specs.inside.Operands.{reload_count}
+use Rattle.cyc_select.specs.inside.Counts.{instruction_line}
+use Rattle.cyc_select.specs.inside.Selection.{ordinary, recorded_code, caught_code, opened_code, body}
 use Rattle.cyc_select.proofs.values.Blocks.{lasting_same, safe_append}
 use Rattle.cyc_select.proofs.steps.Calls.{length_ordinary}
 use Rattle.cyc_select.proofs.relation.Cells.{IsCell}
@@ -36,10 +40,12 @@ use Rattle.cyc_select.proofs.layout.Lines.{line_next}
 use Rattle.cyc_select.proofs.relation.Matches.{After, At, Landed, Reached, reached, within}
 use Rattle.cyc_select.proofs.values.Operations.{add_small}
 use Rattle.cyc_select.proofs.steps.Requests.{are_stored}
-use Rattle.cyc_select.proofs.relation.Standing.{left_same, preserved_of, under_way, Stage, Lies, IsNewest, stage_of, saves_at, Standing, lies, slot_inside, slot_address, slot_cell, slot_word_is, standing_registers, standing_handlers, standing_at, standing_slot}
+use Rattle.cyc_select.proofs.relation.Waiting.{left_same, preserved_of, Lies, IsNewest, saves_at}
+use Rattle.cyc_select.proofs.relation.Standing.{under_way, Stage, stage_of, Standing, lies, slot_inside, slot_address, slot_cell, slot_word_is, standing_registers, standing_handlers, standing_at, standing_slot}
 use Rattle.cyc_select.proofs.relation.Values.{Caches, caches_past, barred_kept, unbarred, among, not_among, length_reloads, reloaded}
 use Rattle.cyc_select.proofs.effects.Views.{Contents, written}
-use Rattle.cyc_select.proofs.effects.Walks.{Stands, stands_front, stands_back, after_r, after_w, after_r-append, after_w-append, AreSafe, Walk, now_at, now_is, walk_end, walk_few, walk_block, walk_jump, walk_call}
+use Rattle.cyc_select.proofs.effects.Sequences.{Stands, stands_front, stands_back, after_r, after_w, after_r-append, after_w-append, AreSafe}
+use Rattle.cyc_select.proofs.effects.Walks.{Walk, now_at, now_is, walk_end, walk_few, walk_block, walk_jump, walk_call}
 use Rattle.cyc_select.proofs.steps.Records.{record_words, recorded, recorded_is, holds_four}
 
 module _ (program : Program) (well : IsWellFormed program) (frames : List Frame) (fit : AreFrames program frames) (code : Labelled) (formed : IsFormed code) (addresses : ℕ → ℕ) (pages calls : ℕ) (few : calls ≤ 4096)

@@ -40,14 +40,16 @@ use Rattle.cyc_select.specs.inside.Labelled.{Labelled, is_ordinary}
 use Rattle.cyc_select.specs.inside.Machine.{Configuration, State, Running, Ended, Stopped, Step, ExecutesAt, Performs, PerformsOrdinary, settled, closed, from_world, machine_of, world_of, at, holds_of}
 use Rattle.cyc_select.specs.inside.Numbers.{fits_signed, is_zero_word}
 use Rattle.cyc_select.specs.inside.Plans.{unary_plan, binary_plan, test_of}
-use Rattle.cyc_select.specs.inside.Selection.{value_register, made_in, keep_code, give_code, is_own, add_immediate, minus, syscall, small, or_immediate, load_upper, constant, copy, word_code, load_code, load_from, fetch_from, operand_code, operand_register}
-use Rattle.cyc_select.specs.inside.Selection.{operands_code, operation_code, outcome_code, operation_of, computed_code, plan_code, test_code, global_code, move_to, divided_code, divide_code, part_of}
-use Rattle.cyc_select.specs.inside.Selection.{ordinary, body, is_idle, is_tested, condition_of, with_hoisted, word_first, slot_first, operand_first, operands_first, operation_first, plan_first, divided_first, test_first, copy_first, load_first, move_first}
-use Rattle.cyc_select.specs.inside.Selection.{first_line, given_register, own_register, target_of, tests_register, is_spare, may_write, copied_if, hoisted_at, hoisted}
+use Rattle.cyc_select.specs.inside.Instructions.{add_immediate, minus, syscall, small, load_upper, constant, copy}
+use Rattle.cyc_select.specs.inside.Slots.{value_register, made_in, keep_code, give_code, is_own, load_from, global_code}
+use Rattle.cyc_select.specs.inside.Operands.{or_immediate, word_code, load_code, fetch_from, operand_code, operand_register, operands_code, operation_code, outcome_code, operation_of, computed_code, plan_code, test_code, is_tested, condition_of}
+use Rattle.cyc_select.specs.inside.Hoisting.{is_idle, with_hoisted, word_first, slot_first, operand_first, operands_first, operation_first, plan_first, divided_first, test_first, copy_first, load_first, move_first, first_line, given_register, own_register, target_of, tests_register, is_spare}
+use Rattle.cyc_select.specs.inside.Hoisting.{may_write, copied_if, hoisted_at, hoisted}
+use Rattle.cyc_select.specs.inside.Selection.{move_to, divided_code, divide_code, part_of, ordinary, body}
 use Rattle.cyc_select.proofs.emission.Counts.{length_test}
 use Rattle.cyc_select.proofs.values.Blocks.{IsScratch}
 use Rattle.cyc_select.proofs.effects.Views.{Contents, does_r, does_w, IsSafe, IsWritable, moved}
-use Rattle.cyc_select.proofs.effects.Walks.{Stands}
+use Rattle.cyc_select.proofs.effects.Sequences.{Stands}
 use Rattle.cyc_select.proofs.relation.Matches.{HasMore}
 
 -- ---- a line that makes a word of what is in registers

@@ -29,7 +29,9 @@ use Rattle.cyc_registers.specs.inside.Idle.{IsIdle, IsThere, IsUnused, NeverHold
 use Rattle.cyc_frame.specs.inside.Layout.{AreFrames, frame_at}
 use Rattle.cyc_select.specs.inside.Labelled.{Labelled, IsFormed}
 use Rattle.cyc_select.specs.inside.Machine.{State}
-use Rattle.cyc_select.specs.inside.Selection.{value_register, instruction_line, behind_count, body_count, is_idle}
+use Rattle.cyc_select.specs.inside.Slots.{value_register}
+use Rattle.cyc_select.specs.inside.Hoisting.{is_idle}
+use Rattle.cyc_select.specs.inside.Counts.{instruction_line, behind_count, body_count}
 use Rattle.cyc_select.proofs.effects.Walks.{now_at}
 use Rattle.cyc_select.proofs.layout.Lines.{line_next}
 use Rattle.cyc_select.proofs.relation.Matches.{Ready, Passed, steps_to, within}

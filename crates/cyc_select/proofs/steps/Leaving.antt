@@ -23,13 +23,18 @@ use Rattle.cyc_select.specs.declared.code.Line.TheVariants as lines
 use Rattle.cyc_select.specs.inside.Labelled.{Labelled, IsFormed, AreAddresses}
 use Rattle.cyc_select.specs.inside.Machine as labelled
 use Rattle.cyc_select.specs.inside.Machine.{State, Running, IsReturnPoint}
-use Rattle.cyc_select.specs.inside.Selection.{value_register, load, ordinary, ending_code, ending_count, returning_code, instruction_line, way_count}
+use Rattle.cyc_select.specs.inside.Instructions.{load}
+use Rattle.cyc_select.specs.inside.Slots.{value_register, way_count}
+use Rattle.cyc_select.specs.inside.Counts.{ending_count, instruction_line}
+use Rattle.cyc_select.specs.inside.Selection.{ordinary, ending_code, returning_code}
 use Rattle.cyc_select.proofs.values.Computing.{HeldIn}
 use Rattle.cyc_select.proofs.relation.Held.{slot_held}
 use Rattle.cyc_select.proofs.relation.Values.{Caches, among}
 use Rattle.cyc_select.proofs.effects.Views.{Contents}
-use Rattle.cyc_select.proofs.effects.Walks.{Stands, Walk, walk_few, walk_block}
-use Rattle.cyc_select.proofs.relation.Standing.{IsBack, stage_of, Standing, behind_line, return_cell, return_address, standing_registers}
+use Rattle.cyc_select.proofs.effects.Sequences.{Stands}
+use Rattle.cyc_select.proofs.effects.Walks.{Walk, walk_few, walk_block}
+use Rattle.cyc_select.proofs.relation.Waiting.{IsBack, behind_line}
+use Rattle.cyc_select.proofs.relation.Standing.{stage_of, Standing, return_cell, return_address, standing_registers}
 use Rattle.cyc_select.proofs.relation.Matches.{After, At, Reached}
 use Rattle.cyc_select.proofs.steps.Returns.{loaded, returning_goes}
 

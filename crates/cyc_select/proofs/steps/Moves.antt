@@ -17,13 +17,16 @@ use Rattle.cyc_plain.proofs.SlotLaws.{put-same, put-other, copied-inside, copied
 use Rattle.cyc_frame.specs.inside.Frame.{Frame}
 use Rattle.cyc_registers.specs.inside.Interference.{AreHomes}
 use Rattle.cyc_frame.specs.inside.Layout.{AreFrames, frame_at}
-use Rattle.cyc_select.specs.inside.Selection.{value_register, is_kept, made_in, slot_offset, store_slot, load_code, operand_code, operand_register, move_to, moves}
+use Rattle.cyc_select.specs.inside.Instructions.{slot_offset, store_slot}
+use Rattle.cyc_select.specs.inside.Slots.{value_register, is_kept, made_in}
+use Rattle.cyc_select.specs.inside.Operands.{load_code, operand_code, operand_register}
+use Rattle.cyc_select.specs.inside.Selection.{move_to, moves}
 use Rattle.cyc_select.proofs.values.Blocks.{lasting, Puts, Keeps, puts_keeps, safe_append}
 use Rattle.cyc_select.proofs.values.Computing.{HeldIn, load_puts, operand_puts, first_scratch, first_aside, made_scratch}
 use Rattle.cyc_select.proofs.relation.Standing.{under_way, Standing, slot_address, slot_cell, slot_word_is, standing_registers, standing_slot, standing_unkept}
 use Rattle.cyc_select.proofs.relation.Values.{memory_kept, made_in_is}
 use Rattle.cyc_select.proofs.effects.Views.{Contents, written}
-use Rattle.cyc_select.proofs.effects.Walks.{after_r, after_w, after_r-append, after_w-append, AreSafe}
+use Rattle.cyc_select.proofs.effects.Sequences.{after_r, after_w, after_r-append, after_w-append, AreSafe}
 
 -- ---- slots
 

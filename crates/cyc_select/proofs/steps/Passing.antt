@@ -20,17 +20,23 @@ use Rattle.cyc_frame.specs.inside.Frame.{Frame}
 use Rattle.cyc_select.specs.inside.Labelled.{Labelled, IsFormed, AreAddresses}
 use Rattle.cyc_select.specs.inside.Machine as labelled
 use Rattle.cyc_select.specs.inside.Machine.{Running}
-use Rattle.cyc_select.specs.inside.Selection.{coming, value_register, is_kept, made_in, slot_offset, store_slot, passed_from, spill_from, spill, spills, spills_count, copies_count, ordinary, calling_code, function_line, instruction_line, body, body_count}
+use Rattle.cyc_select.specs.inside.Instructions.{slot_offset, store_slot}
+use Rattle.cyc_select.specs.inside.Slots.{coming, value_register, is_kept, made_in}
+use Rattle.cyc_select.specs.inside.Passing.{passed_from, spill_from, spill, spills, spills_count, copies_count}
+use Rattle.cyc_select.specs.inside.Counts.{function_line, instruction_line, body_count}
+use Rattle.cyc_select.specs.inside.Selection.{ordinary, calling_code, body}
 use Rattle.cyc_select.proofs.values.Blocks.{safe_append}
 use Rattle.cyc_select.proofs.steps.Calls.{length_ordinary, calling_goes}
 use Rattle.cyc_select.proofs.steps.Copies.{is_free}
 use Rattle.cyc_select.proofs.emission.Counts.{length_spills}
-use Rattle.cyc_select.proofs.steps.Returns.{same_slots}
-use Rattle.cyc_select.proofs.relation.Standing.{preserved_of, Finds, Stage, Standing, behind_line, slot_address, slot_cell, standing_slot, stage_of}
+use Rattle.cyc_select.proofs.steps.Behind.{same_slots}
+use Rattle.cyc_select.proofs.relation.Waiting.{preserved_of, Finds, behind_line}
+use Rattle.cyc_select.proofs.relation.Standing.{Stage, Standing, slot_address, slot_cell, standing_slot, stage_of}
 use Rattle.cyc_select.proofs.relation.Matches.{After, At, Reached}
 use Rattle.cyc_select.proofs.relation.Values.{Caches, memory_kept, made_in_is, among}
 use Rattle.cyc_select.proofs.effects.Views.{Contents, written}
-use Rattle.cyc_select.proofs.effects.Walks.{Stands, stands_front, stands_back, after_r, after_w, after_r-append, after_w-append, AreSafe, Walk, now_at, now_is, walk_few, walk_from, walk_block}
+use Rattle.cyc_select.proofs.effects.Sequences.{Stands, stands_front, stands_back, after_r, after_w, after_r-append, after_w-append, AreSafe}
+use Rattle.cyc_select.proofs.effects.Walks.{Walk, now_at, now_is, walk_few, walk_from, walk_block}
 
 module _ (program : Program) (well : IsWellFormed program) (frames : List Frame) (fit : AreFrames program frames) (addresses : ℕ → ℕ) (pages calls : ℕ) (few : calls ≤ 4096)
     (c : Configuration) (r : Words) (base back : ℕ) (stage : Stage) (callee : ℕ) (known : c.active.function < length program.functions) where

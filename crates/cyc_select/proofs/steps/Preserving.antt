@@ -7,11 +7,11 @@ use Rattle.cyc_plain.specs.declared.limits.TheConstants.{MOST_FRAME_WORDS}
 use Rattle.cyc_plain.specs.inside.State.{Words, put}
 use Rattle.cyc_plain.proofs.SlotLaws.{put-same, put-other}
 use Rattle.cyc_select.specs.declared.constants.TheConstants.{FRAME}
-use Rattle.cyc_select.specs.inside.Selection.{saves_from, restores_from}
+use Rattle.cyc_select.specs.inside.Slots.{saves_from, restores_from}
 use Rattle.cyc_select.proofs.effects.Views.{Contents, written}
-use Rattle.cyc_select.proofs.effects.Walks.{after_r, after_w, AreSafe}
+use Rattle.cyc_select.proofs.effects.Sequences.{after_r, after_w, AreSafe}
 use Rattle.cyc_select.proofs.relation.Cells.{IsCell}
-use Rattle.cyc_select.proofs.relation.Standing.{frame_size, preserved_of, Left, left_past, left_inside}
+use Rattle.cyc_select.proofs.relation.Waiting.{frame_size, preserved_of, Left, left_past, left_inside}
 use Rattle.cyc_select.proofs.values.Operations.{address_at}
 
 pub length_saves : (first j count : ℕ) → length (saves_from first j count) ≡ count

@@ -35,7 +35,11 @@ use Rattle.cyc_select.specs.declared.constants.TheConstants.{LOWEST, FRAME, HAND
 use Rattle.cyc_select.specs.inside.Labelled.{Labelled, IsFormed}
 use Rattle.cyc_select.specs.inside.Machine as labelled
 use Rattle.cyc_select.specs.inside.Machine.{State, Running, Ended}
-use Rattle.cyc_select.specs.inside.Selection.{ordinary, value_register, small, syscall, slot_offset, store_all, result_registers, argument_code, argument_count, service_number, answer_code, regions_code, regions_count, gives_count, ask_count, body, instruction_line}
+use Rattle.cyc_select.specs.inside.Instructions.{small, syscall, slot_offset}
+use Rattle.cyc_select.specs.inside.Slots.{value_register, store_all, result_registers}
+use Rattle.cyc_select.specs.inside.Operands.{gives_count}
+use Rattle.cyc_select.specs.inside.Counts.{argument_count, regions_count, ask_count, instruction_line}
+use Rattle.cyc_select.specs.inside.Selection.{ordinary, argument_code, service_number, answer_code, regions_code, body}
 use Rattle.cyc_select.proofs.steps.Answers.{put_all, results_low, AreBrought, are_brought}
 use Rattle.cyc_select.proofs.values.Blocks.{ValuesSame, safe_append}
 use Rattle.cyc_select.proofs.values.Computing.{IsHeld, load_puts}
@@ -49,7 +53,8 @@ use Rattle.cyc_select.proofs.relation.Standing.{Stage, Standing, slot_address, s
 use Rattle.cyc_select.proofs.relation.Stores.{lexical_opened, lexical_besides, lexical_left, lexical_made, lexical_closed, marks_few, IsLaid, served_laid, served_words}
 use Rattle.cyc_select.proofs.relation.Values.{Caches, live_earlier, among, outside_among}
 use Rattle.cyc_select.proofs.effects.Views.{Contents, IsWritable, written, answered_r}
-use Rattle.cyc_select.proofs.effects.Walks.{Stands, stands_first, stands_behind, after_r, after_w, AreSafe, after_r-append, after_w-append, Walk, now_at, now_is, walk_few, walk_block, walk_served, walk_no_room, comes_block, lines_from, lines_rise}
+use Rattle.cyc_select.proofs.effects.Sequences.{Stands, stands_first, stands_behind, after_r, after_w, AreSafe, after_r-append, after_w-append}
+use Rattle.cyc_select.proofs.effects.Walks.{Walk, now_at, now_is, walk_few, walk_block, walk_served, walk_no_room, comes_block, lines_from, lines_rise}
 use Rattle.cyc_registers.specs.inside.Liveness.{IsLiveAt}
 
 -- ---- what is asked, and what is answered

@@ -31,7 +31,11 @@ use Rattle.cyc_select.specs.declared.code.Line.TheVariants as lines
 use Rattle.cyc_select.specs.inside.Labelled.{Labelled, IsFormed, AreAddresses}
 use Rattle.cyc_select.specs.inside.Machine as labelled
 use Rattle.cyc_select.specs.inside.Machine.{State, Running, Ended, IsReturnPoint}
-use Rattle.cyc_select.specs.inside.Selection.{is_kept, ordinary, small, syscall, load_code, load_count, slot_offset, load_record, unwound_code, body, instruction_line}
+use Rattle.cyc_select.specs.inside.Instructions.{small, syscall, slot_offset}
+use Rattle.cyc_select.specs.inside.Slots.{is_kept}
+use Rattle.cyc_select.specs.inside.Operands.{load_code, load_count}
+use Rattle.cyc_select.specs.inside.Counts.{instruction_line}
+use Rattle.cyc_select.specs.inside.Selection.{ordinary, load_record, unwound_code, body}
 use Rattle.cyc_select.proofs.values.Blocks.{lasting, newest_lasts, count_lasts, middle_lasts, Puts}
 use Rattle.cyc_select.proofs.steps.Calls.{length_ordinary}
 use Rattle.cyc_select.proofs.relation.Cells.{IsCell}
@@ -40,10 +44,12 @@ use Rattle.cyc_select.proofs.emission.Counts.{length_load}
 use Rattle.cyc_select.proofs.relation.Held.{operand_held}
 use Rattle.cyc_select.proofs.relation.Matches.{After, At, Landed, Reached, reached, within}
 use Rattle.cyc_select.proofs.values.Operations.{add_small, address_at}
-use Rattle.cyc_select.proofs.relation.Standing.{opens_at, left_past, left_same, LeftBy, preserved_of, under_way, frame_size, Chain, Lies, IsRecord, IsNewest, IsBack, stage_of, saves_at, Standing, lies, slot_inside, word_cell}
+use Rattle.cyc_select.proofs.relation.Waiting.{opens_at, left_past, left_same, LeftBy, preserved_of, frame_size, Chain, Lies, IsRecord, IsNewest, IsBack, saves_at}
+use Rattle.cyc_select.proofs.relation.Standing.{under_way, stage_of, Standing, lies, slot_inside, word_cell}
 use Rattle.cyc_select.proofs.relation.Values.{Caches, barred_kept, among}
 use Rattle.cyc_select.proofs.effects.Views.{Contents}
-use Rattle.cyc_select.proofs.effects.Walks.{Stands, stands_front, stands_back, stands_first, stands_behind, after_r, after_w, Walk, now_is, walk_end, walk_few, walk_block, walk_branch, walk_return, walk_uncaught}
+use Rattle.cyc_select.proofs.effects.Sequences.{Stands, stands_front, stands_back, stands_first, stands_behind, after_r, after_w}
+use Rattle.cyc_select.proofs.effects.Walks.{Walk, now_is, walk_end, walk_few, walk_block, walk_branch, walk_return, walk_uncaught}
 use Rattle.cyc_select.proofs.steps.Records.{Holds4, holds_four}
 
 module _ (program : Program) (well : IsWellFormed program) (frames : List Frame) (fit : AreFrames program frames) (code : Labelled) (formed : IsFormed code) (addresses : ℕ → ℕ) (pages calls : ℕ) (few : calls ≤ 4096)

@@ -5,7 +5,7 @@ use Rattle.cyc_machine.specs.declared.constants.TheConstants.{RETURN_ADDRESS}
 use Rattle.cyc_plain.specs.inside.State.{Words}
 use Rattle.cyc_select.specs.declared.constants.TheConstants.{ZERO, FRAME, LOWEST, HANDLERS, REGIONS, GLOBALS}
 use Rattle.cyc_select.proofs.effects.Views.{Contents, does_r, does_w}
-use Rattle.cyc_select.proofs.effects.Walks.{after_r, after_w, AreSafe, after_r-append, after_w-append}
+use Rattle.cyc_select.proofs.effects.Sequences.{after_r, after_w, AreSafe, after_r-append, after_w-append}
 
 -- what stays in registers from call to call: the address of the newest handler's record, how many lexical regions are open,
 -- and the address that the first globals are reached from

@@ -25,15 +25,17 @@ use Rattle.cyc_select.specs.declared.plan.Outcome.{Outcome}
 use Rattle.cyc_select.specs.declared.plan.Outcome.TheVariants as outcomes
 use Rattle.cyc_select.specs.declared.plan.Plan.{Plan}
 use Rattle.cyc_select.specs.inside.Numbers.{fits_signed, is_zero_word}
-use Rattle.cyc_select.specs.inside.Selection.{slot_offset, load, load_from, fetch_from, value_register, or_else, made_in, small, or_immediate, load_upper, constant, word_code, load_code, operand_code}
-use Rattle.cyc_select.specs.inside.Selection.{operand_register, operands_code, operation_code, outcome_code, operation_of, computed_code, multiply_divide_of, divided_code, add_immediate, minus}
+use Rattle.cyc_select.specs.inside.Instructions.{slot_offset, load, small, load_upper, constant, multiply_divide_of, add_immediate, minus}
+use Rattle.cyc_select.specs.inside.Slots.{load_from, value_register, or_else, made_in}
+use Rattle.cyc_select.specs.inside.Operands.{fetch_from, or_immediate, word_code, load_code, operand_code, operand_register, operands_code, operation_code, outcome_code, operation_of, computed_code}
+use Rattle.cyc_select.specs.inside.Selection.{divided_code}
 use Rattle.cyc_select.proofs.values.Blocks.{ValuesSame, IsAside, all_same, Puts, Keeps, IsScratch, puts_keeps, keeps_append, after_both}
 use Rattle.cyc_select.proofs.relation.Cells.{IsCell}
 use Rattle.cyc_select.proofs.values.Halves.{fits_is, zero_is}
 use Rattle.cyc_select.proofs.values.Operations.{two_halves, zero_test, not_zero_test}
 use Rattle.cyc_select.proofs.values.Plans.{operation_result, outcome_result, operation_word, plan_word}
 use Rattle.cyc_select.proofs.effects.Views.{Contents, IsWritable, does_r}
-use Rattle.cyc_select.proofs.effects.Walks.{after_r, after_w}
+use Rattle.cyc_select.proofs.effects.Sequences.{after_r, after_w}
 
 module _ (globals stack : ℕ) where
   -- ---- words

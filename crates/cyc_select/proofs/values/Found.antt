@@ -12,7 +12,7 @@ use Rattle.cyc_frame.specs.inside.Frame.{Frame}
 use Rattle.cyc_select.specs.declared.plan.Test.{Test}
 use Rattle.cyc_select.specs.declared.plan.Test.TheVariants as tests
 use Rattle.cyc_select.specs.inside.Plans.{binary_plan, test_of}
-use Rattle.cyc_select.specs.inside.Selection.{is_tested}
+use Rattle.cyc_select.specs.inside.Operands.{is_tested}
 use Rattle.cyc_select.specs.inside.Emission.{IsReached, AreReached, IsFound, IsArgumentFound, IsRequestFound, IsPlanFound, IsTestFound}
 use Rattle.cyc_select.proofs.values.Plans.{AllOfTest, all_binary, all_test}
 

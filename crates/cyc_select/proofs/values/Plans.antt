@@ -44,7 +44,7 @@ use Rattle.cyc_select.specs.declared.plan.Test.TheVariants as tests
 use Rattle.cyc_select.specs.inside.Numbers.{signed_half, negated_half, next_half, low_half, is_zero_word, is_plain_divisor, shift_amount, power_of}
 use Rattle.cyc_select.specs.inside.Plans.{arithmetic_plan, immediate_plan, immediate_or, shift_by, multiply_divide_plan, product_or, mirrored, zero_plan, differs_plan, equal_plan, less_plan, less_unsigned_plan, at_most_plan}
 use Rattle.cyc_select.specs.inside.Plans.{compared_plan, is_mirrored, comparison_plan, unary_plan, sum_plan, difference_plan, bits_plan, operator_plan, is_swapped, binary_plan, sign_of, sign_or, order_test, test_of}
-use Rattle.cyc_select.specs.inside.Selection.{branch_on, is_tested}
+use Rattle.cyc_select.specs.inside.Operands.{branch_on, is_tested}
 use Rattle.cyc_select.proofs.values.Halves.{signed_is, negated_is, next_is, next_not_greatest, low_is, zero_is, amount_is, power_is, signed_fits, negated_half_fits, next_fits, low_fits, next_signed}
 use Rattle.cyc_select.proofs.values.Operations.{zero_test, not_zero_test, difference_zero, low_product}
 

@@ -7,9 +7,9 @@ use Rattle.cyc_machine.specs.State.{data_base, globals_length}
 use Rattle.cyc_plain.specs.inside.State.{Words}
 use Rattle.cyc_plain.proofs.SlotLaws.{put-other}
 use Rattle.cyc_select.specs.declared.constants.TheConstants.{GLOBALS, GLOBALS_MIDDLE, NEAR_GLOBALS, SECOND}
-use Rattle.cyc_select.specs.inside.Selection.{global_address, is_near, upper_of_global}
+use Rattle.cyc_select.specs.inside.Slots.{global_address, is_near, upper_of_global}
 use Rattle.cyc_select.proofs.effects.Views.{Contents}
-use Rattle.cyc_select.proofs.effects.Walks.{after_r}
+use Rattle.cyc_select.proofs.effects.Sequences.{after_r}
 use Rattle.cyc_select.proofs.values.Blocks.{Puts, Keeps, puts_keeps}
 use Rattle.cyc_select.proofs.values.Computing.{second_scratch, second_aside}
 use Rattle.cyc_select.proofs.values.Operations.{global_lies, near_lies}

@@ -14,7 +14,8 @@ use Rattle.cyc_frame.specs.inside.Layout.{AreFrames, frame_at, slot_word}
 use Rattle.cyc_frame.specs.inside.Frame.{Frame}
 use Rattle.cyc_select.specs.declared.constants.TheConstants.{START_LINES}
 use Rattle.cyc_select.specs.declared.code.Line.{Line}
-use Rattle.cyc_select.specs.inside.Selection.{saving_count, count_of, function_count, function_line}
+use Rattle.cyc_select.specs.inside.Slots.{saving_count}
+use Rattle.cyc_select.specs.inside.Counts.{count_of, function_count, function_line}
 use Rattle.cyc_select.specs.declared.emitter.Emitter.{Emitter}
 use Rattle.cyc_select.specs.declared.plan.Plan.{Plan}
 use Rattle.cyc_select.specs.declared.plan.Test.{Test}

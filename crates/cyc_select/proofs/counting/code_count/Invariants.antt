@@ -1,7 +1,7 @@
 use Rattle.std.proofs.Common.{◌≡◌, ◌+◌, ◌≤◌, drop}
 use Rattle.std.specs.Prelude.{sum_by}
 use Rattle.cyc_plain.specs.inside.Program.{instruction_size}
-use Rattle.cyc_select.specs.inside.Selection.{code_count}
+use Rattle.cyc_select.specs.inside.Counts.{code_count}
 use Rattle.cyc_select.proofs.counting.code_count.Given as goal
 
 -- the lines so far, with those of the other instructions, are all of them

@@ -1,5 +1,6 @@
 use Rattle.std.proofs.Common.{◌≡◌, ◌+◌, ◌-◌, ◌*◌, ◌≤◌}
-use Rattle.cyc_select.specs.inside.Selection.{coming, copies_count}
+use Rattle.cyc_select.specs.inside.Slots.{coming}
+use Rattle.cyc_select.specs.inside.Passing.{copies_count}
 use Rattle.cyc_select.proofs.counting.copies_count.Given as goal
 
 -- the lines so far, with those of the other arguments, are all of them

@@ -3,7 +3,8 @@ use Rattle.cyc_frame.specs.inside.Frame.{Frame}
 use Rattle.cyc_frame.specs.inside.Layout.{frame_at}
 use Rattle.cyc_plain.specs.declared.limits.TheConstants.{MOST_FRAME_WORDS}
 use Rattle.cyc_registers.specs.declared.home.TheConstants.{MOST_BOTH, MOST_SAVED}
-use Rattle.cyc_select.specs.inside.Selection.{reload_count, arrival_count}
+use Rattle.cyc_select.specs.inside.Slots.{arrival_count}
+use Rattle.cyc_select.specs.inside.Operands.{reload_count}
 use Rattle.cyc_select.proofs.emission.Numbering.{arrivals_few}
 use Rattle.cyc_plain.specs.inside.Program.{routine_at}
 use Rattle.cyc_select.proofs.counting.frame_in.Goals as goal

@@ -1,7 +1,8 @@
 use Rattle.std.proofs.Common.{ap, ◌∙◌, arith}
 use Rattle.cyc_plain.specs.inside.Program.{routine_at}
 use Rattle.cyc_frame.specs.inside.Layout.{frame_at}
-use Rattle.cyc_select.specs.inside.Selection.{saving_count, code_count}
+use Rattle.cyc_select.specs.inside.Slots.{saving_count}
+use Rattle.cyc_select.specs.inside.Counts.{code_count}
 use Rattle.cyc_select.proofs.emission.Numbering.{reads_few, is_saving, routine_small}
 use Rattle.cyc_select.proofs.counting.function_count.Goals as goal
 

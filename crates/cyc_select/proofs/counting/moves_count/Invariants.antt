@@ -1,5 +1,5 @@
 use Rattle.std.proofs.Common.{◌≡◌, ◌+◌, ◌-◌, ◌*◌, ◌≤◌}
-use Rattle.cyc_select.specs.inside.Selection.{moves_count}
+use Rattle.cyc_select.specs.inside.Operands.{moves_count}
 use Rattle.cyc_select.proofs.counting.moves_count.Given as goal
 
 -- the lines so far, with those of the other words, are all of them

@@ -1,5 +1,6 @@
 use Rattle.std.proofs.Common.{◌≡◌, ◌+◌, ◌-◌, ◌≤◌}
-use Rattle.cyc_select.specs.inside.Selection.{coming, spills_count}
+use Rattle.cyc_select.specs.inside.Slots.{coming}
+use Rattle.cyc_select.specs.inside.Passing.{spills_count}
 use Rattle.cyc_select.proofs.counting.spills_count.Given as goal
 
 -- the lines so far, with those of the other slots, are all of them

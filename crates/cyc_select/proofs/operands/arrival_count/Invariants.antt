@@ -1,7 +1,7 @@
 use Rattle.std.proofs.Common.{◌≡◌, ◌+◌, drop, take}
 use Rattle.std.specs.Prelude.{sum_by}
 use Rattle.cyc_registers.specs.inside.Interference.{saved_count}
-use Rattle.cyc_select.specs.inside.Selection.{arrival_count}
+use Rattle.cyc_select.specs.inside.Slots.{arrival_count}
 use Rattle.cyc_select.proofs.operands.arrival_count.Given as goal
 
 -- those so far, with those of the other parameters, are all of them

@@ -1,5 +1,6 @@
 use Rattle.std.proofs.Common.{◌≡◌}
-use Rattle.cyc_select.specs.inside.Selection.{coming, is_taken}
+use Rattle.cyc_select.specs.inside.Slots.{coming}
+use Rattle.cyc_select.specs.inside.Passing.{is_taken}
 use Rattle.cyc_select.proofs.operands.is_taken.Given as goal
 
 -- the parameters so far

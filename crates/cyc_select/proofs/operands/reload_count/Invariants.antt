@@ -1,7 +1,7 @@
 use Rattle.std.proofs.Common.{◌≡◌, ◌+◌, drop}
 use Rattle.std.specs.Prelude.{sum_by}
 use Rattle.cyc_registers.specs.inside.Interference.{both_count}
-use Rattle.cyc_select.specs.inside.Selection.{reload_count}
+use Rattle.cyc_select.specs.inside.Operands.{reload_count}
 use Rattle.cyc_select.proofs.operands.reload_count.Given as goal
 
 -- those so far, with those of the other slots, are all of them

@@ -5,7 +5,8 @@ use Rattle.cyc_frame.specs.inside.Frame.{Frame}
 use Rattle.cyc_select.specs.declared.constants.TheConstants.{START_LINES}
 use Rattle.cyc_select.specs.declared.code.Line.{Line}
 use Rattle.cyc_select.specs.inside.Labelled.{Labelled, IsCode}
-use Rattle.cyc_select.specs.inside.Selection.{start_code, function_line, function_lines, select_of}
+use Rattle.cyc_select.specs.inside.Counts.{function_line}
+use Rattle.cyc_select.specs.inside.Selection.{start_code, function_lines, select_of}
 use Rattle.cyc_select.specs.inside.Emission.{function_starts}
 use Rattle.cyc_select.proofs.emission.Numbering.{starts_length, starts_at}
 use Rattle.cyc_select.proofs.layout.Whole.{is_code}

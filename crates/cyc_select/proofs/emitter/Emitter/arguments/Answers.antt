@@ -1,5 +1,7 @@
 use Rattle.std.proofs.Common.{◌++◌}
-use Rattle.cyc_select.specs.inside.Selection.{coming, ordinary, copies}
+use Rattle.cyc_select.specs.inside.Slots.{coming}
+use Rattle.cyc_select.specs.inside.Passing.{copies}
+use Rattle.cyc_select.specs.inside.Selection.{ordinary}
 use Rattle.cyc_select.proofs.emission.Emitting.{copied}
 use Rattle.cyc_select.proofs.emitter.Emitter.arguments.Goals as goal
 

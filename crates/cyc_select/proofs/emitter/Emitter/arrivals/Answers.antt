@@ -1,6 +1,7 @@
 use Rattle.std.proofs.Common.{◌++◌, ◌∙◌, ap}
 use Rattle.cyc_registers.specs.declared.home.Home.{Home}
-use Rattle.cyc_select.specs.inside.Selection.{ordinary, reload, arrivals}
+use Rattle.cyc_select.specs.inside.Slots.{reload, arrivals}
+use Rattle.cyc_select.specs.inside.Selection.{ordinary}
 use Rattle.cyc_select.proofs.emission.Emitting.{arrived_next}
 use Rattle.cyc_select.proofs.emitter.Emitter.arrivals.Goals as goal
 

@@ -1,5 +1,6 @@
 use Rattle.std.proofs.Common.{◌≡◌, ◌++◌, drop}
-use Rattle.cyc_select.specs.inside.Selection.{ordinary, reloads_from, arriving, arrivals}
+use Rattle.cyc_select.specs.inside.Slots.{reloads_from, arriving, arrivals}
+use Rattle.cyc_select.specs.inside.Selection.{ordinary}
 use Rattle.cyc_select.proofs.emitter.Emitter.arrivals.Given as goal
 
 -- the lines so far, with those of the other parameters, are all of them

@@ -1,6 +1,8 @@
 use Rattle.std.proofs.Common.{◌≡◌, ◌+◌, ◌++◌, drop}
 use Rattle.cyc_frame.specs.inside.Layout.{frame_at}
-use Rattle.cyc_select.specs.inside.Selection.{saving_count, code_lines, function_line, instruction_line}
+use Rattle.cyc_select.specs.inside.Slots.{saving_count}
+use Rattle.cyc_select.specs.inside.Counts.{function_line, instruction_line}
+use Rattle.cyc_select.specs.inside.Selection.{code_lines}
 use Rattle.cyc_select.proofs.emitter.Emitter.code.Given as goal
 
 -- the lines so far, with those of the other instructions, are all of them

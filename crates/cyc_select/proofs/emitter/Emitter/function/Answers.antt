@@ -3,7 +3,8 @@ use Rattle.std.specs.Prelude.{sum_by}
 use Rattle.cyc_plain.specs.declared.instruction.Instruction.{Instruction}
 use Rattle.cyc_plain.specs.declared.limits.TheConstants.{MOST_SIZE}
 use Rattle.cyc_plain.specs.inside.Program.{Routine, routine_at, instruction_size}
-use Rattle.cyc_select.specs.inside.Selection.{function_line, saving_count}
+use Rattle.cyc_select.specs.inside.Slots.{saving_count}
+use Rattle.cyc_select.specs.inside.Counts.{function_line}
 use Rattle.cyc_select.specs.inside.Emission.{instruction_lines}
 use Rattle.cyc_select.proofs.emission.Numbering.{ready_starts, ready_start, ready_size, ready_fits}
 use Rattle.cyc_select.proofs.emitter.Emitter.function.Goals as goal

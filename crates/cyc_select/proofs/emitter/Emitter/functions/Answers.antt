@@ -3,7 +3,8 @@ use Rattle.std.proofs.lemmas.List.{length-map}
 use Rattle.cyc_words.proofs.Lists.{append_goes_on}
 use Rattle.cyc_plain.specs.inside.Program.{routine_of, routine_at}
 use Rattle.cyc_select.specs.declared.constants.TheConstants.{START_LINES}
-use Rattle.cyc_select.specs.inside.Selection.{routine_lines, function_lines, function_line}
+use Rattle.cyc_select.specs.inside.Counts.{function_line}
+use Rattle.cyc_select.specs.inside.Selection.{routine_lines, function_lines}
 use Rattle.cyc_select.proofs.emission.Numbering.{functions_next}
 use Rattle.cyc_select.proofs.emitter.Emitter.functions.Goals as goal
 

@@ -1,6 +1,7 @@
 use Rattle.std.proofs.Common.{◌≡◌, ◌++◌, drop}
 use Rattle.cyc_select.specs.declared.constants.TheConstants.{START_LINES}
-use Rattle.cyc_select.specs.inside.Selection.{function_lines, function_line}
+use Rattle.cyc_select.specs.inside.Counts.{function_line}
+use Rattle.cyc_select.specs.inside.Selection.{function_lines}
 use Rattle.cyc_select.proofs.emitter.Emitter.functions.Given as goal
 
 -- the lines so far, with those of the other functions, are all of them

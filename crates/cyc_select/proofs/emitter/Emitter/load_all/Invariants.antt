@@ -1,5 +1,6 @@
 use Rattle.std.proofs.Common.{◌≡◌, ◌+◌, ◌++◌, drop}
-use Rattle.cyc_select.specs.inside.Selection.{ordinary, load_all}
+use Rattle.cyc_select.specs.inside.Slots.{load_all}
+use Rattle.cyc_select.specs.inside.Selection.{ordinary}
 use Rattle.cyc_select.proofs.emitter.Emitter.load_all.Given as goal
 
 -- the lines so far, with those of the other registers, are all of them

@@ -1,7 +1,8 @@
 use Rattle.std.proofs.Common.{◌<◌, ◌++◌, ◌∷◌, [], ◌∙◌, ap, arith}
 use Rattle.cyc_isa.specs.declared.instr.Instr.{Instr}
 use Rattle.cyc_frame.specs.inside.Frame.{Frame}
-use Rattle.cyc_select.specs.inside.Selection.{ordinary, restores}
+use Rattle.cyc_select.specs.inside.Slots.{restores}
+use Rattle.cyc_select.specs.inside.Selection.{ordinary}
 use Rattle.cyc_select.proofs.emission.Emitting.{restores_next}
 use Rattle.cyc_select.proofs.emitter.Emitter.restores.Goals as goal
 

@@ -1,5 +1,6 @@
 use Rattle.std.proofs.Common.{◌≡◌, ◌-◌, ◌++◌}
-use Rattle.cyc_select.specs.inside.Selection.{ordinary, restores_from, restores}
+use Rattle.cyc_select.specs.inside.Slots.{restores_from, restores}
+use Rattle.cyc_select.specs.inside.Selection.{ordinary}
 use Rattle.cyc_select.proofs.emitter.Emitter.restores.Given as goal
 
 -- the lines so far, with those of the other registers, are all of them

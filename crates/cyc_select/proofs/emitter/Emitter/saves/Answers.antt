@@ -1,7 +1,8 @@
 use Rattle.std.proofs.Common.{◌<◌, ◌++◌, ◌∷◌, [], ◌∙◌, ap, arith}
 use Rattle.cyc_isa.specs.declared.instr.Instr.{Instr}
 use Rattle.cyc_frame.specs.inside.Frame.{Frame}
-use Rattle.cyc_select.specs.inside.Selection.{ordinary, saves}
+use Rattle.cyc_select.specs.inside.Slots.{saves}
+use Rattle.cyc_select.specs.inside.Selection.{ordinary}
 use Rattle.cyc_select.proofs.emission.Emitting.{saves_next}
 use Rattle.cyc_select.proofs.emitter.Emitter.saves.Goals as goal
 

@@ -1,5 +1,6 @@
 use Rattle.std.proofs.Common.{◌≡◌, ◌-◌, ◌++◌}
-use Rattle.cyc_select.specs.inside.Selection.{ordinary, saves_from, saves}
+use Rattle.cyc_select.specs.inside.Slots.{saves_from, saves}
+use Rattle.cyc_select.specs.inside.Selection.{ordinary}
 use Rattle.cyc_select.proofs.emitter.Emitter.saves.Given as goal
 
 -- the lines so far, with those of the other registers, are all of them

@@ -1,5 +1,7 @@
 use Rattle.std.proofs.Common.{◌≡◌, ◌+◌, ◌-◌, ◌++◌}
-use Rattle.cyc_select.specs.inside.Selection.{coming, ordinary, spills}
+use Rattle.cyc_select.specs.inside.Slots.{coming}
+use Rattle.cyc_select.specs.inside.Passing.{spills}
+use Rattle.cyc_select.specs.inside.Selection.{ordinary}
 use Rattle.cyc_select.proofs.emitter.Emitter.spills.Given as goal
 
 -- the lines so far, with those of the other slots, are all of them

@@ -1,5 +1,6 @@
 use Rattle.std.proofs.Common.{◌≡◌, ◌+◌, ◌++◌, drop}
-use Rattle.cyc_select.specs.inside.Selection.{ordinary, store_all}
+use Rattle.cyc_select.specs.inside.Slots.{store_all}
+use Rattle.cyc_select.specs.inside.Selection.{ordinary}
 use Rattle.cyc_select.proofs.emitter.Emitter.store_all.Given as goal
 
 -- the lines so far, with those of the other registers, are all of them

@@ -1,0 +1,173 @@
+-- What stands in front of a branch: the first line of its target.
+use Rattle.std.specs.Prelude.{ℕ, ◌+◌, ◌%◌, ◌^◌, ◌==◌, ◌&&◌, ◌||◌, Bool, false, not, nat_lt, nat_le, if◌then◌else◌, List, [], ◌∷◌, ◌++◌, Option, Some, None, slice_get}
+use Rattle.cyc_isa.specs.declared.instr.Instr.{Instr}
+use Rattle.cyc_isa.specs.declared.instr.Instr.TheVariants as machine
+use Rattle.cyc_machine.specs.declared.constants.TheConstants.{ARGUMENT, GET_BYTE, SERVICE}
+use Rattle.cyc_plain.specs.declared.instruction.Instruction.{Instruction}
+use Rattle.cyc_plain.specs.declared.instruction.Instruction.TheVariants as plain
+use Rattle.cyc_plain.specs.declared.instruction.Operand.{Operand}
+use Rattle.cyc_plain.specs.declared.instruction.Operand.TheVariants as operands
+use Rattle.cyc_frame.specs.inside.Frame.{Frame}
+use Rattle.cyc_registers.specs.inside.Fills.{fills_at}
+use Rattle.cyc_registers.specs.inside.Idle.{idle_at}
+use Rattle.cyc_select.specs.declared.constants.TheConstants.{ZERO, THIRD_RESULT, FIRST, SECOND, THIRD}
+use Rattle.cyc_select.specs.declared.code.Condition.{Condition}
+use Rattle.cyc_select.specs.declared.code.Condition.TheVariants as conditions
+use Rattle.cyc_select.specs.declared.plan.Operation.{Operation}
+use Rattle.cyc_select.specs.declared.plan.Operation.TheVariants as operations
+use Rattle.cyc_select.specs.declared.plan.Plan.{Plan}
+use Rattle.cyc_select.specs.declared.plan.Test.{Test}
+use Rattle.cyc_select.specs.declared.plan.Test.TheVariants as tests
+use Rattle.cyc_select.specs.inside.Numbers.{fits_signed, is_zero_word}
+use Rattle.cyc_select.specs.inside.Plans.{unary_plan, binary_plan, test_of}
+use Rattle.cyc_select.specs.inside.Instructions.{add_immediate, small, minus, load_upper, arithmetic_of, shift_of, immediate_of, shift_by_of, copy}
+use Rattle.cyc_select.specs.inside.Slots.{value_register, made_in, is_own}
+use Rattle.cyc_select.specs.inside.Operands.{or_immediate, operand_register, condition_of, is_tested}
+
+-- An idle place has no lines of its own: where its frame says so, of an instruction that may be idle.
+abbrev pub is_idle : Frame → (index : ℕ) → Instruction → Bool
+is_idle frame index (plain.Move destination source) = idle_at frame.idle index
+is_idle frame index (plain.MoveWords destination source count) = idle_at frame.idle index
+is_idle frame index (plain.Unary operator destination operand) = idle_at frame.idle index
+is_idle frame index (plain.Binary operator destination left right) = idle_at frame.idle index
+is_idle frame index (plain.Jump target) = idle_at frame.idle index
+is_idle frame index (plain.Branch comparison left right target) = idle_at frame.idle index
+is_idle frame index instruction = false
+
+-- ---- what a branch does of its target
+
+-- Where the first line of a branch's target makes a word of what is in registers, in a register that no value has, or in its
+-- slot's own where the frame says so, a copy of it stands in front of the branch, which leads to the line behind: so the slot
+-- of the branch is filled.
+
+-- the first line of what brings a word into a register
+abbrev pub word_first : (target word : ℕ) → Instr
+word_first target word =
+    if fits_signed word
+    then small target (word % 2 ^ 16)
+    else (if nat_lt word (2 ^ 16) then or_immediate target word else load_upper target word)
+
+-- The first line of what brings an operand into a register, or else this one of what stands behind; none where it is loaded.
+abbrev pub slot_first : Option ℕ → (behind : Option Instr) → Option Instr
+slot_first None behind = None
+slot_first (Some own) behind = behind
+
+abbrev pub operand_first : Frame → (register : ℕ) → Operand → (behind : Option Instr) → Option Instr
+operand_first frame register (operands.Slot number) behind = slot_first (value_register frame number) behind
+operand_first frame register (operands.Word word) behind =
+    if is_zero_word (operands.Word word) then behind else Some (word_first register word)
+
+-- of two operands
+abbrev pub operands_first : Frame → (left right : Operand) → (behind : Option Instr) → Option Instr
+operands_first frame left right behind = operand_first frame FIRST left (operand_first frame SECOND right behind)
+
+abbrev pub operation_first : Operation → (target left right : ℕ) → Option Instr
+operation_first (operations.Arithmetic op) target left right = Some (arithmetic_of op target left right)
+operation_first (operations.Immediate op half) target left right = Some (immediate_of op target left half)
+operation_first (operations.Shift op) target left right = Some (shift_of op target left right)
+operation_first (operations.ShiftBy op amount) target left right = Some (shift_by_of op target left amount)
+operation_first (operations.MultiplyDivide op from) target left right = None
+
+-- the first line of a plan, of a division that is tested, of a test, and of a copy
+abbrev pub plan_first : Frame → (target : ℕ) → Plan → Option Instr
+plan_first frame target plan =
+    operands_first frame plan.left plan.right
+    (operation_first plan.operation target (operand_register frame FIRST plan.left) (operand_register frame SECOND plan.right))
+
+abbrev pub divided_first : Frame → (left right : Operand) → Option Instr
+divided_first frame left right = operands_first frame left right (Some (add_immediate THIRD ZERO (minus 1)))
+
+abbrev pub test_first : Frame → Test → Option Instr
+test_first frame (tests.Operands op left right) = operands_first frame left right None
+test_first frame (tests.Sign op operand) = operand_first frame FIRST operand None
+test_first frame (tests.Computed plan) = plan_first frame FIRST plan
+
+abbrev pub copy_first : Option ℕ → (register : ℕ) → Option Instr
+copy_first None register = None
+copy_first (Some own) register = Some (copy register own)
+
+abbrev pub load_first : Frame → (register : ℕ) → Operand → Option Instr
+load_first frame register (operands.Slot number) = copy_first (value_register frame number) register
+load_first frame register (operands.Word word) = Some (word_first register word)
+
+abbrev pub move_first : Option ℕ → Frame → Operand → Option Instr
+move_first None frame source = operand_first frame FIRST source None
+move_first (Some register) frame source = load_first frame register source
+
+-- The first line of an instruction, where it has one that makes a word of what is in registers, and behind it the instruction
+-- has more lines or leads to the next one alone.
+abbrev pub first_line : Frame → Instruction → Option Instr
+first_line frame (plain.Move destination source) = move_first (value_register frame destination) frame source
+first_line frame (plain.Unary operator destination operand) =
+    plan_first frame (made_in frame destination) (unary_plan operator operand)
+first_line frame (plain.Binary operator destination left right) =
+    if is_tested operator right
+    then divided_first frame left right
+    else plan_first frame (made_in frame destination) (binary_plan operator left right)
+first_line frame (plain.Branch comparison left right target) = test_first frame (test_of comparison left right)
+first_line frame (plain.ReadByte destination) = Some (small SERVICE GET_BYTE)
+first_line frame (plain.WriteByte source) = load_first frame ARGUMENT source
+first_line frame (plain.StoreGlobal global source) = operand_first frame FIRST source None
+first_line frame instruction = None
+
+-- the register that an instruction computes a slot's word in, if the slot has one
+abbrev pub given_register : Frame → Instruction → Option ℕ
+given_register frame (plain.Move destination source) = value_register frame destination
+given_register frame (plain.Unary operator destination operand) = value_register frame destination
+given_register frame (plain.Binary operator destination left right) = value_register frame destination
+given_register frame instruction = None
+
+-- and of a place, where the frame says that it fills slots
+abbrev pub own_register : Frame → (target : ℕ) → Instruction → Option ℕ
+own_register frame target instruction = if fills_at frame.fills target then given_register frame instruction else None
+
+-- the register that an instruction makes a word in, of what is in registers alone
+abbrev pub target_of : Instr → Option ℕ
+target_of (machine.Immediate op target source half) = Some target.number
+target_of (machine.LoadUpper target half) = Some target.number
+target_of (machine.Shift op destination source amount) = Some destination.number
+target_of (machine.ShiftVariable op destination source by) = Some destination.number
+target_of (machine.Arithmetic op destination left right) = Some destination.number
+target_of instruction = None
+
+abbrev pub tests_register : Condition → (register : ℕ) → Bool
+tests_register (conditions.Registers op left right) register = left.number == register || right.number == register
+tests_register (conditions.Sign op source) register = source.number == register
+
+-- no value has the register, and nothing keeps its word
+abbrev pub is_spare : (register : ℕ) → Bool
+is_spare register = register == FIRST || (nat_lt ZERO register && nat_le register THIRD_RESULT)
+
+-- A line may stand in front of the branch where it makes a word in such a register or in this one, and none that is tested.
+abbrev pub may_write : Condition → (own : Option ℕ) → Option ℕ → Bool
+may_write condition own None = false
+may_write condition own (Some register) =
+    (is_spare register || is_own own register) && not (tests_register condition register)
+
+abbrev pub copied_if : Condition → (own : Option ℕ) → Option Instr → Option Instr
+copied_if condition own None = None
+copied_if condition own (Some first) = if may_write condition own (target_of first) then Some first else None
+
+abbrev pub hoisted_at : Frame → Condition → (target : ℕ) → Option Instruction → Option Instr
+hoisted_at frame condition target None = None
+hoisted_at frame condition target (Some instruction) =
+    if is_idle frame target instruction
+    then None
+    else copied_if condition (own_register frame target instruction) (first_line frame instruction)
+
+-- what stands in front of a branch by this test to this place of the code
+abbrev pub hoisted : Frame → List Instruction → Test → (target : ℕ) → Option Instr
+hoisted frame code test target = hoisted_at frame (condition_of frame test) target (slice_get code target)
+
+abbrev pub hoisted_count : Option Instr → ℕ
+hoisted_count None = 0
+hoisted_count (Some first) = 1
+
+abbrev pub with_hoisted : List Instr → Option Instr → List Instr
+with_hoisted instructions None = instructions
+with_hoisted instructions (Some first) = instructions ++ first ∷ []
+
+-- the line that the branch leads to
+abbrev pub behind_hoisted : Option Instr → (label : ℕ) → ℕ
+behind_hoisted None label = label
+behind_hoisted (Some first) label = label + 1
