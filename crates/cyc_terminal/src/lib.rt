@@ -13,6 +13,7 @@ pub use pages::page;
 mod advice;
 mod arguments;
 mod codes;
+mod commands;
 mod excerpt;
 mod habits;
 mod json;
