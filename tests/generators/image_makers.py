@@ -6,6 +6,7 @@ do not end at once: most loads and stores go to words that are there, and most s
 import struct
 
 import machine
+import stores
 
 STEPS = 1000
 # An image that a compiler wrote is run so far, and each of so many with words changed.
@@ -195,7 +196,7 @@ class Words:
             [self.numbers.getrandbits(32)], [self.numbers.getrandbits(26)], [BREAK], [word_of("div", 8, 0)],
             [*constant(8, 1 << 31), word_of("addiu", 0, 9, i=-1), word_of("div", 8, 9)],
             [*constant(10, machine.TEXT), word_of("jalr", 10, d=10), NOP],
-            [*constant(10, machine.STORE + 4 * self.numbers.randrange(2_048)), word_of("lw", 10, 8)],
+            [*constant(10, stores.STORE + 4 * self.numbers.randrange(2_048)), word_of("lw", 10, 8)],
             [*constant(10, self.numbers.choice(FIELDS)), word_of(self.numbers.choice(["lw", "sw", "lbu", "sb"]), 10, 8)],
         ]
         return self.numbers.choice(words) if self.numbers.random() < 0.3 else [NOP]
@@ -250,19 +251,19 @@ class Calls:
         """A block of the heap, of a region, or of its own."""
         size = number_in(5, self.numbers.choice(SIZES if self.happens(0.97) else NO_SIZES))
         if self.happens(0.03):
-            return [*number_in(4, self.numbers.choice([0, 3, 77, machine.STORE])), *size, *service(9), self.kept(self.blocks)]
+            return [*number_in(4, self.numbers.choice([0, 3, 77, stores.STORE])), *size, *service(9), self.kept(self.blocks)]
         handles = self.lexical + self.dynamic
         if handles and self.happens(0.6):
             return [moved(4, self.numbers.choice(handles)), *size, *service(9), self.kept(self.blocks)]
         is_unique = self.happens(0.6)
-        first = number_in(4, machine.UNIQUE if is_unique else machine.HEAP)
+        first = number_in(4, stores.UNIQUE if is_unique else stores.HEAP)
         return [*first, *size, *service(9), self.kept(self.unique if is_unique else self.blocks)]
 
     def rush(self):
         """Several large unique blocks of one size, of which most are freed at once: their pages stay taken."""
         size, words = self.numbers.choice([200, 256, 257, 512, 513, 1000]), []
         for _ in range(self.numbers.randint(2, 6)):
-            words += [*number_in(4, machine.UNIQUE), *number_in(5, size), *service(9), self.kept(self.unique)]
+            words += [*number_in(4, stores.UNIQUE), *number_in(5, size), *service(9), self.kept(self.unique)]
         while self.unique and self.happens(0.9):
             words += [moved(4, self.unique.pop()), *service(10)]
         return words

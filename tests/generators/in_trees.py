@@ -21,7 +21,7 @@ TESTS = os.path.dirname(os.path.dirname(os.path.abspath(__file__)))
 sys.path.append(os.path.join(TESTS, "references"))
 
 import reference
-from language import runs, types
+from language import runs, types, values
 from language.frames import frame_words, inner_items
 from language.heads import Program
 from language.texts import LEVEL_OF, tree_of
@@ -353,9 +353,9 @@ def status(run):
     """How a run ends, in the words of the definitions."""
     try:
         words = run.end()[0].split()
-    except runs.Dead:
+    except values.Dead:
         return "IsDead"
-    except runs.Wrong:
+    except values.Wrong:
         return "IsWrong"
     if words[0] == "full":
         return "HasEnded Full"
@@ -430,9 +430,9 @@ def run_of(text, code):
     run = runs.Run(overlooking(code, text), b"", steps=STEPS)
     try:
         return run.end()[0]
-    except runs.Dead:
+    except values.Dead:
         return "dead"
-    except runs.Wrong:
+    except values.Wrong:
         return "wrong"
 
 

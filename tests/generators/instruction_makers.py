@@ -9,6 +9,7 @@ import struct
 
 import image_makers
 import machine
+import stores
 from image_makers import EDGES, NOP, constant, moved, service, word_of
 
 IMMEDIATES = [0, 1, 2, 0xFF, 0x100, 0x7FFF, 0x8000, 0x8001, 0xFFFE, 0xFFFF]
@@ -141,7 +142,7 @@ def of_accesses(name):
     body = Body()
     word = machine.DATA + DATA_BYTES - 64
     for offset, value in itertools.product([0, 4, 32, 0x7FFC, 0x8000, 0x8004, 0xFFFC], EDGES[::3]):
-        body.set(8, (word - (offset - 0x10000 if offset & 0x8000 else offset)) % machine.WORD)
+        body.set(8, (word - (offset - 0x10000 if offset & 0x8000 else offset)) % stores.WORD)
         body.set(9, value)
         body.add(word_of("sw", 8, 9, i=offset), word_of("lw", 8, 10, i=offset), word_of("lw", 8, 0, i=offset))
         body.set(11, word)
@@ -156,7 +157,7 @@ def of_bytes(name):
     word = machine.DATA + DATA_BYTES - 64
     for offset, value in itertools.product([0, 1, 2, 3, 0x7FFD, 0x7FFF, 0x8000, 0x8003, 0xFFFE, 0xFFFF], [*EDGES[::3], 0x80, 0x12345678]):
         place = offset % 4
-        body.set(8, (word + place - (offset - 0x10000 if offset & 0x8000 else offset)) % machine.WORD)
+        body.set(8, (word + place - (offset - 0x10000 if offset & 0x8000 else offset)) % stores.WORD)
         body.set(9, value)
         body.set(11, word)
         body.set(13, 0x89ABCDEF)

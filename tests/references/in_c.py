@@ -21,7 +21,7 @@ import sys
 import tempfile
 
 import reference
-from language.runs import bytes_of, words_of
+from language.values import bytes_of, words_of
 from language.types import CHAR, INT, NOTHING, NULL, is_fat, is_number, is_pointer
 
 HEAD = """

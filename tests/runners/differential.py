@@ -26,12 +26,14 @@ import subprocess
 import tempfile
 
 import suite  # first: it says where the references and the generators are
+import broken_texts
 import in_c
+import int_makers
 import makers
 import reference
 import shrink
 from bounded import parts_of
-from language import runs
+from language import values
 
 # A program whose evaluation takes more calls and passes of loops than this is not used.
 STEPS_AT_MOST = 10_000
@@ -86,13 +88,13 @@ class Wanted:
         self.steps = numbers.choice([1, 10, 100, 1000, 10_000])
         self.fill(numbers)
         for _ in range(BROKEN_TEXTS):
-            self.judge(makers.broken(self.text, numbers))
+            self.judge(broken_texts.broken(self.text, numbers))
 
     def fill(self, numbers):
         """The program with a full frame, and with one that is too full."""
         name = numbers.choice(sorted(set(self.program.functions) & {"f0", "f1", "f2", "main"}))
         free = reference.FRAME_AT_MOST - reference.frame_words(self.program.functions[name])
-        self.full, self.too_full = (self.text.replace(makers.filling(name), "{int z;} " * count) for count in (free, free + 1))
+        self.full, self.too_full = (self.text.replace(int_makers.filling(name), "{int z;} " * count) for count in (free, free + 1))
         line, column = self.program.functions[name].place
         self.refusal = f"fault 51 at {line}:{column}"
 
@@ -132,7 +134,7 @@ class Wanted:
         """How a run ends; what is accepted is never dead or wrong."""
         try:
             return run.end()
-        except (runs.Dead, runs.Wrong) as error:
+        except (values.Dead, values.Wrong) as error:
             raise SystemExit(f"{text}\nthis text is accepted, and its run is at fault: {error}")
 
     def add(self, given, calls=reference.CALLS, pages=reference.PAGES):
@@ -283,7 +285,7 @@ class Tried:
             file.write(text)
         try:
             return self.again(text)
-        except (Useless, reference.Refused, runs.Dead, runs.Wrong, subprocess.SubprocessError):
+        except (Useless, reference.Refused, values.Dead, values.Wrong, subprocess.SubprocessError):
             return None
 
     def shows(self, text):

@@ -15,6 +15,7 @@ import image_makers
 import in_trees
 import instruction_makers
 import machine
+import stores
 import wrong
 
 FOLDERS = (("src", ".rt"), ("specs", ".antt"), ("proofs", ".antt"))
@@ -142,7 +143,7 @@ def has_open_end(made):
         machine.Run(machine.Image(made.file), made.given, made.pages, made.calls, made.steps).end()
     except machine.ImageFault:
         return False
-    except machine.Open:
+    except stores.Open:
         return True
     return False
 

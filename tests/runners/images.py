@@ -39,6 +39,7 @@ import image_makers
 import instruction_makers
 import machine
 import objdump
+import stores
 
 # A run of a thousand steps takes some milliseconds, a listing of LISTED_AT_MOST words too.
 SECONDS = 20
@@ -126,7 +127,7 @@ class Tried:
         self.limits = (run.pages, run.calls)
         try:
             line, status = run.end()
-        except machine.Open:
+        except stores.Open:
             line, status = None, None
         return (bytes(run.output), line, status), run.count
 

@@ -5,7 +5,7 @@ import random
 import suite  # first: it says where the references and the generators are
 import makers
 import reference
-from language import runs
+from language import values
 
 EXAMPLES = os.path.join(suite.ROOT, "examples")
 BYTES = [0, 1, 10, 48, 65, 255]
@@ -38,7 +38,7 @@ def random_programs(suite_name, seed, count, made_of=as_they_are, profiles=maker
         try:
             reference.Program(text).hold_to_sizes()
             program = made_of(f"{profile} {seed} {made}", text, given, numbers)
-        except (reference.Refused, runs.Dead, runs.Wrong):
+        except (reference.Refused, values.Dead, values.Wrong):
             continue
         made += 1
         yield program

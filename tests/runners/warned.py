@@ -15,6 +15,7 @@ import re
 import tempfile
 
 import suite  # first: it says where the references and the generators are
+import broken_texts
 import codes
 import makers
 import reference
@@ -106,7 +107,7 @@ def random_texts(seed, count, words):
         if not accepted(text):
             continue
         found.append(Text(f"{profile}, program {len(found)} of seed {seed}", text, words))
-        changed = makers.broken(text, numbers)
+        changed = broken_texts.broken(text, numbers)
         if len(found) < count and accepted(changed):
             found.append(Text(f"{profile}, changed, program {len(found)} of seed {seed}", changed, words))
     return found

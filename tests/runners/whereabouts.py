@@ -18,7 +18,7 @@ import tempfile
 import suite  # first: it says where the references and the generators are
 import reference
 import texts
-from language import placed, runs
+from language import placed, values
 
 STEPS_AT_MOST = 10_000
 # In how many places of a program a mistake is planted.
@@ -76,7 +76,7 @@ def ended(text, given, **options):
     """The run of a text, or None where it is of no use."""
     try:
         found = Ended(text, given, **options)
-    except (reference.Refused, runs.Dead, runs.Wrong, RecursionError):
+    except (reference.Refused, values.Dead, values.Wrong, RecursionError):
         return None
     return found if found.is_told() else None
 

@@ -4,7 +4,11 @@
 #[cfg(test)]
 mod expect;
 #[cfg(test)]
+mod lists;
+#[cfg(test)]
 mod machine;
+#[cfg(test)]
+mod pages;
 #[cfg(test)]
 mod pool;
 #[cfg(test)]

@@ -1,7 +1,8 @@
 """Where a run of a program ends before the program does: the place of the throw, of the check, or of the call or the object that there is
 no room for, and those of the calls that are under way, as `cyclone run --places` says them."""
-from .runs import End, Run, Thrown
+from .runs import Run
 from .types import is_number
+from .values import End, Thrown
 
 # The exceptions of the language, in the order of their numbers.
 BUILT_IN = ("Null_Exception", "Array_bounds", "Array_size", "Div_zero")

@@ -1,0 +1,62 @@
+"""Changes one thing of a text: a token, or a statement."""
+from language.texts import KEYWORDS, tokens_of
+
+# What is said of a name where it should not be.
+STATEMENTS = [
+    "ufree(#);", "ufree(#);", "free_ukey(#);", "#;", "&#;", "*#;", "# = NULL;", "# = 1;", "show(*#);", "return #;", "break;",
+    "continue;", "# == #;", "look(#);", "get(#);", "eat(#);", "# :=: #;", "#[0] = eaten(#);", "region<`z_> z_ = open(#);",
+    "{ let alias <`z_> int *`z_ z_ = #; }", "if (#) ufree(#);", "while (1) ufree(#);", "try ufree(#); catch { default: ; }",
+    "numelts(#);", "new #;", "throw new E1(#);", "struct T *z_ = #;",
+]
+
+
+def broken(text, numbers):
+    """The text with one thing changed: a token into another of its kind, or a statement that is twice there, elsewhere, new, or not."""
+    way = numbers.randrange(6)
+    if way == 0:
+        return with_other_lines(text, numbers)
+    if way <= 2:
+        return with_statement(text, numbers)
+    tokens = tokens_of(text)[:-1]
+    if numbers.randrange(10) == 0:
+        at = numbers.choice(tokens)
+        return replaced(text, at, numbers.choice(["", f"{at.text} {at.text}", numbers.choice(tokens).text]))
+    at = numbers.choice([token for token in tokens if token.kind in ("name", "region") or token.text in "*@?" or token.text in KEYWORDS])
+    return replaced(text, at, numbers.choice([token for token in tokens if are_alike(token, at)]).text)
+
+
+def are_alike(one, other):
+    """Whether two tokens are of one kind; the names that a maker makes up are told apart by their first letters."""
+    if one.kind != other.kind or one.kind == "sign" and one.text not in "*@?":
+        return False
+    return one.kind != "name" or not other.text.endswith("_") or one.text[0] == other.text[0] and one.text.endswith("_")
+
+
+def with_other_lines(text, numbers):
+    lines = text.split("\n")
+    found = [number for number, line in enumerate(lines) if line.startswith("  ") and line.endswith(";")] or [0]
+    at = numbers.choice(found)
+    line = lines[at]
+    if numbers.randrange(2) == 0:
+        del lines[at]
+    if numbers.randrange(3) > 0:
+        lines.insert(min(max(0, at + numbers.randint(-6, 6)), len(lines)), line)
+    return "\n".join(lines)
+
+
+def with_statement(text, numbers):
+    """The text with a statement more, on a name that stands in a line above."""
+    lines = text.split("\n")
+    names = [token for token in tokens_of(text) if token.kind == "name" and token.text.endswith("_")]
+    token = numbers.choice(names or [token for token in tokens_of(text) if token.kind == "name"])
+    at = min(token.place[0] + numbers.choice([0, 0, 1, 2, 4]), len(lines))
+    lines.insert(at, numbers.choice(STATEMENTS).replace("#", token.text))
+    return "\n".join(lines)
+
+
+def replaced(text, token, other):
+    lines = text.split("\n")
+    line, column = token.place
+    here = lines[line - 1]
+    lines[line - 1] = here[: column - 1] + other + here[column - 1 + len(token.text):]
+    return "\n".join(lines)
