@@ -98,7 +98,6 @@ fn moves_count(frame: &Frame, destination: usize, source: usize, count: usize) -
 }
 
 /// The lines of a move of several words.
-#[tactic(auto, using(crate::proofs::emission::Counts::length_registers))]
 fn move_words_count(frame: &Frame, destination: usize, source: usize, count: usize) -> usize
     requires few { count ≤ GREATEST_VALUE }
     requires source { source + count ≤ MOST_FRAME_WORDS }
@@ -201,7 +200,6 @@ fn return_count(plain: &Plain, frames: &[Frame], function: usize) -> usize
 }
 
 /// The lines of an instruction up to what it does.
-#[tactic(auto, using(crate::proofs::emission::Numbering::source_small, crate::proofs::emission::Numbering::target_small, crate::proofs::emission::Numbering::arguments_small, crate::proofs::emission::Numbering::answer_small))]
 fn body_count(plain: &Plain, frames: &[Frame], function: usize, instruction: Instruction) -> usize
     requires fit { AreFrames plain.now frames.now }
     requires function { function < length plain.now.functions }
@@ -332,7 +330,6 @@ pub(crate) fn is_idle(frame: &Frame, index: usize, instruction: Instruction) -> 
 }
 
 /// The lines of the instruction at this index.
-#[tactic(auto, using(crate::proofs::emission::Numbering::body_fits))]
 fn count_of(
     plain: &Plain,
     frames: &[Frame],

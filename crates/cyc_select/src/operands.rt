@@ -72,7 +72,6 @@ fn coming_home(home: Home) -> Home
 }
 
 /// Where the argument comes to this slot.
-#[tactic(auto, using(crate::proofs::relation::Arriving::coming_is))]
 fn home_coming(callee: &Frame, slot: usize) -> Home
     ensures { result ≡ home_of (coming callee.now).homes slot }
 {
@@ -92,7 +91,6 @@ fn arriving_home(home: Home) -> Home
 }
 
 /// That of this slot, if it is one of a parameter.
-#[tactic(auto, using(crate::proofs::relation::Arriving::arriving_is, crate::proofs::relation::Arriving::arriving_past))]
 fn home_arriving(frame: &Frame, slot: usize) -> Home
     ensures { result ≡ home_of (arriving frame.now) slot }
 {
@@ -133,7 +131,6 @@ pub(crate) fn comes_by(callee: &Frame, slot: usize) -> u8
 }
 
 /// Whether one of the first arguments comes by this register.
-#[tactic(auto, using(crate::proofs::emission::Counts::taken_next))]
 fn is_taken(callee: &Frame, slot: usize, register: u8) -> bool
     ensures { result ≡ is_taken (coming callee.now) slot register }
 {

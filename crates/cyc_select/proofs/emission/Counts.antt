@@ -1,6 +1,6 @@
 -- How many lines operands, plans and tests have, as they are counted: so many, and few.
 use Rattle.std.proofs.Common.{◌≡◌, ℕ, zero, suc, ◌+◌, ◌-◌, ◌*◌, ◌%◌, ◌^◌, ◌<◌, ◌≤◌, Bool, true, false, List, [], ◌∷◌, length, Option, None, Some, refl, sym, ap, ◌∙◌, arith, length-append}
-use Rattle.std.specs.Prelude.{◌==◌, ◌||◌, nat_lt, if◌then◌else◌}
+use Rattle.std.specs.Prelude.{◌==◌, nat_lt, if◌then◌else◌}
 use Rattle.std.proofs.lemmas.Bool.{false≢true}
 use Rattle.cyc_registers.specs.inside.Bars.{is_crossing}
 use Rattle.cyc_isa.specs.declared.instr.Instr.{Instr}
@@ -31,7 +31,7 @@ use Rattle.cyc_select.specs.inside.Instructions.{small, load_upper, constant, st
 use Rattle.cyc_select.specs.inside.Slots.{value_register, is_kept, keep_code, give_to, give_code, bring_code, bring_all, load_words, load_all, store_all, result_registers, made_in, is_near, upper_of_global, reach_code, at_global, global_code, is_own}
 use Rattle.cyc_select.specs.inside.Operands.{fetch_from, fetch_count, keep_count, give_count_to, give_count, gives_count, move_count_to, move_count, moves_count, or_immediate, is_tested, word_code, load_code, operand_code, operand_register, operation_code, outcome_code, operands_code, operation_of}
 use Rattle.cyc_select.specs.inside.Operands.{computed_code, plan_code, test_code, word_count, load_count, operand_count, far_plan, address_code, address_count, operation_count, outcome_count, count_of_operation, plan_count, test_count, divide_count, operator_count, reach_count}
-use Rattle.cyc_select.specs.inside.Passing.{is_taken, passed_from, spill_from, spill, spills, spill_count_from, spill_count, spills_count, pass_from, pass, copies, pass_count_from, pass_count, copies_count}
+use Rattle.cyc_select.specs.inside.Passing.{passed_from, spill_from, spill, spills, spill_count_from, spill_count, spills_count, pass_from, pass, copies, pass_count_from, pass_count, copies_count}
 use Rattle.cyc_select.specs.inside.Hoisting.{with_hoisted, hoisted_count}
 use Rattle.cyc_select.specs.inside.Counts.{move_words_count, argument_count, regions_count}
 use Rattle.cyc_select.specs.inside.Selection.{move_to, moves, all_moved, moved_code, argument_code, service_number, answer_code, divided_code, regions_code}
@@ -486,10 +486,6 @@ copies_next caller callee source count word below =
     ap (copies_count caller callee (source + word) word) left
     ∙ ap (λ (n : ℕ). pass_count caller callee (source + word) word + copies_count caller callee n (suc word) (count - (word + 1))) from
     ∙ ap (λ (n : ℕ). pass_count caller callee (source + word) word + copies_count caller callee (source + (word + 1)) n (count - (word + 1))) to
-
--- one parameter more
-pub taken_next : (callee : Frame) (slot register : ℕ) → is_taken callee (slot + 1) register ≡ (is_taken callee slot register || made_in callee slot == register)
-taken_next callee slot register = ap (λ (n : ℕ). is_taken callee n register) (let e : slot + 1 ≡ suc slot = omega arith in e)
 
 -- no more registers than words
 pub registers_few : (count : ℕ) → length (result_registers count) ≤ count

@@ -11,8 +11,7 @@ use Rattle.cyc_plain.specs.declared.instruction.Instruction.{Instruction}
 use Rattle.cyc_plain.specs.declared.instruction.Instruction.TheVariants as plain
 use Rattle.cyc_plain.specs.inside.Requests.{second_operand, answer_count, destination_of}
 use Rattle.cyc_plain.specs.inside.Program.{Program, Routine, no_routine, routine_at, operator_size, instruction_size, size}
-use Rattle.cyc_plain.specs.inside.WellFormed.{IsCallInRange, IsMoveInRange, IsRequestInRange, IsRoutine, IsWellFormed}
-use Rattle.cyc_plain.specs.declared.instruction.Request.{Request}
+use Rattle.cyc_plain.specs.inside.WellFormed.{IsCallInRange, IsRoutine, IsWellFormed}
 use Rattle.cyc_plain.specs.declared.limits.TheConstants.{GREATEST_VALUE, MOST_SIZE, MOST_FRAME_WORDS}
 use Rattle.cyc_registers.specs.inside.Interference.{AreHomes, saved_count}
 use Rattle.cyc_frame.specs.inside.Layout.{IsFrame, AreFrames, frame_at, loses, loses_any, returns, returns_any}
@@ -238,26 +237,10 @@ slots_end : (r : Routine) (frame : Frame) → IsFrame r frame → (past : ℕ) �
 slots_end r frame fit zero below = omega arith
 slots_end r frame fit (suc slot) below = omega (arith, fit.inside slot (omega (arith, below)), fit.small)
 
-module _ (program : Program) (frames : List Frame) (function : ℕ) (fit : AreFrames program frames) (known : function < length program.functions)
-    (destination source count : ℕ) (in_range : IsMoveInRange (routine_at program function) destination source count) where
-  pub source_small : source + count ≤ MOST_FRAME_WORDS
-  source_small =
-      slots_end (routine_at program function) (frame_at frames function) (fit.each function known) (source + count) (omega (arith, in_range.source_in_range))
-
-  pub target_small : destination + count ≤ MOST_FRAME_WORDS
-  target_small =
-      slots_end (routine_at program function) (frame_at frames function) (fit.each function known) (destination + count)
-      (omega (arith, in_range.destination_in_range))
-
 pub arguments_small : (program : Program) (frames : List Frame) (function : ℕ) → AreFrames program frames → function < length program.functions
     → (callee arguments count result : ℕ) → IsCallInRange program (routine_at program function) callee arguments count result → arguments + count ≤ MOST_FRAME_WORDS
 arguments_small program frames function fit known callee arguments count result in_range =
     slots_end (routine_at program function) (frame_at frames function) (fit.each function known) (arguments + count) (omega (arith, in_range.arguments_in_range))
-
-pub answer_small : (program : Program) (frames : List Frame) (function : ℕ) → AreFrames program frames → function < length program.functions
-    → (request : Request) → IsRequestInRange (routine_at program function) request → destination_of request + answer_count request ≤ MOST_FRAME_WORDS
-answer_small program frames function fit known request in_range =
-    slots_end (routine_at program function) (frame_at frames function) (fit.each function known) (destination_of request + answer_count request) in_range.answer_in_range
 
 -- ---- tables
 
