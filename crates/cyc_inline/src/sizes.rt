@@ -34,7 +34,7 @@ fn instruction_size(instruction: Instruction) -> Option<usize>
     ensures { IfSome result (λ it. it ≡ instruction_size instruction) }
 {
     let size = match instruction {
-        Instruction::Move { .. } | Instruction::Enter { .. } => 6,
+        Instruction::Move { .. } | Instruction::LoadGlobal { .. } | Instruction::Enter { .. } => 6,
         Instruction::MoveWords { count, .. } => {
             if count > MOST_SIZE {
                 return None;
@@ -54,7 +54,6 @@ fn instruction_size(instruction: Instruction) -> Option<usize>
         Instruction::Return { .. } | Instruction::Finish { .. } => 36,
         Instruction::ReadByte { .. }
         | Instruction::WriteByte { .. }
-        | Instruction::LoadGlobal { .. }
         | Instruction::StoreGlobal { .. }
         | Instruction::Leave { .. } => 5,
         Instruction::AddressOf { .. } => 4,

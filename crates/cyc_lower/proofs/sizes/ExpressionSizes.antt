@@ -36,7 +36,7 @@ use Rattle.cyc_lower.proofs.sizes.PieceSizes.{followed_by_size, tested_by_size, 
 -- ---- locals that have these first slots
 
 module _ (starts : Starts) where
-  pub loads_size : (words first d : ℕ) → code_size (word_by_word load_word words first d) ≤ 5 * words
+  pub loads_size : (words first d : ℕ) → code_size (word_by_word load_word words first d) ≤ 6 * words
   loads_size zero first d = omega arith
   loads_size (suc words) first d = omega (arith, cons (load_word first d) (word_by_word load_word words (suc first) (suc d)), loads_size words (suc first) (suc d))
 
