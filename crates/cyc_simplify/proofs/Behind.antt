@@ -1,19 +1,23 @@
 -- What an instruction leaves and makes of the slots of its call.
 use Rattle.std.proofs.Common.{◌≡◌, ◌≢◌, ℕ, suc, ◌+◌, ◌-◌, ◌≤◌, ◌<◌, Bool, true, false, ◌&&◌, ◌||◌, List, Option, Some, None, refl, sym, ap, subst, ◌∙◌, arith, inl, inr}
-use Rattle.std.specs.Prelude.{◌==◌, not, nat_le, nat_lt, if◌then◌else◌}
+use Rattle.std.specs.Prelude.{◌==◌, not, nat_le, nat_lt, int_le, int_lt, if◌then◌else◌}
 use Rattle.std.proofs.lemmas.Bool.{or_parts, or_cases, and_parts, and_from, and_left, and_right, eqb-true, eq-eqb, eqb-false, cond-true, cond-false, cond_both, not-true, le-leb, leb-true, lt-leb, lt-ltb, le-ltb, false≢true, not_from_false}
-use Rattle.cyc_words.specs.Word.{add_of}
+use Rattle.cyc_words.specs.Word.{signed, add_of, slt_of}
 use Rattle.cyc_store.specs.State.{StoreState}
 use Rattle.cyc_store.specs.Services as services
 use Rattle.cyc_store.specs.Services.{answer}
+use Rattle.cyc_plain.specs.declared.instruction.Instruction.TheVariants as instructions
 use Rattle.cyc_plain.specs.declared.instruction.Operand.{Operand}
 use Rattle.cyc_plain.specs.declared.instruction.Operand.TheVariants as operands
 use Rattle.cyc_plain.specs.declared.instruction.Request.{Request}
 use Rattle.cyc_plain.specs.declared.instruction.Request.TheVariants as requests
+use Rattle.cyc_plain.specs.declared.instruction.UnaryOperator.{UnaryOperator}
+use Rattle.cyc_plain.specs.declared.instruction.UnaryOperator.TheVariants as unary
 use Rattle.cyc_plain.specs.declared.instruction.BinaryOperator.{BinaryOperator}
+use Rattle.cyc_plain.specs.declared.instruction.BinaryOperator.TheVariants as binary
 use Rattle.cyc_plain.specs.declared.instruction.Comparison.{Comparison}
 use Rattle.cyc_plain.specs.inside.Requests.{destination_of, answer_count}
-use Rattle.cyc_plain.specs.inside.Operators.{binary_result, has_no_result, compares}
+use Rattle.cyc_plain.specs.inside.Operators.{truth, unary_result, binary_result, has_no_result, compares}
 use Rattle.cyc_plain.specs.inside.State.{Words, put, copied}
 use Rattle.cyc_plain.specs.inside.Step.{operand_word, call_in, told}
 use Rattle.cyc_plain.proofs.SlotLaws.{put-same, put-other}
@@ -21,7 +25,7 @@ use Rattle.cyc_plain.specs.inside.Uses.{is_slot, is_among}
 use Rattle.cyc_simplify.specs.declared.fact.Fact.{Fact}
 use Rattle.cyc_simplify.specs.declared.fact.Fact.TheVariants as facts_are
 use Rattle.cyc_simplify.specs.declared.fact.Written.{Written}
-use Rattle.cyc_simplify.specs.inside.Facts.{Scene, IsTrueIn, IsTrueIfAny, is_free, are_free, lie_apart, are_copied, suits_operand, leaves_slot, negated, is_any_slot, suited, loaded, shown}
+use Rattle.cyc_simplify.specs.inside.Facts.{Scene, IsTrueIn, IsTrueIfAny, is_free, are_free, lie_apart, are_copied, suits_operand, leaves_slot, negated, is_any_slot, suited, is_test, is_not, truth_in, tested, loaded, shown}
 use Rattle.cyc_simplify.proofs.Truth.{IsLeft, suited_any, suited_if}
 use Rattle.cyc_simplify.proofs.Same.{negated_compares}
 
@@ -133,6 +137,45 @@ computed_made old memory pinned operator destination left right some =
           ∙ ap (λ (b : ℕ). binary_result operator (operand_word new.slots left) b) (sym by_right),
       ap (has_no_result operator) by_right ∙ some,
     ))
+
+-- a truth value is below two
+truth_below : (holds : Bool) → nat_lt (truth holds) 2 ≡ true
+truth_below true = refl
+truth_below false = refl
+
+test_below : (operator : BinaryOperator) (a b : ℕ) → is_test operator ≡ true → nat_lt (binary_result operator a b) 2 ≡ true
+unfolding slt_of
+test_below binary.Equal a b is = truth_below (a == b)
+test_below binary.NotEqual a b is = truth_below (not (a == b))
+test_below binary.Less a b is = truth_below (int_lt (signed a) (signed b))
+test_below binary.LessOrEqual a b is = truth_below (int_le (signed a) (signed b))
+test_below binary.Greater a b is = truth_below (int_lt (signed b) (signed a))
+test_below binary.GreaterOrEqual a b is = truth_below (int_le (signed b) (signed a))
+test_below operator a b is = absurd (false≢true is)
+
+not_below : (operator : UnaryOperator) (a : ℕ) → is_not operator ≡ true → nat_lt (unary_result operator a) 2 ≡ true
+not_below unary.Not a is = truth_below (a == 0)
+not_below operator a is = absurd (false≢true is)
+
+module _ (old : Words) (memory : ℕ → Option ℕ) (pinned : List Bool) (destination : ℕ) where
+  -- the slot got one, if that is said of it
+  truth_there : (is_said : Bool) (word : ℕ) → (is_said ≡ true → nat_lt word 2 ≡ true)
+      → IsTrueIfAny (record { slots = put old destination word; memory = memory }) (if is_said then suited pinned (truth_in destination) else None)
+  truth_there true word below =
+      suited_any (record { slots = put old destination word; memory = memory }) pinned (truth_in destination)
+      (ap (λ (w : ℕ). nat_lt w 2) (put-same old destination word) ∙ below refl)
+  truth_there false word below = tt
+
+  pub test_made : (operator : BinaryOperator) (left right : Operand)
+      → IsTrueIfAny (record { slots = put old destination (binary_result operator (operand_word old left) (operand_word old right)); memory = memory })
+      (tested pinned (instructions.Binary operator destination left right))
+  test_made operator left right =
+      truth_there (is_test operator) (binary_result operator (operand_word old left) (operand_word old right)) (test_below operator (operand_word old left) (operand_word old right))
+
+  pub not_made : (operator : UnaryOperator) (operand : Operand)
+      → IsTrueIfAny (record { slots = put old destination (unary_result operator (operand_word old operand)); memory = memory })
+      (tested pinned (instructions.Unary operator destination operand))
+  not_made operator operand = truth_there (is_not operator) (unary_result operator (operand_word old operand)) (not_below operator (operand_word old operand))
 
 -- the word that memory has there was loaded
 pub loaded_made : (old : Words) (memory : ℕ → Option ℕ) (pinned : List Bool) (address : Operand) (offset destination word : ℕ)

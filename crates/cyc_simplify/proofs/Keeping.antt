@@ -1,7 +1,7 @@
 -- What is kept and remembered, as it is found.
 use Rattle.std.proofs.Common.{◌≡◌, ℕ, ◌+◌, ◌-◌, ◌<◌, ◌≤◌, Bool, true, false, ◌&&◌, List, [], ◌∷◌, refl, ap, ◌∙◌, arith, inl, inr}
 use Rattle.std.specs.Prelude.{not, nat_le, nat_lt}
-use Rattle.std.proofs.lemmas.Bool.{cases_lt, and_from, and_parts, and_right, cond-true, le-ltb, lt-ltb, le-leb, lt-leb, eqb-true, false≢true, not_from_false}
+use Rattle.std.proofs.lemmas.Bool.{cases_lt, and_from, and_right, cond-true, le-ltb, lt-ltb, le-leb, lt-leb, eqb-true, false≢true, not_from_false}
 use Rattle.cyc_plain.specs.declared.instruction.Operand.{Operand}
 use Rattle.cyc_plain.specs.declared.instruction.Operand.TheVariants as operands
 use Rattle.cyc_plain.specs.inside.Uses.{is_among}
@@ -10,7 +10,7 @@ use Rattle.cyc_simplify.specs.declared.fact.Fact.TheVariants as facts_are
 use Rattle.cyc_simplify.specs.declared.fact.Touched.{Touched}
 use Rattle.cyc_simplify.specs.declared.fact.Touched.TheVariants as touches
 use Rattle.cyc_simplify.specs.declared.fact.Written.{Written}
-use Rattle.cyc_simplify.specs.inside.Entries.{keeps_all, changes_nothing}
+use Rattle.cyc_simplify.specs.inside.Entries.{changes_nothing}
 use Rattle.cyc_simplify.specs.inside.Replacement.{simplified_operand}
 use Rattle.cyc_simplify.specs.inside.Facts.{leaves_slot, leaves_operand, keeps, kept}
 
@@ -56,14 +56,6 @@ module _ (slots : Written) (none : slots.count ≡ 0) where
 pub nothing_changed : (slots : Written) (t : Touched) (facts : List Fact) → changes_nothing slots t ≡ true → kept slots t facts ≡ facts
 nothing_changed slots touches.Nothing facts none = none_written slots (eqb-true slots.count 0 none) facts
 nothing_changed slots t facts none = absurd (false≢true none)
-
--- ---- nothing forgotten
-
-pub all_facts_kept : (slots : Written) (t : Touched) (facts : List Fact) → keeps_all slots t facts ≡ true → kept slots t facts ≡ facts
-all_facts_kept slots t [] all = refl
-all_facts_kept slots t (fact ∷ facts) all =
-    let (first, rest) = and_parts (keeps slots t fact) (keeps_all slots t facts) all in
-    cond-true (keeps slots t fact) (fact ∷ kept slots t facts) (kept slots t facts) first ∙ ap (λ (others : List Fact). fact ∷ others) (all_facts_kept slots t facts rest)
 
 -- ---- a word stands for itself
 

@@ -1,5 +1,5 @@
 -- In a run of a simplified program what its tables say is true: in the call that is executed, and in those that wait.
-use Rattle.std.proofs.Common.{◌≡◌, ℕ, suc, ◌+◌, ◌-◌, ◌*◌, ◌%◌, ◌^◌, Bool, true, false, List, [], ◌∷◌, ◌++◌, drop, slice_get, Option, Some, None, refl, sym, ap, subst, ◌∙◌, arith, inl, inr}
+use Rattle.std.proofs.Common.{◌≡◌, ℕ, suc, ◌+◌, ◌-◌, ◌*◌, ◌%◌, ◌^◌, ◌<◌, Bool, true, false, List, [], ◌∷◌, ◌++◌, drop, length, slice_get, Option, Some, None, refl, sym, ap, subst, ◌∙◌, arith, inl, inr}
 use Rattle.std.specs.Prelude.{◌==◌, if◌then◌else◌, unwrap_or, slice_index}
 use Rattle.std.proofs.lemmas.Bool.{cases_Bool, eq-eqb, or_left, or_right, cond_both, false≢true, not_from_false}
 use Rattle.cyc_words.specs.Ending.{Uncaught}
@@ -13,9 +13,10 @@ use Rattle.cyc_store.specs.Services.{Call, Refusal, refusal}
 use Rattle.cyc_plain.specs.declared.instruction.Instruction.{Instruction}
 use Rattle.cyc_plain.specs.declared.instruction.Instruction.TheVariants as instructions
 use Rattle.cyc_plain.specs.declared.instruction.Operand.{Operand}
+use Rattle.cyc_plain.specs.declared.instruction.Operand.TheVariants as operands
 use Rattle.cyc_plain.specs.declared.instruction.BinaryOperator.{BinaryOperator}
 use Rattle.cyc_plain.specs.declared.instruction.Comparison.{Comparison}
-use Rattle.cyc_plain.specs.declared.limits.TheConstants.{RECORD_WORDS}
+use Rattle.cyc_plain.specs.declared.limits.TheConstants.{GLOBALS_BASE, RECORD_WORDS}
 use Rattle.cyc_plain.specs.inside.Operators.{unary_result, has_no_result, binary_result, compares}
 use Rattle.cyc_plain.specs.inside.Requests.{destination_of}
 use Rattle.cyc_plain.specs.inside.Program.{Program, routine_at}
@@ -23,17 +24,24 @@ use Rattle.cyc_plain.specs.inside.State.{Words, put, copied, Handler, Open, Caug
 use Rattle.cyc_plain.specs.inside.Memory.{Range, OfGlobals, OfStore, OfSlots, range_of, is_pinned, global_at, slot_at, put_or, with_waiting, memory_at, with_global, with_slot, with_word, with_memory}
 use Rattle.cyc_plain.specs.inside.Step.{served_to, with_slots, Choice, gives, operand_word, returns, loads, saves, loads_byte, saves_byte, advanced, asks, is_intact, tries, closes, lands, throws, finishes, call_in, performed, start}
 use Rattle.cyc_plain.proofs.RunLaws.{if_either}
-use Rattle.cyc_plain.proofs.MemoryLaws.{numbered-from}
+use Rattle.cyc_plain.proofs.MemoryLaws.{numbered-from, memory-global, written-global}
 use Rattle.cyc_plain.proofs.SlotLaws.{put-other}
 use Rattle.cyc_plain.specs.inside.Uses.{At, is_slot, is_among, leads}
+use Rattle.cyc_plain.specs.inside.WellFormed.{IsWellFormed}
 use Rattle.cyc_simplify.specs.declared.fact.Fact.{Fact}
 use Rattle.cyc_simplify.specs.declared.fact.Fact.TheVariants as facts_are
 use Rattle.cyc_simplify.specs.declared.fact.Touched.TheVariants as touches
-use Rattle.cyc_simplify.specs.inside.Facts.{Scene, scene_of, AreTrueIn, IsTrueIfAny, IsMade, is_free, are_free, are_suited, written, touched_by, touched_by_words, leaves_slot, touched, kept, suited, held}
+use Rattle.cyc_simplify.specs.inside.Facts.{Scene, scene_of, AreTrueIn, IsTrueIfAny, IsMade, is_free, are_free, are_suited, written, touched_by, touched_by_words, leaves_slot, first_global, global_offset, touched_global, touched, kept, suited, held, held_global}
 use Rattle.cyc_simplify.specs.inside.Table.{IsReplaced}
-use Rattle.cyc_simplify.proofs.Memory.{memory_other, memory_there, unnamed_left, IsAlike, memory_alike}
+use Rattle.cyc_simplify.proofs.Memory.{memory_other, memory_there, unnamed_left, IsAlike, memory_alike, global_at_offset}
 use Rattle.cyc_simplify.proofs.Truth.{IsLeft, IsUntouched, fact_free, kept_true, suited_true, kept_suited, AreTrueAlone, true_alone, true_behind_call, suited_if, free_there}
-use Rattle.cyc_simplify.proofs.Behind.{put_left, put_itself, copied_left, copied_made, told_left, moved_made, itself_word, computed_made, loaded_made, shown_true}
+use Rattle.cyc_simplify.proofs.Behind.{put_left, put_itself, copied_left, copied_made, told_left, moved_made, itself_word, test_made, not_made, computed_made, loaded_made, shown_true}
+
+-- the global that an instruction loads or stores is there
+abbrev pub HasGlobal : Program → Instruction → Type 0
+HasGlobal program (instructions.LoadGlobal destination global) = global < length program.globals
+HasGlobal program (instructions.StoreGlobal global source) = global < length program.globals
+HasGlobal program i = Unit {0}
 
 module _ (program simplified : Program) (replaced : (function : ℕ) → IsReplaced program (routine_at program function) (routine_at simplified function)) where
   -- what is known at a place of a function
@@ -375,7 +383,8 @@ module _ (program simplified : Program) (replaced : (function : ℕ) → IsRepla
         go false some =
             let word : ℕ = binary_result operator (operand_word words left) (operand_word words right) in (
               gets (instructions.Binary operator destination left right) at (given destination word) destination word (record { function = refl; base = refl; frames = refl; globals = refl; store = refl })
-                  refl led refl refl (computed_made words (memory_at program (given destination word)) pins operator destination left right some),
+                  refl led refl refl
+                  (test_made words (memory_at program (given destination word)) pins destination operator left right, computed_made words (memory_at program (given destination word)) pins operator destination left right some),
               handling,
               waiting,
             )
@@ -456,24 +465,74 @@ module _ (program simplified : Program) (replaced : (function : ℕ) → IsRepla
         (λ slot named. put-other words destination slot word (λ same. false≢true (sym (free_unnamed c.active.function destination free) ∙ ap (is_pinned (routine_at program c.active.function).code) (sym same) ∙ named))) a
         ∙ there)))
 
-    performs : (i : Instruction) → here_at i → IsKnown (performed program choice c i)
-    performs (instructions.Move destination source) at = moved destination source at
-    performs (instructions.MoveWords destination source count) at = (
+    -- the word of a global comes to a slot
+    from_global : IsWellFormed program → (destination global : ℕ) → global < length program.globals → here_at (instructions.LoadGlobal destination global)
+        → IsKnown (performed program choice c (instructions.LoadGlobal destination global))
+    from_global well destination global below at = (
+      gets (instructions.LoadGlobal destination global) at behind destination (c.globals global) (record { function = refl; base = refl; frames = refl; globals = refl; store = refl }) refl led refl refl
+          (makes (global_offset global) refl),
+      handling,
+      waiting,
+    )
+      where
+        behind : Configuration
+        behind = given destination (c.globals global)
+
+        makes : (o : Option ℕ) → global_offset global ≡ o → IsTrueIfAny (scene_of program behind) (held_global pins o (operands.Slot destination))
+        makes (Some offset) is =
+            loaded_made words (memory_at program behind) pins first_global offset destination (c.globals global)
+            (λ free. ap (memory_at program behind) (global_at_offset global offset is) ∙ memory-global program well behind global below)
+        makes None is = tt
+
+    -- a store to a global is one by its address
+    to_global : IsWellFormed program → (global : ℕ) (source : Operand) → global < length program.globals → here_at (instructions.StoreGlobal global source)
+        → IsKnown (performed program choice c (instructions.StoreGlobal global source))
+    to_global well global source below at = (
+      subst (λ (d : Configuration). AreTrueIn (scene_of program (advanced d)) (facts_in c.active.function (c.active.next + 1))) (written-global program well c global word below)
+          (stored choice c i at holds handling waiting address word refl led (leaves (global_offset global) refl) (makes (global_offset global) refl)),
+      handling,
+      waiting,
+    )
+      where
+        i : Instruction
+        i = instructions.StoreGlobal global source
+
+        address : ℕ
+        address = GLOBALS_BASE + 4 * global
+
+        word : ℕ
+        word = operand_word words source
+
+        leaves : (o : Option ℕ) → global_offset global ≡ o → IsUntouched (scene_of program c) (between choice c i at holds handling waiting address word) (touched_global o)
+        leaves (Some offset) is = λ other apart.
+            memory_behind choice c i at holds handling waiting address word other
+            ∙ memory_other program c address word other (λ same. apart (same ∙ sym (global_at_offset global offset is)))
+        leaves None is = tt
+
+        makes : (o : Option ℕ) → global_offset global ≡ o
+            → IsTrueIfAny (scene_of program (behind_store choice c i at holds handling waiting address word)) (held_global pins o source)
+        makes (Some offset) is =
+            stored_there choice c i at holds handling waiting address word first_global offset (c.globals global) source (sym (global_at_offset global offset is)) refl (memory-global program well c global below)
+        makes None is = tt
+
+    performs : IsWellFormed program → (i : Instruction) → HasGlobal program i → here_at i → IsKnown (performed program choice c i)
+    performs well (instructions.Move destination source) has at = moved destination source at
+    performs well (instructions.MoveWords destination source count) has at = (
       left choice c (instructions.MoveWords destination source count) at holds handling waiting (c.active.next + 1) (scene_of program (advanced (with_slots c (copied words source count words destination)))) led (copied_left words words source count destination)
           (by_slots choice c (instructions.MoveWords destination source count) at holds handling waiting (advanced (with_slots c (copied words source count words destination))) source count destination (record { function = refl; base = refl; frames = refl; globals = refl; store = refl }) refl)
           (copied_made words pins source count destination),
       handling,
       waiting,
     )
-    performs (instructions.Unary operator destination operand) at = (gets_any (instructions.Unary operator destination operand) at (given destination (unary_result operator (operand_word words operand))) destination (unary_result operator (operand_word words operand)) (record { function = refl; base = refl; frames = refl; globals = refl; store = refl }) refl led refl refl tt, handling, waiting)
-    performs (instructions.Binary operator destination left right) at = computed operator destination left right at
-    performs (instructions.Jump target) at = (
+    performs well (instructions.Unary operator destination operand) has at = (gets_any (instructions.Unary operator destination operand) at (given destination (unary_result operator (operand_word words operand))) destination (unary_result operator (operand_word words operand)) (record { function = refl; base = refl; frames = refl; globals = refl; store = refl }) refl led refl refl (not_made words (memory_at program (given destination (unary_result operator (operand_word words operand)))) pins destination operator operand), handling, waiting)
+    performs well (instructions.Binary operator destination left right) has at = computed operator destination left right at
+    performs well (instructions.Jump target) has at = (
       stays choice c (instructions.Jump target) at holds handling waiting target (record c { active = record c.active { next = target } }) (eq-eqb target target refl) (record { function = refl; base = refl; frames = refl; globals = refl; store = refl }) refl refl tt,
       handling,
       waiting,
     )
-    performs (instructions.Branch comparison left right target) at = branched comparison left right target at
-    performs (instructions.Call function arguments count result) at = (
+    performs well (instructions.Branch comparison left right target) has at = branched comparison left right target at
+    performs well (instructions.Call function arguments count result) has at = (
       subst (AreTrueIn (scene_of program (record c {
         active = record { function = function; next = 0; base = choice.base; slots = copied words arguments count choice.contents 0; handlers = [] };
         frames = record { caller = (advanced c).active; result = result } ∷ c.frames;
@@ -492,43 +551,40 @@ module _ (program simplified : Program) (replaced : (function : ℕ) → IsRepla
         waiting,
       ),
     )
-    performs (instructions.Return value) at = returned choice c _ at holds handling waiting value (routine_at program c.active.function).results c.frames refl waiting
-    performs (instructions.ReadByte destination) at = (gets_any (instructions.ReadByte destination) at (advanced (with_slots (record c { input = drop 1 c.input }) (put words destination (unwrap_or (slice_get c.input 0) (2 ^ 32 - 1))))) destination (unwrap_or (slice_get c.input 0) (2 ^ 32 - 1)) (record { function = refl; base = refl; frames = refl; globals = refl; store = refl }) refl led refl refl tt, handling, waiting)
-    performs (instructions.WriteByte source) at = (goes_by (instructions.WriteByte source) at (advanced (record c { output = c.output ++ operand_word words source % 256 ∷ [] })) led (record { function = refl; base = refl; frames = refl; globals = refl; store = refl }) refl refl tt, handling, waiting)
-    performs (instructions.AddressOf destination slot count) at = (gets_any (instructions.AddressOf destination slot count) at (given destination (add_of c.active.base (4 * slot))) destination (add_of c.active.base (4 * slot)) (record { function = refl; base = refl; frames = refl; globals = refl; store = refl }) refl led refl refl tt, handling, waiting)
-    performs (instructions.LoadGlobal destination global) at = (gets_any (instructions.LoadGlobal destination global) at (given destination (c.globals global)) destination (c.globals global) (record { function = refl; base = refl; frames = refl; globals = refl; store = refl }) refl led refl refl tt, handling, waiting)
-    performs (instructions.StoreGlobal global source) at = (
-      left choice c (instructions.StoreGlobal global source) at holds handling waiting (c.active.next + 1) (scene_of program (advanced (record c { globals = put c.globals global (operand_word words source) }))) led (λ slot leaves. refl) tt tt,
-      handling,
-      waiting,
-    )
-    performs (instructions.Load destination address offset) at = loaded destination address offset at
-    performs (instructions.Store address offset source) at = saved address offset source at (memory_at program c (add_of (operand_word words address) offset)) refl
-    performs (instructions.LoadByte destination address offset) at =
+    performs well (instructions.Return value) has at = returned choice c _ at holds handling waiting value (routine_at program c.active.function).results c.frames refl waiting
+    performs well (instructions.ReadByte destination) has at = (gets_any (instructions.ReadByte destination) at (advanced (with_slots (record c { input = drop 1 c.input }) (put words destination (unwrap_or (slice_get c.input 0) (2 ^ 32 - 1))))) destination (unwrap_or (slice_get c.input 0) (2 ^ 32 - 1)) (record { function = refl; base = refl; frames = refl; globals = refl; store = refl }) refl led refl refl tt, handling, waiting)
+    performs well (instructions.WriteByte source) has at = (goes_by (instructions.WriteByte source) at (advanced (record c { output = c.output ++ operand_word words source % 256 ∷ [] })) led (record { function = refl; base = refl; frames = refl; globals = refl; store = refl }) refl refl tt, handling, waiting)
+    performs well (instructions.AddressOf destination slot count) has at = (gets_any (instructions.AddressOf destination slot count) at (given destination (add_of c.active.base (4 * slot))) destination (add_of c.active.base (4 * slot)) (record { function = refl; base = refl; frames = refl; globals = refl; store = refl }) refl led refl refl tt, handling, waiting)
+    performs well (instructions.LoadGlobal destination global) has at = from_global well destination global has at
+    performs well (instructions.StoreGlobal global source) has at = to_global well global source has at
+    performs well (instructions.Load destination address offset) has at = loaded destination address offset at
+    performs well (instructions.Store address offset source) has at = saved address offset source at (memory_at program c (add_of (operand_word words address) offset)) refl
+    performs well (instructions.LoadByte destination address offset) has at =
         loaded_byte choice c (instructions.LoadByte destination address offset) at holds handling waiting destination (add_of (operand_word words address) offset)
         (memory_at program c (word_of (add_of (operand_word words address) offset)))
         (λ word. gets_any (instructions.LoadByte destination address offset) at (given destination word) destination word (record { function = refl; base = refl; frames = refl; globals = refl; store = refl }) refl led refl refl tt)
-    performs (instructions.StoreByte address offset source) at = saved_byte address offset source at (memory_at program c (word_of (add_of (operand_word words address) offset)))
-    performs (instructions.Ask request) at =
+    performs well (instructions.StoreByte address offset source) has at = saved_byte address offset source at (memory_at program c (word_of (add_of (operand_word words address) offset)))
+    performs well (instructions.Ask request) has at =
         served choice c (instructions.Ask request) at holds handling waiting (destination_of request) (call_in words request) (refusal c.store (call_in words request))
         (left choice c (instructions.Ask request) at holds handling waiting (c.active.next + 1) (scene_of program (served_to choice.serving c (destination_of request) (call_in words request))) led (told_left c.store words words request choice.serving) tt tt)
-    performs (instructions.CountLexical destination) at = (gets_any (instructions.CountLexical destination) at (given destination (lexical_count c.store.regions % 2 ^ 32)) destination (lexical_count c.store.regions % 2 ^ 32) (record { function = refl; base = refl; frames = refl; globals = refl; store = refl }) refl led refl refl tt, handling, waiting)
-    performs (instructions.Try first handler) at =
+    performs well (instructions.CountLexical destination) has at = (gets_any (instructions.CountLexical destination) at (given destination (lexical_count c.store.regions % 2 ^ 32)) destination (lexical_count c.store.regions % 2 ^ 32) (record { function = refl; base = refl; frames = refl; globals = refl; store = refl }) refl led refl refl tt, handling, waiting)
+    performs well (instructions.Try first handler) has at =
         tried choice c (instructions.Try first handler) at holds handling waiting first handler c.active.handlers handling ((replaced c.active.function).is_table.tries c.active.next first handler at)
         (try_behind first handler (c.active.next + 1) at (or_left (suc c.active.next == c.active.next + 1) (handler == c.active.next + 1) led))
         (try_behind first handler handler at (or_right (suc c.active.next == handler) (handler == handler) (eq-eqb handler handler refl)))
-    performs (instructions.Leave first) at =
+    performs well (instructions.Leave first) has at =
         closed choice c (instructions.Leave first) at holds handling waiting
         (λ handlers. goes_by (instructions.Leave first) at (advanced (record c { active = record c.active { handlers = handlers } })) led (record { function = refl; base = refl; frames = refl; globals = refl; store = refl }) refl refl tt) first c.active.handlers handling
-    performs (instructions.Throw tag value) at =
+    performs well (instructions.Throw tag value) has at =
         thrown choice c (instructions.Throw tag value) at holds handling waiting (operand_word words tag) (operand_word words value) c.active c.frames handling waiting
-    performs (instructions.Finish value) at = finished choice c (instructions.Finish value) at holds handling waiting value (routine_at program c.active.function).results c.active.handlers refl
-    performs (instructions.Uncaught tag value) at = tt
-    performs (instructions.Enter function) at = (goes_by (instructions.Enter function) at (advanced c) led (record { function = refl; base = refl; frames = refl; globals = refl; store = refl }) refl refl tt, handling, waiting)
+    performs well (instructions.Finish value) has at = finished choice c (instructions.Finish value) at holds handling waiting value (routine_at program c.active.function).results c.active.handlers refl
+    performs well (instructions.Uncaught tag value) has at = tt
+    performs well (instructions.Enter function) has at = (goes_by (instructions.Enter function) at (advanced c) led (record { function = refl; base = refl; frames = refl; globals = refl; store = refl }) refl refl tt, handling, waiting)
 
   -- what is known stays known
-  pub known_behind : (choice : Choice) (c : Configuration) (i : Instruction) → At (routine_at simplified c.active.function) c.active.next i → IsKnown (Running c) → IsKnown (performed program choice c i)
-  known_behind choice c i at (holds, handling, waiting) = performs choice c holds handling waiting i at
+  pub known_behind : IsWellFormed program → (choice : Choice) (c : Configuration) (i : Instruction) → HasGlobal program i → At (routine_at simplified c.active.function) c.active.next i
+      → IsKnown (Running c) → IsKnown (performed program choice c i)
+  known_behind well choice c i has at (holds, handling, waiting) = performs choice c holds handling waiting well i has at
 
   -- where a run begins
   abbrev beginning : (base : ℕ) → StoreState → List ℕ → Configuration

@@ -20,5 +20,6 @@ pub mod Spared
 pub mod Sparing
 -- what the functions do
 pub mod Keeping
+pub mod Marked
 pub mod Ranges
 pub mod Walks

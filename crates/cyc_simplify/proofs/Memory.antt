@@ -1,15 +1,17 @@
 -- What a store, and a word that comes to a slot, change of memory.
-use Rattle.std.proofs.Common.{◌≡◌, ◌≢◌, ℕ, ◌+◌, ◌*◌, Bool, true, false, List, [], ◌∷◌, length, Option, None, Some, refl, sym, ap, ◌∙◌}
-use Rattle.std.specs.Prelude.{nat_lt}
-use Rattle.std.proofs.lemmas.Bool.{false≢true}
+use Rattle.std.proofs.Common.{◌≡◌, ◌≢◌, ℕ, ◌+◌, ◌*◌, ◌<◌, Bool, true, false, List, [], ◌∷◌, length, Option, None, Some, refl, sym, ap, ◌∙◌, arith}
+use Rattle.std.specs.Prelude.{nat_lt, if◌then◌else◌}
+use Rattle.std.proofs.lemmas.Bool.{ltb-true, false≢true}
+use Rattle.cyc_words.specs.Word.{add_of}
 use Rattle.cyc_store.specs.State.{StoreState, word_at}
 use Rattle.cyc_store.proofs.ServiceLemmas.{saved-same, saved-other}
-use Rattle.cyc_plain.specs.declared.limits.TheConstants.{GLOBALS_BASE}
+use Rattle.cyc_plain.specs.declared.limits.TheConstants.{GLOBALS_BASE, MOST_GLOBALS}
 use Rattle.cyc_plain.specs.inside.Program.{Program, routine_at}
 use Rattle.cyc_plain.specs.inside.State.{Words, put, Frame, Configuration}
 use Rattle.cyc_plain.specs.inside.Memory.{is_pinned, numbered, global_at, slot_at, word_or, word_waiting, put_or, with_waiting, Range, OfGlobals, OfStore, OfSlots, range_of, word_in, memory_at, with_global, with_slot, with_word, with_memory}
-use Rattle.cyc_plain.proofs.MemoryLaws.{numbered-from}
+use Rattle.cyc_plain.proofs.MemoryLaws.{numbered-from, range-globals}
 use Rattle.cyc_plain.proofs.SlotLaws.{put-same, put-other}
+use Rattle.cyc_simplify.specs.inside.Facts.{global_offset}
 
 -- ---- words that lie one behind the other
 
@@ -162,3 +164,32 @@ memory_alike program c d alike same address = go (range_of address)
         ap (λ (o : Option ℕ). word_or o d.active.slots (word_waiting program d.frames address)) at_same
         ∙ ap (λ (frames : List Frame). word_or (slot_at program c.active address) d.active.slots (word_waiting program frames address)) alike.frames
         ∙ named (slot_at program c.active address) refl
+
+-- ---- globals
+
+offset_is : (global offset : ℕ) → global_offset global ≡ Some offset → (global < MOST_GLOBALS) × (offset ≡ 4 * global)
+offset_is global offset is = go (nat_lt global MOST_GLOBALS) refl is
+  where
+    go : (b : Bool) → nat_lt global MOST_GLOBALS ≡ b → (if b then Some (4 * global) else None) ≡ Some offset → (global < MOST_GLOBALS) × (offset ≡ 4 * global)
+    go true few is = (ltb-true global MOST_GLOBALS few, let e : Some (4 * global) ≡ Some offset = is in cc)
+    go false many is = absurd (let e : None ≡ Some offset = is in cc)
+
+pub global_at_offset : (global offset : ℕ) → global_offset global ≡ Some offset → add_of GLOBALS_BASE offset ≡ GLOBALS_BASE + 4 * global
+global_at_offset global offset is = let (few, same) = offset_is global offset is in omega (arith, few, same)
+
+-- the word that is found by its address is its own
+pub global_found : (program : Program) (c : Configuration) (global offset word : ℕ) → global_offset global ≡ Some offset
+    → memory_at program c (add_of GLOBALS_BASE offset) ≡ Some word → word ≡ c.globals global
+global_found program c global offset word is found =
+    let (few, same) = offset_is global offset is in
+    let address : ℕ = GLOBALS_BASE + 4 * global in
+    let there : word_in program c address OfGlobals ≡ Some word =
+    sym (ap (word_in program c address) (range-globals address (omega (arith, few)))) ∙ (sym (ap (memory_at program c) (global_at_offset global offset is)) ∙ found) in
+    go (global_at program address) refl there
+  where
+    go : (o : Option ℕ) → global_at program (GLOBALS_BASE + 4 * global) ≡ o → word_or o c.globals None ≡ Some word → word ≡ c.globals global
+    go (Some number) at is =
+        let (here, among) = numbered-from (λ (number : ℕ). nat_lt number (length program.globals)) GLOBALS_BASE (GLOBALS_BASE + 4 * global) number at in
+        let same : number ≡ global = omega (arith, here) in
+        (let e : Some (c.globals number) ≡ Some word = is in let w : word ≡ c.globals number = cc in w) ∙ ap c.globals same
+    go None at is = absurd (let e : None ≡ Some word = is in cc)

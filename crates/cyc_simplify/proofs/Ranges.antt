@@ -52,7 +52,7 @@ drop_code_at [] k i at = absurd (none-some i at)
 drop_code_at (j ∷ code) zero i at = let same : j ≡ i = cc in ap (λ (x : Instruction). x ∷ code) same
 drop_code_at (j ∷ code) (suc k) i at = drop_code_at code k i at
 
-drop_here : (code : List Instruction) (k : ℕ) (i : Instruction) → slice_get code k ≡ Some i → drop k code ≡ i ∷ drop (k + 1) code
+pub drop_here : (code : List Instruction) (k : ℕ) (i : Instruction) → slice_get code k ≡ Some i → drop k code ≡ i ∷ drop (k + 1) code
 drop_here code k i at = let after : suc k ≡ k + 1 = omega arith in subst (λ (n : ℕ). drop k code ≡ i ∷ drop n code) after (drop_code_at code k i at)
 
 module _ (code : List Instruction) (k : ℕ) (i : Instruction) (ranges : List Written) (at : slice_get code k ≡ Some i) (are : AreRangesBut code (drop k code) ranges) where

@@ -1,11 +1,13 @@
 -- Where facts are true, what stands for an instruction does the same.
-use Rattle.std.proofs.Common.{◌≡◌, ℕ, Bool, true, false, ◌&&◌, List, [], ◌∷◌, Option, Some, None, refl, sym, ap, subst, ◌∙◌, arith}
+use Rattle.std.proofs.Common.{◌≡◌, ℕ, zero, suc, ◌<◌, Bool, true, false, ◌&&◌, List, [], ◌∷◌, Option, Some, None, refl, sym, ap, subst, ◌∙◌, arith}
 use Rattle.std.specs.Prelude.{◌==◌, not, nat_lt, if◌then◌else◌, unwrap_or}
-use Rattle.std.proofs.lemmas.Bool.{and_parts, eqb-true, cond_both, not-true}
+use Rattle.std.proofs.lemmas.Bool.{and_parts, eqb-true, ltb-true, cond_both, not-true}
 use Rattle.cyc_words.specs.Word.{signed}
 use Rattle.cyc_words.proofs.Booleans.{not_not}
 use Rattle.cyc_words.proofs.Numbers.{nat_le-not_lt, nat_lt-not_le, not_eqb_other}
 use Rattle.cyc_words.proofs.Integers.{int_lt-not_le, int_le-not_lt, int_le-same, int_le-below, int_lt-not_same}
+use Rattle.cyc_plain.specs.declared.instruction.Instruction.{Instruction}
+use Rattle.cyc_plain.specs.declared.instruction.Instruction.TheVariants as instructions
 use Rattle.cyc_plain.specs.declared.instruction.Operand.{Operand}
 use Rattle.cyc_plain.specs.declared.instruction.Operand.TheVariants as operands
 use Rattle.cyc_plain.specs.declared.instruction.UnaryOperator.{UnaryOperator}
@@ -17,10 +19,18 @@ use Rattle.cyc_plain.specs.inside.Operators.{unary_result, binary_result, has_no
 use Rattle.cyc_plain.specs.inside.Step.{operand_word}
 use Rattle.cyc_simplify.specs.declared.fact.Fact.{Fact}
 use Rattle.cyc_simplify.specs.declared.fact.Fact.TheVariants as facts_are
-use Rattle.cyc_simplify.specs.inside.Facts.{Scene, IsTrueIn, AreTrueIn, is_same_operator, is_same_operand, is_same_word, negated}
+use Rattle.cyc_simplify.specs.inside.Facts.{Scene, IsTrueIn, AreTrueIn, is_same_operator, is_same_comparison, is_same_operand, is_same_word, negated}
 use Rattle.cyc_simplify.specs.inside.Replacement.{is_cheap, instead, simplified_operand, or_number, word_by, word_in, takes_word, small_or, right_operand, folded, folded_of, folded_in, negated_of}
-use Rattle.cyc_simplify.specs.inside.Replacement.{folded_unary, may_fold, folded_at, holder, or_slot, holder_in, implies, verdict, decision, or_verdict, decision_in, value_by, or_value, value_in}
+use Rattle.cyc_simplify.specs.inside.Replacement.{folded_unary, may_fold, folded_at, is_truth_test, own_slot, holder, or_slot, holder_in, implies, verdict, decision, or_verdict, decision_in, passed_by, value_by, or_value, value_in}
 use Rattle.cyc_simplify.proofs.Truth.{same_operator, same_comparison, same_operand, found_same}
+
+-- ---- branches that are never taken
+
+pub passed_either : (P : Instruction → Type 0) (left right : Operand) (target : ℕ) → ((slot : ℕ) → P (instructions.Move slot (operands.Slot slot)))
+    → P (instructions.Branch comparisons.NotEqual (operands.Word 0) (operands.Word 0) target) → P (passed_by left right target)
+passed_either P (operands.Slot number) right target move branch = move number
+passed_either P (operands.Word word) (operands.Slot number) target move branch = move number
+passed_either P (operands.Word word) (operands.Word other) target move branch = branch
 
 -- ---- comparisons
 
@@ -151,9 +161,32 @@ module _ (scene : Scene) where
   HoldsResult operator left right (Some slot) = IsTrueIn scene (facts_are.Computed slot operator left right)
   HoldsResult operator left right None = Unit {0}
 
+  -- a truth value is what its comparison with zero gives
+  truth_same : (a : ℕ) → a < 2 → a ≡ binary_result binary.NotEqual a 0
+  truth_same zero below = refl
+  truth_same (suc zero) below = refl
+  truth_same (suc (suc a)) below = absurd (omega (arith, below))
+
+  truth_held : (operand : Operand) → nat_lt (operand_word scene.slots operand) 2 ≡ true → HoldsResult binary.NotEqual operand (operands.Word 0) (own_slot operand)
+  truth_held (operands.Slot number) below = (truth_same (scene.slots number) (ltb-true (scene.slots number) 2 below), refl)
+  truth_held (operands.Word word) below = tt
+
   holder_true : (fact : Fact) (operator : BinaryOperator) (left right : Operand) → IsTrueIn scene fact → HoldsResult operator left right (holder fact operator left right)
   holder_true (facts_are.Equal slot operand) operator left right holds = tt
-  holder_true (facts_are.Holds comparison left_2 right_2) operator left right holds = tt
+  holder_true (facts_are.Holds comparison left_2 bound) operator left right holds =
+      cond_both (is_same_operand left_2 left && is_truth_test comparison bound operator right) (own_slot left_2) None (HoldsResult operator left right)
+      (λ is.
+      let (l, test) = and_parts (is_same_operand left_2 left) (is_truth_test comparison bound operator right) is in
+      let (c, rest) = and_parts (is_same_comparison comparison comparisons.LessUnsigned) (is_same_operand bound (operands.Word 2) && (is_same_operator operator binary.NotEqual && is_same_operand right (operands.Word 0))) test in
+      let (b, both) = and_parts (is_same_operand bound (operands.Word 2)) (is_same_operator operator binary.NotEqual && is_same_operand right (operands.Word 0)) rest in
+      let (o, r) = and_parts (is_same_operator operator binary.NotEqual) (is_same_operand right (operands.Word 0)) both in
+      let below : nat_lt (operand_word scene.slots left_2) 2 ≡ true =
+      subst (λ (x : Comparison). compares x (operand_word scene.slots left_2) 2 ≡ true) (same_comparison comparison comparisons.LessUnsigned c)
+      (subst (λ (x : Operand). compares comparison (operand_word scene.slots left_2) (operand_word scene.slots x) ≡ true) (same_operand bound (operands.Word 2) b) holds) in
+      subst (λ (x : BinaryOperator). HoldsResult x left right (own_slot left_2)) (sym (same_operator operator binary.NotEqual o))
+      (subst (λ (x : Operand). HoldsResult binary.NotEqual x right (own_slot left_2)) (same_operand left_2 left l)
+      (subst (λ (x : Operand). HoldsResult binary.NotEqual left_2 x (own_slot left_2)) (sym (same_operand right (operands.Word 0) r)) (truth_held left_2 below))))
+      (λ is. tt)
   holder_true (facts_are.Held address offset value) operator left right holds = tt
   holder_true (facts_are.Computed slot other left_2 right_2) operator left right (holds, some) =
       cond_both (is_same_operator other operator && (is_same_operand left_2 left && is_same_operand right_2 right)) (Some slot) None (HoldsResult operator left right)

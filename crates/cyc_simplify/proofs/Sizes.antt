@@ -1,5 +1,5 @@
 -- A simplified program is well formed, its numbers are words, and it is not larger.
-use Rattle.std.proofs.Common.{◌≡◌, ℕ, ◌-◌, ◌^◌, ◌<◌, ◌≤◌, Bool, true, false, ◌&&◌, List, [], ◌∷◌, length, Option, Some, None, slice_get, refl, sym, ap, subst, ◌∙◌, arith, inl, inr}
+use Rattle.std.proofs.Common.{◌≡◌, ℕ, ◌+◌, ◌-◌, ◌^◌, ◌<◌, ◌≤◌, Bool, true, false, ◌&&◌, List, [], ◌∷◌, length, Option, Some, None, slice_get, refl, sym, ap, subst, ◌∙◌, arith, inl, inr}
 use Rattle.std.specs.Prelude.{All, IsSomeAnd, sum_by, not, nat_lt, slice_index_or, unwrap_or}
 use Rattle.std.proofs.lemmas.Bool.{and_parts, cases_lt, cond_both, ltb-true, false≢true}
 use Rattle.std.proofs.lemmas.List.{get_or_past}
@@ -26,11 +26,14 @@ use Rattle.cyc_plain.proofs.WordLaws.{IsWord-unary_result, IsWord-binary_result}
 use Rattle.cyc_plain.specs.inside.Uses.{At, is_slot}
 use Rattle.cyc_simplify.specs.declared.fact.Fact.{Fact}
 use Rattle.cyc_simplify.specs.declared.fact.Fact.TheVariants as facts_are
-use Rattle.cyc_simplify.specs.inside.Facts.{is_same_operator, is_same_operand, is_same_word, is_known, is_free, suits_operand, suits, are_suited}
+use Rattle.cyc_simplify.specs.inside.Facts.{is_same_operator, is_same_operand, is_same_word, is_known, is_unreached, first_global, global_offset, is_free, suits_operand, suits, are_suited}
+use Rattle.cyc_simplify.specs.inside.Replacement.{is_truth_test, own_slot}
+use Rattle.cyc_simplify.specs.inside.Replacement.{may_vanish, vanishes, put_at}
 use Rattle.cyc_simplify.specs.inside.Replacement.{is_cheap, instead, simplified_operand, or_number, word_by, word_in, takes_word, small_or, right_operand, folded, folded_of, folded_in, negated_of, folded_unary, simplified_unary, may_fold}
-use Rattle.cyc_simplify.specs.inside.Replacement.{folded_at, holder, or_slot, holder_in, simplified_binary, simplified_move, decision_in, simplified_branch, value_by, or_value, value_in, simplified_load, simplified_request, simplified_instruction}
+use Rattle.cyc_simplify.specs.inside.Replacement.{folded_at, holder, or_slot, holder_in, simplified_binary, simplified_move, decision_in, passed_by, simplified_branch, value_by, or_value, value_in, simplified_load, global_value, simplified_global, simplified_request, simplified_instruction}
 use Rattle.cyc_simplify.specs.inside.Simplified.{IsLike, IsSimplified}
 use Rattle.cyc_simplify.specs.inside.Table.{IsReplaced, AreReplaced}
+use Rattle.cyc_simplify.proofs.Same.{passed_either}
 use Rattle.cyc_simplify.proofs.Runs.{each_replaced, follows}
 
 -- ---- operands
@@ -64,7 +67,13 @@ module _ (pinned : List Bool) where
 
   holder_free : (fact : Fact) (operator : BinaryOperator) (left right : Operand) → suits pinned fact ≡ true → IsFreeIfAny (holder fact operator left right)
   holder_free (facts_are.Equal slot operand) operator left right suits = tt
-  holder_free (facts_are.Holds comparison left_2 right_2) operator left right suits = tt
+  holder_free (facts_are.Holds comparison left_2 bound) operator left right suits =
+      cond_both (is_same_operand left_2 left && is_truth_test comparison bound operator right) (own_slot left_2) None IsFreeIfAny
+      (λ is. go left_2 (and_parts (suits_operand pinned left_2) (suits_operand pinned bound) suits).0) (λ is. tt)
+    where
+      go : (operand : Operand) → suits_operand pinned operand ≡ true → IsFreeIfAny (own_slot operand)
+      go (operands.Slot number) free = free
+      go (operands.Word word) free = tt
   holder_free (facts_are.Held address offset value) operator left right suits = tt
   holder_free (facts_are.Computed slot other left_2 right_2) operator left right suits =
       cond_both (is_same_operator other operator && (is_same_operand left_2 left && is_same_operand right_2 right)) (Some slot) None IsFreeIfAny
@@ -103,6 +112,10 @@ module _ (pinned : List Bool) where
       go : (one : Option Operand) → SuitsIfAny one → SuitsIfAny (value_in facts address offset) → SuitsIfAny (or_value one (value_in facts address offset))
       go (Some value) is others = is
       go None is others = others
+
+global_suits : (pinned : List Bool) (facts : List Fact) (offset : Option ℕ) → are_suited pinned facts ≡ true → SuitsIfAny pinned (global_value facts offset)
+global_suits pinned facts (Some offset) all = value_in_suits pinned facts first_global offset all
+global_suits pinned facts None all = tt
 
 word_suits : (pinned : List Bool) (operand : Operand) → suits_operand pinned operand ≡ true → IsOfWord operand
 word_suits pinned (operands.Slot number) suits = tt
@@ -222,9 +235,15 @@ module _ (pinned : List Bool) (facts : List Fact) (all : are_suited pinned facts
 
       go : (o : Option Bool) → HasWord (simplified_branch o comparison (simplified_operand facts left) (simplified_operand facts right) target)
       go (Some true) = tt
-      go (Some false) = (zero_word, zero_word)
+      go (Some false) = passed_either HasWord (simplified_operand facts left) (simplified_operand facts right) target (λ slot. tt) (zero_word, zero_word)
       go None = (of_word left first, of_word right second)
   has_word (instructions.WriteByte source) has = of_word source has
+  has_word (instructions.LoadGlobal destination global) has =
+      go (global_value facts (global_offset global)) (global_suits pinned facts (global_offset global) all)
+    where
+      go : (o : Option Operand) → SuitsIfAny pinned o → HasWord (simplified_global o destination global)
+      go (Some value) is = word_suits pinned value is
+      go None is = tt
   has_word (instructions.StoreGlobal global source) has = of_word source has
   has_word (instructions.Load destination address offset) (first, second) =
       go (value_in facts (simplified_operand facts address) offset) (value_in_suits pinned facts (simplified_operand facts address) offset all)
@@ -254,36 +273,69 @@ same_request_size facts (requests.CloseDynamic handle) = refl
 same_request_size facts (requests.Allocate destination handle words) = refl
 same_request_size facts (requests.Free address) = refl
 
-not_larger : (facts : List Fact) (i : Instruction) → instruction_size (simplified_instruction facts i) ≤ instruction_size i
+-- an instruction counts for no more than another
+abbrev IsNoLarger : (given put : Instruction) → Type 0
+IsNoLarger i j = instruction_size j ≤ instruction_size i
+
+not_larger : (facts : List Fact) (i : Instruction) → IsNoLarger i (simplified_instruction facts i)
 not_larger facts (instructions.Move destination source) = go (is_known facts (facts_are.Equal destination (simplified_operand facts source)))
   where
-    go : (b : Bool) → instruction_size (simplified_move b destination (simplified_operand facts source)) ≤ 6
+    i : Instruction
+    i = instructions.Move destination source
+
+    go : (b : Bool) → IsNoLarger i (simplified_move b destination (simplified_operand facts source))
     go true = omega arith
     go false = omega arith
 not_larger facts (instructions.Binary operator destination left right) = go (folded_at facts operator destination (simplified_operand facts left) (right_operand facts operator (simplified_operand facts right))) (holder_in facts operator (simplified_operand facts left) (right_operand facts operator (simplified_operand facts right)))
   where
-    go : (f o : Option ℕ) → instruction_size (simplified_binary f o operator destination (simplified_operand facts left) (right_operand facts operator (simplified_operand facts right))) ≤ operator_size operator
+    i : Instruction
+    i = instructions.Binary operator destination left right
+
+    go : (f o : Option ℕ) → IsNoLarger i (simplified_binary f o operator destination (simplified_operand facts left) (right_operand facts operator (simplified_operand facts right)))
     go (Some word) o = omega (arith, eleven operator)
     go None (Some slot) = omega (arith, eleven operator)
     go None None = omega arith
 not_larger facts (instructions.Branch comparison left right target) = go (decision_in facts comparison (simplified_operand facts left) (simplified_operand facts right))
   where
-    go : (o : Option Bool) → instruction_size (simplified_branch o comparison (simplified_operand facts left) (simplified_operand facts right) target) ≤ 11
+    i : Instruction
+    i = instructions.Branch comparison left right target
+
+    go : (o : Option Bool) → IsNoLarger i (simplified_branch o comparison (simplified_operand facts left) (simplified_operand facts right) target)
     go (Some true) = omega arith
-    go (Some false) = omega arith
+    go (Some false) = passed_either (IsNoLarger i) (simplified_operand facts left) (simplified_operand facts right) target (λ slot. omega arith) (omega arith)
     go None = omega arith
 not_larger facts (instructions.Load destination address offset) = go (value_in facts (simplified_operand facts address) offset)
   where
-    go : (o : Option Operand) → instruction_size (simplified_load o destination (simplified_operand facts address) offset) ≤ 10
+    i : Instruction
+    i = instructions.Load destination address offset
+
+    go : (o : Option Operand) → IsNoLarger i (simplified_load o destination (simplified_operand facts address) offset)
+    go (Some value) = omega arith
+    go None = omega arith
+not_larger facts (instructions.LoadGlobal destination global) = go (global_value facts (global_offset global))
+  where
+    go : (o : Option Operand) → IsNoLarger (instructions.LoadGlobal destination global) (simplified_global o destination global)
     go (Some value) = omega arith
     go None = omega arith
 not_larger facts (instructions.Unary operator destination operand) = go (folded_unary facts operator (simplified_operand facts operand))
   where
-    go : (o : Option ℕ) → instruction_size (simplified_unary o operator destination (simplified_operand facts operand)) ≤ 7
+    go : (o : Option ℕ) → IsNoLarger (instructions.Unary operator destination operand) (simplified_unary o operator destination (simplified_operand facts operand))
     go (Some word) = omega arith
     go None = omega arith
 not_larger facts (instructions.Ask request) = omega (arith, same_request_size facts request)
 not_larger facts i = omega arith
+
+-- a jump counts for less than any that it stands for
+jump_not_larger : (i : Instruction) → may_vanish i ≡ true → (target : ℕ) → IsNoLarger i (instructions.Jump target)
+jump_not_larger (instructions.Binary operator destination left right) may target = omega (arith, eleven operator)
+jump_not_larger (instructions.Ask request) may target = absurd (false≢true may)
+jump_not_larger i may target = omega arith
+
+pub put_not_larger : (facts : List Fact) (index count : ℕ) (i : Instruction) → IsNoLarger i (put_at facts index count i)
+put_not_larger facts index count i =
+    cond_both (vanishes facts index count i) (instructions.Jump (index + 1)) (simplified_instruction facts i) (IsNoLarger i)
+    (λ is. jump_not_larger i (and_parts (nat_lt (index + 1) count) (may_vanish i) (and_parts (is_unreached facts) (nat_lt (index + 1) count && may_vanish i) is).1).1 (index + 1))
+    (λ stays. not_larger facts i)
 
 -- a return is one, and nothing else becomes one
 same_return : (facts : List Fact) (i : Instruction) → is_return (simplified_instruction facts i) ≡ is_return i
@@ -302,7 +354,7 @@ same_return facts (instructions.Branch comparison left right target) = go (decis
   where
     go : (o : Option Bool) → is_return (simplified_branch o comparison (simplified_operand facts left) (simplified_operand facts right) target) ≡ false
     go (Some true) = refl
-    go (Some false) = refl
+    go (Some false) = passed_either (λ (i : Instruction). is_return i ≡ false) (simplified_operand facts left) (simplified_operand facts right) target (λ slot. refl) refl
     go None = refl
 same_return facts (instructions.Load destination address offset) = go (value_in facts (simplified_operand facts address) offset)
   where
@@ -314,6 +366,11 @@ same_return facts (instructions.Unary operator destination operand) = go (folded
     go : (o : Option ℕ) → is_return (simplified_unary o operator destination (simplified_operand facts operand)) ≡ false
     go (Some word) = refl
     go None = refl
+same_return facts (instructions.LoadGlobal destination global) = go (global_value facts (global_offset global))
+  where
+    go : (o : Option Operand) → is_return (simplified_global o destination global) ≡ false
+    go (Some value) = refl
+    go None = refl
 same_return facts i = refl
 
 -- what leaves still does
@@ -323,6 +380,7 @@ still_leaves facts (instructions.Binary operator destination left right) is = ab
 still_leaves facts (instructions.Branch comparison left right target) is = absurd (false≢true is)
 still_leaves facts (instructions.Unary operator destination operand) is = absurd (false≢true is)
 still_leaves facts (instructions.Load destination address offset) is = absurd (false≢true is)
+still_leaves facts (instructions.LoadGlobal destination global) is = absurd (false≢true is)
 still_leaves facts i is = is
 
 -- ---- a function
@@ -332,26 +390,33 @@ module _ (program simplified : Program) (are : AreReplaced program simplified) (
   record IsPut (index : ℕ) (j : Instruction) : Type 0 where
     pub instruction : Instruction
     pub at : At r index instruction
-    pub is : j ≡ simplified_instruction (replaced.table index) instruction
+    pub is : j ≡ put_at (replaced.table index) index (length r.code) instruction
     pub all : are_suited replaced.pinned (replaced.table index) ≡ true
 
-  put_at : (index : ℕ) (j : Instruction) → At s index j → IsPut index j
-  put_at index j at =
+  what_is_put : (index : ℕ) (j : Instruction) → At s index j → IsPut index j
+  what_is_put index j at =
       let long = replaced.as_many in
       let within = below_from_slice_get s.code index j at in
       let (i, there) = slice_get_below r.code index (omega (arith, within, long)) in
       record {
         instruction = i;
         at = there;
-        is = (let e : Some j ≡ Some (simplified_instruction (replaced.table index) i) = sym at ∙ replaced.each index i there in cc);
+        is = (let e : Some j ≡ Some (put_at (replaced.table index) index (length r.code) i) = sym at ∙ replaced.each index i there in cc);
         all = replaced.is_table.suited index within;
       }
 
-  -- what holds of each that is put in holds of all
-  all_put : (P Q : Instruction → Type 0) → ((facts : List Fact) → are_suited replaced.pinned facts ≡ true → (i : Instruction) → P i → Q (simplified_instruction facts i)) → All P r.code → All Q s.code
-  all_put P Q each all = All_by_number Q s.code (λ index j at.
-      let put = put_at index j at in
-      subst Q (sym put.is) (each (replaced.table index) put.all put.instruction (All_at P r.code index put.instruction all put.at)))
+  -- what holds of each that is put in, and of jumps to places in the code, holds of all
+  all_put : (P Q : Instruction → Type 0) → ((facts : List Fact) → are_suited replaced.pinned facts ≡ true → (i : Instruction) → P i → Q (simplified_instruction facts i))
+      → ((target : ℕ) → target < length r.code → Q (instructions.Jump target)) → All P r.code → All Q s.code
+  all_put P Q each jump all = All_by_number Q s.code (λ index j at.
+      let put = what_is_put index j at in
+      let facts : List Fact = replaced.table index in
+      subst Q (sym put.is)
+      (cond_both (vanishes facts index (length r.code) put.instruction) (instructions.Jump (index + 1)) (simplified_instruction facts put.instruction) Q
+      (λ is.
+      let (here, more) = and_parts (is_unreached facts) (nat_lt (index + 1) (length r.code) && may_vanish put.instruction) is in
+      jump (index + 1) (ltb-true (index + 1) (length r.code) (and_parts (nat_lt (index + 1) (length r.code)) (may_vanish put.instruction) more).0))
+      (λ stays. each facts put.all put.instruction (All_at P r.code index put.instruction all put.at))))
 
   below_slots : (slot : ℕ) → slot < r.slots → slot < s.slots
   below_slots slot is = let e = replaced.slots in omega (arith, is, e)
@@ -421,6 +486,11 @@ module _ (program simplified : Program) (are : AreReplaced program simplified) (
           result_in_range = (let f = is.result_in_range in let e = replaced.slots in let n = callee.results in omega (arith, f, e, n));
         }
 
+    passed_in : (left right : Operand) (target : ℕ) → IsOperand s left → IsOperand s right → target < length s.code → IsInRange simplified s (passed_by left right target)
+    passed_in (operands.Slot number) right target is other there = (is, is)
+    passed_in (operands.Word word) (operands.Slot number) target is other there = (other, other)
+    passed_in (operands.Word word) (operands.Word number) target is other there = (tt, tt, there)
+
     in_range : (i : Instruction) → IsInRange program r i → IsInRange simplified s (simplified_instruction facts i)
     in_range (instructions.Move destination source) (first, second) = go (is_known facts (facts_are.Equal destination (simplified_operand facts source)))
       where
@@ -452,14 +522,19 @@ module _ (program simplified : Program) (are : AreReplaced program simplified) (
       where
         go : (o : Option Bool) → IsInRange simplified s (simplified_branch o comparison (simplified_operand facts left) (simplified_operand facts right) target)
         go (Some true) = in_code target third
-        go (Some false) = (tt, tt, in_code target third)
+        go (Some false) = passed_in (simplified_operand facts left) (simplified_operand facts right) target (operand_in left first) (operand_in right second) (in_code target third)
         go None = (operand_in left first, operand_in right second, in_code target third)
     in_range (instructions.Call function arguments count result) is = call_in_range function arguments count result is
     in_range (instructions.Return value) is = (let e = replaced.slots in let n = replaced.results in omega (arith, is, e, n))
     in_range (instructions.ReadByte destination) is = below_slots destination is
     in_range (instructions.WriteByte source) is = operand_in source is
     in_range (instructions.AddressOf destination slot count) (first, second, third) = (below_slots destination first, second, has_slots slot count third)
-    in_range (instructions.LoadGlobal destination global) (first, second) = (below_slots destination first, global_in global second)
+    in_range (instructions.LoadGlobal destination global) (first, second) =
+        go (global_value facts (global_offset global)) (global_suits replaced.pinned facts (global_offset global) all)
+      where
+        go : (o : Option Operand) → SuitsIfAny replaced.pinned o → IsInRange simplified s (simplified_global o destination global)
+        go (Some value) is = (below_slots destination first, operand_fine value is)
+        go None is = (below_slots destination first, global_in global second)
     in_range (instructions.StoreGlobal global source) (first, second) = (global_in global first, operand_in source second)
     in_range (instructions.Load destination address offset) (first, second) =
         go (value_in facts (simplified_operand facts address) offset) (value_in_suits replaced.pinned facts (simplified_operand facts address) offset all)
@@ -475,7 +550,7 @@ module _ (program simplified : Program) (are : AreReplaced program simplified) (
     in_range (instructions.Try first handler) is = record {
       record_in_range = has_slots first RECORD_WORDS is.record_in_range;
       handler_in_range = in_code handler is.handler_in_range;
-      no_return = all_put (λ i. is_return i ≡ false) (λ i. is_return i ≡ false) (λ facts all i none. same_return facts i ∙ none) is.no_return;
+      no_return = all_put (λ i. is_return i ≡ false) (λ i. is_return i ≡ false) (λ facts all i none. same_return facts i ∙ none) (λ target below. refl) is.no_return;
     }
     in_range (instructions.Leave first) is = has_slots first RECORD_WORDS is
     in_range (instructions.Throw tag value) (first, second) = (operand_in tag first, operand_in value second)
@@ -487,25 +562,24 @@ module _ (program simplified : Program) (are : AreReplaced program simplified) (
   last_leaves None at none = absurd none
   last_leaves (Some i) at is =
       let same : length r.code - 1 ≡ length s.code - 1 = (let l = replaced.as_many in omega (arith, l)) in
-      let there : slice_get s.code (length s.code - 1) ≡ Some (simplified_instruction (replaced.table (length r.code - 1)) i) =
-      subst (λ (k : ℕ). slice_get s.code k ≡ Some (simplified_instruction (replaced.table (length r.code - 1)) i)) same (replaced.each (length r.code - 1) i at) in
-      subst (λ (o : Option Instruction). IsSomeAnd o (λ j. leaves j ≡ true)) (sym there) (still_leaves (replaced.table (length r.code - 1)) i is)
+      let last : ℕ = length r.code - 1 in
+      let facts : List Fact = replaced.table last in
+      let there : slice_get s.code (length s.code - 1) ≡ Some (put_at facts last (length r.code) i) =
+      subst (λ (k : ℕ). slice_get s.code k ≡ Some (put_at facts last (length r.code) i)) same (replaced.each last i at) in
+      subst (λ (o : Option Instruction). IsSomeAnd o (λ j. leaves j ≡ true)) (sym there)
+      (cond_both (vanishes facts last (length r.code) i) (instructions.Jump (last + 1)) (simplified_instruction facts i) (λ j. leaves j ≡ true) (λ is_gone. refl) (λ stays. still_leaves facts i is))
 
   is_routine : IsRoutine program r → IsRoutine simplified s
   is_routine is = record {
     parameters = (let a = is.parameters in let p = replaced.parameters in let e = replaced.slots in omega (arith, a, p, e));
     results = (let a = is.results in let n = replaced.results in omega (arith, a, n));
     frame = (let a = is.frame in let f = replaced.frame_count in let e = replaced.slots in omega (arith, a, f, e));
-    instructions = all_put (IsInRange program r) (IsInRange simplified s) in_range is.instructions;
+    instructions = all_put (IsInRange program r) (IsInRange simplified s) in_range in_code is.instructions;
     last = last_leaves (slice_get r.code (length r.code - 1)) refl is.last;
   }
 
   words_of : All HasWord r.code → All HasWord s.code
-  words_of all = all_put HasWord HasWord (λ facts suited i has. has_word replaced.pinned facts suited i has) all
-
-  smaller : size s ≤ size r
-  smaller = sum_by-at_most_each instruction_size r.code s.code replaced.as_many (λ k i at.
-      (simplified_instruction (replaced.table k) i, replaced.each k i at, not_larger (replaced.table k) i))
+  words_of all = all_put HasWord HasWord (λ facts suited i has. has_word replaced.pinned facts suited i has) (λ target below. tt) all
 
   is_like : IsLike r s
   is_like = record {
@@ -515,7 +589,7 @@ module _ (program simplified : Program) (are : AreReplaced program simplified) (
     slots = replaced.slots;
     frame_count = replaced.frame_count;
     as_many = replaced.as_many;
-    small = smaller;
+    small = replaced.small;
   }
 
 -- ---- a program
@@ -554,7 +628,7 @@ module _ (program simplified : Program) (are : AreReplaced program simplified) w
         routine_at simplified k,
         slice_get-get_or simplified.functions k no_routine below_other,
         subst (λ (x : Routine). size (routine_at simplified k) ≤ size x) (here_at program.functions k r at)
-            (smaller program simplified are (routine_at program k) (routine_at simplified k) (are.each k within)),
+            (are.each k within).small,
       ))
 
   -- a simplified program is a plain program
@@ -573,5 +647,5 @@ module _ (program simplified : Program) (are : AreReplaced program simplified) w
     each = λ k below. is_like program simplified are (routine_at program k) (routine_at simplified k) (are.each k below);
     globals = are.globals;
     main = are.main;
-    follows = follows program simplified are;
+    follows = follows program simplified are plain.well_formed;
   }

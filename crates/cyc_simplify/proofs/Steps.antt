@@ -1,6 +1,8 @@
 -- Where facts are true, what stands for an instruction does exactly the same, whatever is chosen.
 use Rattle.std.proofs.Common.{◌≡◌, ℕ, ◌%◌, ◌++◌, Bool, true, false, List, [], ◌∷◌, Option, Some, None, refl, sym, ap, ◌∙◌}
-use Rattle.std.specs.Prelude.{if◌then◌else◌}
+use Rattle.std.specs.Prelude.{◌==◌, if◌then◌else◌}
+use Rattle.std.proofs.lemmas.Bool.{eqb-true, cond_both}
+use mathlib.Core.Path.{fun_ext}
 use Rattle.cyc_words.specs.Ending.{Uncaught}
 use Rattle.cyc_words.specs.Word.{signed, add_of}
 use Rattle.cyc_words.specs.Bytes.{word_of}
@@ -17,15 +19,17 @@ use Rattle.cyc_plain.specs.declared.instruction.Comparison.{Comparison}
 use Rattle.cyc_plain.specs.inside.Requests.{destination_of}
 use Rattle.cyc_plain.specs.inside.Operators.{unary_result, binary_result, has_no_result, compares}
 use Rattle.cyc_plain.specs.inside.Program.{Program}
-use Rattle.cyc_plain.specs.inside.State.{put, Configuration, Running, Ended, Stuck}
+use Rattle.cyc_plain.specs.inside.State.{Words, put, Configuration, Running, Ended, Stuck}
 use Rattle.cyc_plain.specs.inside.Memory.{memory_at}
-use Rattle.cyc_plain.specs.inside.Step.{Choice, gives, branches, operand_word, advanced, loads, saves, loads_byte, saves_byte, call_in, call_of, asks, throws, callee_of, limit_of, performed}
+use Rattle.cyc_plain.specs.inside.Step.{Choice, gives, branches, operand_word, advanced, with_slots, loads, saves, loads_byte, saves_byte, call_in, call_of, asks, throws, callee_of, limit_of, performed}
 use Rattle.cyc_simplify.specs.declared.fact.Fact.{Fact}
 use Rattle.cyc_simplify.specs.declared.fact.Fact.TheVariants as facts_are
-use Rattle.cyc_simplify.specs.inside.Facts.{Scene, scene_of, AreTrueIn, is_known}
-use Rattle.cyc_simplify.specs.inside.Replacement.{simplified_operand, right_operand, folded_unary, simplified_unary, folded_at, holder_in, simplified_binary, simplified_move, decision_in, simplified_branch, value_in, simplified_load, simplified_request, simplified_instruction}
+use Rattle.cyc_simplify.specs.inside.Facts.{Scene, scene_of, AreTrueIn, is_known, first_global, global_offset}
+use Rattle.cyc_simplify.specs.inside.Replacement.{simplified_operand, right_operand, folded_unary, simplified_unary, folded_at, holder_in, simplified_binary, simplified_move, decision_in, simplified_branch}
+use Rattle.cyc_simplify.specs.inside.Replacement.{value_in, simplified_load, global_value, simplified_global, simplified_request, simplified_instruction}
+use Rattle.cyc_simplify.proofs.Memory.{global_found}
 use Rattle.cyc_simplify.proofs.Truth.{known_true}
-use Rattle.cyc_simplify.proofs.Same.{operand_same, second_same, IsFoldedUnary, folded_unary_true, IsFolded, folded_at_true, HoldsResult, holder_in_true, IsDecidedRight, decision_in_right, IsFound, value_in_true}
+use Rattle.cyc_simplify.proofs.Same.{passed_either, operand_same, second_same, IsFoldedUnary, folded_unary_true, IsFolded, folded_at_true, HoldsResult, holder_in_true, IsDecidedRight, decision_in_right, IsFound, value_in_true}
 
 module _ (scene : Scene) (facts : List Fact) (holds : AreTrueIn scene facts) where
   -- the call of the store is the same
@@ -117,6 +121,12 @@ module _ (program : Program) (choice : Choice) (c : Configuration) (facts : List
   branch_same comparison left right =
       ap (λ (a : ℕ). compares comparison a (word (other right))) (same left) ∙ ap (compares comparison (word left)) (same right)
 
+  -- a slot that gets its own word
+  itself_same : (slot : ℕ) → gives c slot (c.active.slots slot) ≡ Running (advanced c)
+  itself_same slot = ap (λ (slots : Words). Running (advanced (with_slots c slots))) (fun_ext (λ (number : ℕ).
+      cond_both (number == slot) (c.active.slots slot) (c.active.slots number) (λ w. w ≡ c.active.slots number)
+      (λ same. ap c.active.slots (sym (eqb-true number slot same))) (λ apart. refl)))
+
   branched_same : (comparison : Comparison) (left right : Operand) (target : ℕ)
       → performed program choice c (simplified_instruction facts (instructions.Branch comparison left right target))
       ≡ performed program choice c (instructions.Branch comparison left right target)
@@ -128,7 +138,9 @@ module _ (program : Program) (choice : Choice) (c : Configuration) (facts : List
           ≡ performed program choice c (instructions.Branch comparison left right target)
       go None nothing = ap (λ (b : Bool). branches c b target) (branch_same comparison left right)
       go (Some true) right_so = ap (λ (b : Bool). branches c b target) (sym right_so ∙ branch_same comparison left right)
-      go (Some false) right_so = ap (λ (b : Bool). branches c b target) (sym right_so ∙ branch_same comparison left right)
+      go (Some false) right_so =
+          passed_either (λ (i : Instruction). performed program choice c i ≡ branches c false target) (other left) (other right) target itself_same refl
+          ∙ ap (λ (b : Bool). branches c b target) (sym right_so ∙ branch_same comparison left right)
 
   -- what is loaded is known
   loaded_same : (destination : ℕ) (address : Operand) (offset : ℕ)
@@ -141,6 +153,21 @@ module _ (program : Program) (choice : Choice) (c : Configuration) (facts : List
       go (Some value) is = sym (ap (loads c destination) is) ∙ ap (λ (w : ℕ). loads c destination (memory_at program c (add_of w offset))) (same address)
       go None nothing = ap (λ (w : ℕ). loads c destination (memory_at program c (add_of w offset))) (same address)
 
+  -- the word of a global is known
+  global_same : (destination global : ℕ) → performed program choice c (simplified_instruction facts (instructions.LoadGlobal destination global))
+      ≡ performed program choice c (instructions.LoadGlobal destination global)
+  global_same destination global = by_offset (global_offset global) refl
+    where
+      by_value : (offset : ℕ) → global_offset global ≡ Some offset → (o : Option Operand) → IsFound (scene_of program c) first_global offset o
+          → performed program choice c (simplified_global o destination global) ≡ performed program choice c (instructions.LoadGlobal destination global)
+      by_value offset at (Some value) is = ap (gives c destination) (global_found program c global offset (word value) at is)
+      by_value offset at None nothing = refl
+
+      by_offset : (o : Option ℕ) → global_offset global ≡ o
+          → performed program choice c (simplified_global (global_value facts o) destination global) ≡ performed program choice c (instructions.LoadGlobal destination global)
+      by_offset (Some offset) at = by_value offset at (value_in facts first_global offset) (value_in_true (scene_of program c) facts first_global offset holds)
+      by_offset None at = refl
+
   asked_same : (request : Request) → performed program choice c (simplified_instruction facts (instructions.Ask request)) ≡ performed program choice c (instructions.Ask request)
   asked_same request =
       ap (λ (call : Call). asks choice.serving c (destination_of (simplified_request facts request)) call (refusal c.store call)) (call_same (scene_of program c) facts holds request)
@@ -152,6 +179,7 @@ module _ (program : Program) (choice : Choice) (c : Configuration) (facts : List
   performs_same (instructions.Binary operator destination left right) = computed_same operator destination left right
   performs_same (instructions.Branch comparison left right target) = branched_same comparison left right target
   performs_same (instructions.WriteByte source) = ap (λ (w : ℕ). Running (advanced (record c { output = c.output ++ w % 256 ∷ [] }))) (same source)
+  performs_same (instructions.LoadGlobal destination global) = global_same destination global
   performs_same (instructions.StoreGlobal global source) = ap (λ (w : ℕ). Running (advanced (record c { globals = put c.globals global w }))) (same source)
   performs_same (instructions.Load destination address offset) = loaded_same destination address offset
   performs_same (instructions.Store address offset source) =
@@ -187,7 +215,7 @@ callee_same facts (instructions.Branch comparison left right target) = go (decis
   where
     go : (o : Option Bool) → callee_of (Some (simplified_branch o comparison (simplified_operand facts left) (simplified_operand facts right) target)) ≡ None
     go (Some true) = refl
-    go (Some false) = refl
+    go (Some false) = passed_either (λ (i : Instruction). callee_of (Some i) ≡ None) (simplified_operand facts left) (simplified_operand facts right) target (λ slot. refl) refl
     go None = refl
 callee_same facts (instructions.Load destination address offset) = go (value_in facts (simplified_operand facts address) offset)
   where
@@ -198,6 +226,11 @@ callee_same facts (instructions.Unary operator destination operand) = go (folded
   where
     go : (o : Option ℕ) → callee_of (Some (simplified_unary o operator destination (simplified_operand facts operand))) ≡ None
     go (Some word) = refl
+    go None = refl
+callee_same facts (instructions.LoadGlobal destination global) = go (global_value facts (global_offset global))
+  where
+    go : (o : Option Operand) → callee_of (Some (simplified_global o destination global)) ≡ None
+    go (Some value) = refl
     go None = refl
 callee_same facts i = refl
 
@@ -218,7 +251,7 @@ limit_same calls facts (instructions.Branch comparison left right target) = go (
   where
     go : (o : Option Bool) → limit_of (Some (simplified_branch o comparison (simplified_operand facts left) (simplified_operand facts right) target)) calls ≡ calls
     go (Some true) = refl
-    go (Some false) = refl
+    go (Some false) = passed_either (λ (i : Instruction). limit_of (Some i) calls ≡ calls) (simplified_operand facts left) (simplified_operand facts right) target (λ slot. refl) refl
     go None = refl
 limit_same calls facts (instructions.Load destination address offset) = go (value_in facts (simplified_operand facts address) offset)
   where
@@ -229,6 +262,11 @@ limit_same calls facts (instructions.Unary operator destination operand) = go (f
   where
     go : (o : Option ℕ) → limit_of (Some (simplified_unary o operator destination (simplified_operand facts operand))) calls ≡ calls
     go (Some word) = refl
+    go None = refl
+limit_same calls facts (instructions.LoadGlobal destination global) = go (global_value facts (global_offset global))
+  where
+    go : (o : Option Operand) → limit_of (Some (simplified_global o destination global)) calls ≡ calls
+    go (Some value) = refl
     go None = refl
 limit_same calls facts i = refl
 
@@ -249,7 +287,7 @@ request_same scene facts holds (instructions.Branch comparison left right target
   where
     go : (o : Option Bool) → call_of scene.slots (Some (simplified_branch o comparison (simplified_operand facts left) (simplified_operand facts right) target)) ≡ None
     go (Some true) = refl
-    go (Some false) = refl
+    go (Some false) = passed_either (λ (i : Instruction). call_of scene.slots (Some i) ≡ None) (simplified_operand facts left) (simplified_operand facts right) target (λ slot. refl) refl
     go None = refl
 request_same scene facts holds (instructions.Ask request) = ap Some (call_same scene facts holds request)
 request_same scene facts holds (instructions.Load destination address offset) = go (value_in facts (simplified_operand facts address) offset)
@@ -261,5 +299,10 @@ request_same scene facts holds (instructions.Unary operator destination operand)
   where
     go : (o : Option ℕ) → call_of scene.slots (Some (simplified_unary o operator destination (simplified_operand facts operand))) ≡ None
     go (Some word) = refl
+    go None = refl
+request_same scene facts holds (instructions.LoadGlobal destination global) = go (global_value facts (global_offset global))
+  where
+    go : (o : Option Operand) → call_of scene.slots (Some (simplified_global o destination global)) ≡ None
+    go (Some value) = refl
     go None = refl
 request_same scene facts holds i = refl

@@ -1,5 +1,5 @@
 -- A table that was checked is right: what it says of a place is true there, whichever way the run came.
-use Rattle.std.proofs.Common.{◌≡◌, ℕ, zero, suc, ◌+◌, ◌<◌, Bool, true, ◌&&◌, ◌||◌, List, [], ◌∷◌, ◌++◌, length, drop, Option, Some, None, slice_get, refl, sym, ap, subst, ◌∙◌, arith, inl, inr}
+use Rattle.std.proofs.Common.{◌≡◌, ℕ, zero, suc, ◌+◌, ◌<◌, ◌≤◌, Bool, true, ◌&&◌, ◌||◌, List, [], ◌∷◌, ◌++◌, length, drop, Option, Some, None, slice_get, refl, sym, ap, subst, ◌∙◌, arith, inl, inr}
 use Rattle.std.specs.Prelude.{◌==◌, not, nat_lt, if◌then◌else◌}
 use Rattle.std.proofs.lemmas.Bool.{and_parts, and_from, or_cases, eqb-true, ltb-true, false≢true, cond_both, cond-true}
 use Rattle.cyc_words.proofs.Lists.{slice_get_below}
@@ -11,10 +11,11 @@ use Rattle.cyc_plain.specs.declared.instruction.Operand.{Operand}
 use Rattle.cyc_plain.specs.declared.instruction.Operand.TheVariants as operands
 use Rattle.cyc_plain.specs.declared.instruction.BinaryOperator.{BinaryOperator}
 use Rattle.cyc_plain.specs.declared.instruction.Comparison.{Comparison}
+use Rattle.cyc_plain.specs.declared.instruction.Comparison.TheVariants as comparisons
 use Rattle.cyc_plain.specs.declared.instruction.Request.{Request}
 use Rattle.cyc_plain.specs.declared.instruction.Request.TheVariants as requests
 use Rattle.cyc_plain.specs.inside.Operators.{compares}
-use Rattle.cyc_plain.specs.inside.Program.{Routine, Program}
+use Rattle.cyc_plain.specs.inside.Program.{Routine, Program, size}
 use Rattle.cyc_plain.specs.inside.Step.{operand_word}
 use Rattle.cyc_plain.specs.inside.Uses.{At, is_slot, leads}
 use Rattle.cyc_simplify.specs.declared.fact.Fact.{Fact}
@@ -23,11 +24,14 @@ use Rattle.cyc_simplify.specs.declared.fact.Touched.{Touched}
 use Rattle.cyc_simplify.specs.declared.fact.Touched.TheVariants as touches
 use Rattle.cyc_simplify.specs.declared.fact.Written.{Written}
 use Rattle.cyc_simplify.specs.declared.fact.TheConstants.{MOST_FACTS}
-use Rattle.cyc_simplify.specs.inside.Facts.{Scene, IsTrueIn, AreTrueIn, IsTrueIfAny, IsMade, is_known, are_free, lie_apart, are_copied, copied, with_copies, suits, are_suited, written, touched, keeps, kept, suited, made, negated, is_any_slot, remembered, facts_behind}
-use Rattle.cyc_simplify.specs.inside.Replacement.{simplified_operand, own_word, takes_word, small_or, right_operand, may_fold, simplified_binary, simplified_request, simplified_instruction}
-use Rattle.cyc_simplify.specs.inside.Table.{ArePins, IsTable, IsReplaced, entered_or, facts_behind_place, facts_at, is_more, is_known_with, resolved_fact, follows, are_known, may_jump, may_go_on, is_entry_suited, is_empty, leads_well, is_checked_at, IsChecked}
-use Rattle.cyc_simplify.proofs.Truth.{each_free, same_fact, known_true, all_true, leaves_any, leaves_any_operand, kept_suited}
-use Rattle.cyc_simplify.proofs.Same.{operand_same}
+use Rattle.cyc_simplify.specs.inside.Facts.{Scene, IsTrueIn, AreTrueIn, IsTrueIfAny, IsMade, is_known, are_free, lie_apart, first_global, global_offset, suits, are_suited, written, touched, keeps, kept, suited, held_global, made, negated, is_any_slot, remembered, facts_behind}
+use Rattle.cyc_simplify.specs.inside.Facts.{is_same_comparison, never, is_unreached, are_free, lie_apart, are_copied, copied, with_copies, is_test, is_not, truth_in, tested}
+use Rattle.cyc_simplify.specs.inside.Replacement.{simplified_operand, own_word, word_in, takes_word, small_or, right_operand, may_fold, simplified_binary, global_value, simplified_global, simplified_request, simplified_instruction}
+use Rattle.cyc_simplify.specs.inside.Replacement.{may_vanish, vanishes, put_at}
+use Rattle.cyc_simplify.specs.inside.Table.{goes_on, behind_put}
+use Rattle.cyc_simplify.specs.inside.Table.{ArePins, IsTable, IsReplaced, entered_or, facts_behind_place, facts_at, is_more, is_known_with, resolved_fact, are_below, is_below, follows, are_known, may_jump, may_go_on, is_entry_suited, is_empty, leads_well, is_checked_at, IsChecked}
+use Rattle.cyc_simplify.proofs.Truth.{each_free, same_comparison, same_fact, known_true, all_true, leaves_any, leaves_any_operand, kept_suited}
+use Rattle.cyc_simplify.proofs.Same.{operand_same, IsItsWord, word_in_true}
 
 -- ---- nothing replaced
 
@@ -54,6 +58,11 @@ unaltered (instructions.Binary operator destination left right) =
     cond_both (may_fold destination left second) None None
     (λ f. simplified_binary f None operator destination left second ≡ instructions.Binary operator destination left second) (λ may. refl) (λ stays. refl)
     ∙ ap (instructions.Binary operator destination left) (unaltered_second operator right)
+unaltered (instructions.LoadGlobal destination global) = go (global_offset global)
+  where
+    go : (o : Option ℕ) → simplified_global (global_value [] o) destination global ≡ instructions.LoadGlobal destination global
+    go (Some offset) = refl
+    go None = refl
 unaltered (instructions.Ask request) = ap instructions.Ask (unaltered_request request)
 unaltered i = refl
 
@@ -70,6 +79,7 @@ unchanged program r pinned pins = record {
   slots = refl;
   frame_count = refl;
   as_many = refl;
+  small = omega arith;
   pinned = pinned;
   pins = pins;
   table = λ index. [];
@@ -81,6 +91,19 @@ unchanged program r pinned pins = record {
   };
   each = λ index i at. at ∙ ap Some (sym (unaltered i));
 }
+
+-- ---- what is not reached
+
+-- what is never true is not known where the others are true
+pub reached : (scene : Scene) (facts : List Fact) → AreTrueIn scene facts → is_unreached facts ≡ true → ⊥
+reached scene [] holds is = false≢true is
+reached scene (fact ∷ facts) (first, rest) is = false≢true (same_fact scene fact never is first)
+
+-- so an instruction stands there that is simplified
+pub put_reached : (scene : Scene) (facts : List Fact) (index count : ℕ) (i : Instruction) → AreTrueIn scene facts → put_at facts index count i ≡ simplified_instruction facts i
+put_reached scene facts index count i holds =
+    cond_both (vanishes facts index count i) (instructions.Jump (index + 1)) (simplified_instruction facts i) (λ j. j ≡ simplified_instruction facts i)
+    (λ is. absurd (reached scene facts holds (and_parts (is_unreached facts) (nat_lt (index + 1) count && may_vanish i) is).0)) (λ stays. refl)
 
 -- ---- what is known where it is asked for
 
@@ -107,10 +130,33 @@ module _ (scene : Scene) (facts : List Fact) (more : Option Fact) (holds : AreTr
       ap (λ (a : ℕ). compares comparison a (operand_word scene.slots right)) (sym (operand_same scene facts left holds))
       ∙ ap (compares comparison (operand_word scene.slots (simplified_operand facts left))) (sym (operand_same scene facts right holds)) ∙ is
 
+  -- a word that is known is below another
+  below_true : (fact : Fact) → is_below facts fact ≡ true → IsTrueIn scene fact
+  below_true (facts_are.Equal slot operand) is = absurd (false≢true is)
+  below_true (facts_are.Computed slot operator left right) is = absurd (false≢true is)
+  below_true (facts_are.Held address offset value) is = absurd (false≢true is)
+  below_true (facts_are.Holds comparison left right) is =
+      let (same, below) = and_parts (is_same_comparison comparison comparisons.LessUnsigned) (are_below (word_in facts left) (word_in facts right)) is in
+      subst (λ (c : Comparison). compares c (operand_word scene.slots left) (operand_word scene.slots right) ≡ true) (sym (same_comparison comparison comparisons.LessUnsigned same))
+      (go (word_in facts left) (word_in facts right) (word_in_true scene facts left holds) (word_in_true scene facts right holds) below)
+    where
+      go : (a b : Option ℕ) → IsItsWord scene left a → IsItsWord scene right b → are_below a b ≡ true
+          → nat_lt (operand_word scene.slots left) (operand_word scene.slots right) ≡ true
+      go (Some a) (Some b) l r below =
+          ap (λ (x : ℕ). nat_lt x (operand_word scene.slots right)) l ∙ ap (nat_lt a) r ∙ below
+      go (Some a) None l r below = absurd (false≢true below)
+      go None b l r below = absurd (false≢true below)
+
   follows_true : (fact : Fact) → follows facts more fact ≡ true → IsTrueIn scene fact
-  follows_true fact is = elim (or_cases (is_known_with facts more fact) (is_known_with facts more (resolved_fact facts fact)) is) [
-    | inl known ↦ with_true fact known
-    | inr resolved ↦ resolved_true fact (with_true (resolved_fact facts fact) resolved)
+  follows_true fact is = elim (or_cases (is_unreached facts) (is_known_with facts more fact || (is_known_with facts more (resolved_fact facts fact) || is_below facts fact)) is) [
+    | inl unreached ↦ absurd (reached scene facts holds unreached)
+    | inr here ↦ elim (or_cases (is_known_with facts more fact) (is_known_with facts more (resolved_fact facts fact) || is_below facts fact) here) [
+      | inl known ↦ with_true fact known
+      | inr otherwise ↦ elim (or_cases (is_known_with facts more (resolved_fact facts fact)) (is_below facts fact) otherwise) [
+        | inl resolved ↦ resolved_true fact (with_true (resolved_fact facts fact) resolved)
+        | inr below ↦ below_true fact below
+      ]
+    ]
   ]
 
   asked_true : (asked : List Fact) → are_known asked facts more ≡ true → AreTrueIn scene asked
@@ -145,6 +191,10 @@ module _ (pinned : List Bool) where
   suited_so : (fact : Fact) → IsSuited (suited pinned fact)
   suited_so fact = cond_both (suits pinned fact) (Some fact) None IsSuited (λ is. is) (λ is. tt)
 
+  global_suited : (offset : Option ℕ) (value : Operand) → IsSuited (held_global pinned offset value)
+  global_suited (Some offset) value = suited_so (facts_are.Held first_global offset value)
+  global_suited None value = tt
+
   made_suited : (i : Instruction) (index next : ℕ) → IsSuited (made pinned i index next)
   made_suited (instructions.Move destination source) index next =
       cond_both (is_slot source destination) None (suited pinned (facts_are.Equal destination source)) IsSuited (λ is. tt) (λ is. suited_so (facts_are.Equal destination source))
@@ -154,11 +204,20 @@ module _ (pinned : List Bool) where
   made_suited (instructions.Branch comparison left right target) index next =
       let shown_here : Fact = facts_are.Holds (if next == target then comparison else negated comparison) left right in
       cond_both (target == index + 1 || not (is_any_slot left || is_any_slot right)) None (suited pinned shown_here) IsSuited (λ is. tt) (λ is. suited_so shown_here)
+  made_suited (instructions.LoadGlobal destination global) index next = global_suited (global_offset global) (operands.Slot destination)
+  made_suited (instructions.StoreGlobal global source) index next = global_suited (global_offset global) source
   made_suited (instructions.Load destination address offset) index next =
       let fact : Fact = facts_are.Held address offset (operands.Slot destination) in
       cond_both (is_slot address destination) None (suited pinned fact) IsSuited (λ is. tt) (λ is. suited_so fact)
   made_suited (instructions.Store address offset source) index next = suited_so (facts_are.Held address offset source)
   made_suited i index next = tt
+
+  tested_suited : (i : Instruction) → IsSuited (tested pinned i)
+  tested_suited (instructions.Unary operator destination operand) =
+      cond_both (is_not operator) (suited pinned (truth_in destination)) None IsSuited (λ is. suited_so (truth_in destination)) (λ is. tt)
+  tested_suited (instructions.Binary operator destination left right) =
+      cond_both (is_test operator) (suited pinned (truth_in destination)) None IsSuited (λ is. suited_so (truth_in destination)) (λ is. tt)
+  tested_suited i = tt
 
   joined_suited : (facts others : List Fact) → are_suited pinned facts ≡ true → are_suited pinned others ≡ true → are_suited pinned (facts ++ others) ≡ true
   joined_suited [] others all more = more
@@ -196,12 +255,20 @@ module _ (pinned : List Bool) where
   pub behind_suited : (program : Program) (facts : List Fact) (i : Instruction) (index next : ℕ) → are_suited pinned facts ≡ true → are_suited pinned (facts_behind program pinned facts i index next) ≡ true
   behind_suited program facts i index next all =
       let keeps : List Fact = kept (written program i) (touched pinned i) facts in
-      remembered_suited (with_copies pinned i keeps) (made pinned i index next) (copies_suited i keeps (kept_suited pinned (written program i) (touched pinned i) facts all)) (made_suited i index next)
+      let copies : List Fact = with_copies pinned i keeps in
+      remembered_suited (remembered copies (tested pinned i)) (made pinned i index next)
+      (remembered_suited copies (tested pinned i) (copies_suited i keeps (kept_suited pinned (written program i) (touched pinned i) facts all)) (tested_suited i))
+      (made_suited i index next)
+
+  pub put_suited : (program : Program) (facts : List Fact) (i : Instruction) (index : ℕ) → are_suited pinned facts ≡ true → are_suited pinned (behind_put program pinned facts i index) ≡ true
+  put_suited program facts i index all =
+      cond_both (goes_on i) (facts_behind program pinned facts i index (index + 1)) (never ∷ []) (λ l. are_suited pinned l ≡ true)
+      (λ on. behind_suited program facts i index (index + 1) all) (λ ends. refl)
 
 -- ---- a table that was checked
 
 module _ (program : Program) (r s : Routine) (pinned : List Bool) (entry : ℕ → Option (List Fact)) (checked : IsChecked program r pinned entry) (as_many : length s.code ≡ length r.code)
-    (each : (index : ℕ) (i : Instruction) → At r index i → At s index (simplified_instruction (facts_at program pinned entry r.code index) i)) where
+    (each : (index : ℕ) (i : Instruction) → At r index i → At s index (put_at (facts_at program pinned entry r.code index) index (length r.code) i)) where
   abbrev table : ℕ → List Fact
   table index = facts_at program pinned entry r.code index
 
@@ -209,15 +276,15 @@ module _ (program : Program) (r s : Routine) (pinned : List Bool) (entry : ℕ �
   record StandsFor (index : ℕ) (j : Instruction) : Type 0 where
     pub instruction : Instruction
     pub at : At r index instruction
-    pub is : j ≡ simplified_instruction (table index) instruction
+    pub is : j ≡ put_at (table index) index (length r.code) instruction
     pub well : is_checked_at program pinned entry (table index) j index ≡ true
 
   stands_for : (index : ℕ) (j : Instruction) → At s index j → StandsFor index j
   stands_for index j at =
       let below : index < length r.code = omega (arith, below_from_slice_get s.code index j at, as_many) in
       let (i, there) = slice_get_below r.code index below in
-      let same : j ≡ simplified_instruction (table index) i =
-      let e : Some j ≡ Some (simplified_instruction (table index) i) = sym at ∙ each index i there in cc in
+      let same : j ≡ put_at (table index) index (length r.code) i =
+      let e : Some j ≡ Some (put_at (table index) index (length r.code) i) = sym at ∙ each index i there in cc in
       record {
         instruction = i;
         at = there;
@@ -226,10 +293,10 @@ module _ (program : Program) (r s : Routine) (pinned : List Bool) (entry : ℕ �
       }
 
   -- the table at the next place
-  next_table : (index : ℕ) (j : Instruction) → StandsFor index j → table (suc index) ≡ entered_or (entry (suc index)) (facts_behind program pinned (table index) j index (index + 1))
+  next_table : (index : ℕ) (j : Instruction) → StandsFor index j → table (suc index) ≡ entered_or (entry (suc index)) (behind_put program pinned (table index) j index)
   next_table index j stands =
-      ap (λ (o : Option Instruction). entered_or (entry (suc index)) (facts_behind_place program pinned (table index) o index)) stands.at
-      ∙ ap (λ (x : Instruction). entered_or (entry (suc index)) (facts_behind program pinned (table index) x index (index + 1))) (sym stands.is)
+      ap (λ (o : Option Instruction). entered_or (entry (suc index)) (facts_behind_place program pinned (table index) o index (length r.code))) stands.at
+      ∙ ap (λ (x : Instruction). entered_or (entry (suc index)) (behind_put program pinned (table index) x index)) (sym stands.is)
 
   table_suited : (index : ℕ) → index < length s.code → are_suited pinned (table index) ≡ true
   table_suited zero below = refl
@@ -240,8 +307,8 @@ module _ (program : Program) (r s : Routine) (pinned : List Bool) (entry : ℕ �
       let suited_entry : is_entry_suited pinned (entry (suc index)) ≡ true =
       subst (λ (n : ℕ). is_entry_suited pinned (entry n) ≡ true) (sym (suc_plus_one index)) well.0 in
       subst (λ (l : List Fact). are_suited pinned l ≡ true) (sym (next_table index j stands))
-      (go (entry (suc index)) (facts_behind program pinned (table index) j index (index + 1)) suited_entry
-      (behind_suited pinned program (table index) j index (index + 1) (table_suited index (omega (arith, below)))))
+      (go (entry (suc index)) (behind_put program pinned (table index) j index) suited_entry
+      (put_suited pinned program (table index) j index (table_suited index (omega (arith, below)))))
     where
       go : (o : Option (List Fact)) (others : List Fact) → is_entry_suited pinned o ≡ true → are_suited pinned others ≡ true → are_suited pinned (entered_or o others) ≡ true
       go (Some facts) others entry_is others_are = entry_is
@@ -252,7 +319,7 @@ module _ (program : Program) (r s : Routine) (pinned : List Bool) (entry : ℕ �
       → AreTrueIn scene (table target)
   jumped scene zero facts more may holds one = tt
   jumped scene (suc before) facts more may holds one =
-      go (entry (suc before)) (facts_behind_place program pinned (table before) (slice_get r.code before) before) may
+      go (entry (suc before)) (facts_behind_place program pinned (table before) (slice_get r.code before) before (length r.code)) may
     where
       go : (o : Option (List Fact)) (others : List Fact) → may_jump o facts more ≡ true → AreTrueIn scene (entered_or o others)
       go (Some asked) others may = asked_true scene facts more holds one asked may
@@ -260,10 +327,10 @@ module _ (program : Program) (r s : Routine) (pinned : List Bool) (entry : ℕ �
 
   -- the place behind an instruction, which may be jumped to as well
   went_on : (scene : Scene) (index : ℕ) (j : Instruction) → StandsFor index j → (facts : List Fact) → may_go_on (entry (index + 1)) facts None ≡ true → AreTrueIn scene facts
-      → AreTrueIn scene (facts_behind program pinned (table index) j index (index + 1)) → AreTrueIn scene (table (suc index))
+      → AreTrueIn scene (behind_put program pinned (table index) j index) → AreTrueIn scene (table (suc index))
   went_on scene index j stands facts may holds behind =
       subst (AreTrueIn scene) (sym (next_table index j stands))
-      (go (entry (suc index)) (facts_behind program pinned (table index) j index (index + 1))
+      (go (entry (suc index)) (behind_put program pinned (table index) j index)
       (subst (λ (n : ℕ). may_go_on (entry n) facts None ≡ true) (sym (suc_plus_one index)) may) behind)
     where
       go : (o : Option (List Fact)) (others : List Fact) → may_go_on o facts None ≡ true → AreTrueIn scene others → AreTrueIn scene (entered_or o others)
@@ -273,7 +340,7 @@ module _ (program : Program) (r s : Routine) (pinned : List Bool) (entry : ℕ �
   module _ (index next : ℕ) (scene : Scene) where
     -- what comes to the place behind
     falls : (j : Instruction) → StandsFor index j → (facts : List Fact) → may_go_on (entry (index + 1)) facts None ≡ true → AreTrueIn scene facts
-        → AreTrueIn scene (facts_behind program pinned (table index) j index (index + 1)) → (suc index == next) ≡ true → AreTrueIn scene (table next)
+        → AreTrueIn scene (behind_put program pinned (table index) j index) → (suc index == next) ≡ true → AreTrueIn scene (table next)
     falls j stands facts may holds behind led =
         subst (λ (n : ℕ). AreTrueIn scene (table n)) (eqb-true (suc index) next led) (went_on scene index j stands facts may holds behind)
 
@@ -284,10 +351,12 @@ module _ (program : Program) (r s : Routine) (pinned : List Bool) (entry : ℕ �
         all_true scene pinned (kept (written program j) (touched pinned j) (table index)) j index (index + 1) keeps
         (subst (λ (n : ℕ). IsMade scene pinned j index n) same makes)
 
-    to_next : (j : Instruction) → StandsFor index j → may_go_on (entry (index + 1)) (facts_behind program pinned (table index) j index (index + 1)) None ≡ true
+    to_next : (j : Instruction) → StandsFor index j → goes_on j ≡ true → may_go_on (entry (index + 1)) (facts_behind program pinned (table index) j index (index + 1)) None ≡ true
         → (suc index == next) ≡ true → AreTrueIn scene (kept (written program j) (touched pinned j) (table index)) → IsMade scene pinned j index next → AreTrueIn scene (table next)
-    to_next j stands may led keeps makes =
-        let behind = behind_true j keeps makes led in falls j stands (facts_behind program pinned (table index) j index (index + 1)) may behind behind led
+    to_next j stands on may led keeps makes =
+        let known : List Fact = facts_behind program pinned (table index) j index (index + 1) in
+        let behind = behind_true j keeps makes led in
+        falls j stands known may behind (subst (AreTrueIn scene) (sym (cond-true (goes_on j) known (never ∷ []) on)) behind) led
 
     to_target : (target : ℕ) (facts : List Fact) (more : Option Fact) → may_jump (entry target) facts more ≡ true → (target == next) ≡ true → AreTrueIn scene facts → IsTrueIfAny scene more
         → AreTrueIn scene (table next)
@@ -302,7 +371,7 @@ module _ (program : Program) (r s : Routine) (pinned : List Bool) (entry : ℕ �
         let j : Instruction = instructions.Branch comparison left right target in
         let (may, on) = and_parts (may_jump (entry target) (table index) (made pinned j index target)) (may_go_on (entry (index + 1)) (facts_behind program pinned (table index) j index (index + 1)) None) well in
         elim (or_cases (suc index == next) (target == next) led) [
-          | inl behind ↦ to_next j stands on behind keeps makes
+          | inl behind ↦ to_next j stands refl on behind keeps makes
           | inr there ↦
               to_target target (table index) (made pinned j index target) may there (subst (AreTrueIn scene) (nothing_lost (table index)) keeps)
               (subst (λ (n : ℕ). IsTrueIfAny scene (made pinned j index n)) (sym (eqb-true target next there)) makes)
@@ -322,14 +391,18 @@ module _ (program : Program) (r s : Routine) (pinned : List Bool) (entry : ℕ �
     edge : (j : Instruction) → StandsFor index j → leads_well program pinned entry (table index) j index ≡ true → leads j index next ≡ true
         → AreTrueIn scene (kept (written program j) (touched pinned j) (table index)) → IsMade scene pinned j index next → AreTrueIn scene (table next)
     edge (instructions.Jump target) stands well led keeps makes =
-        to_target target (table index) None well led (subst (AreTrueIn scene) (nothing_lost (table index)) keeps) tt
+        let here = subst (AreTrueIn scene) (nothing_lost (table index)) keeps in
+        elim (or_cases (is_unreached (table index)) (may_jump (entry target) (table index) None) well) [
+          | inl unreached ↦ absurd (reached scene (table index) here unreached)
+          | inr may ↦ to_target target (table index) None may led here tt
+        ]
     edge (instructions.Branch comparison left right target) stands well led keeps makes = by_branch comparison left right target stands well led keeps makes
     edge (instructions.Try first handler) stands well led keeps makes = by_try first handler stands well led keeps
     edge (instructions.Return value) stands well led keeps makes = absurd (false≢true led)
     edge (instructions.Throw tag value) stands well led keeps makes = absurd (false≢true led)
     edge (instructions.Finish value) stands well led keeps makes = absurd (false≢true led)
     edge (instructions.Uncaught tag value) stands well led keeps makes = absurd (false≢true led)
-    edge j stands well led keeps makes = to_next j stands well led keeps makes
+    edge j stands well led keeps makes = to_next j stands refl well led keeps makes
 
   empty_list : (facts : List Fact) → is_empty facts ≡ true → facts ≡ []
   empty_list [] empty = refl
@@ -351,14 +424,15 @@ module _ (program : Program) (r s : Routine) (pinned : List Bool) (entry : ℕ �
   }
 
   -- the function, with each instruction replaced
-  pub replaced : ArePins r pinned → s.name ≡ r.name → s.parameters ≡ r.parameters → s.results ≡ r.results → s.slots ≡ r.slots → s.frame_count ≡ r.frame_count → IsReplaced program r s
-  replaced pins name parameters results slots frame_count = record {
+  pub replaced : ArePins r pinned → s.name ≡ r.name → s.parameters ≡ r.parameters → s.results ≡ r.results → s.slots ≡ r.slots → s.frame_count ≡ r.frame_count → size s ≤ size r → IsReplaced program r s
+  replaced pins name parameters results slots frame_count small = record {
     name = name;
     parameters = parameters;
     results = results;
     slots = slots;
     frame_count = frame_count;
     as_many = as_many;
+    small = small;
     pinned = pinned;
     pins = pins;
     table = table;

@@ -25,7 +25,7 @@ use Rattle.cyc_simplify.specs.declared.fact.Written.{Written}
 use Rattle.cyc_simplify.specs.declared.fact.TheConstants.{MOST_FACTS}
 use Rattle.cyc_simplify.specs.inside.Facts.{Scene, found, IsTrueIn, AreTrueIn, IsTrueIfAny, operator_number, comparison_number, is_same_operator, is_same_comparison, is_same_operand, is_same_word}
 use Rattle.cyc_simplify.specs.inside.Facts.{is_same_fact, is_known, is_free, are_free, suits_operand, suits, are_suited, leaves_slot, leaves_operand, are_apart, is_untouched, keeps, kept, suited}
-use Rattle.cyc_simplify.specs.inside.Facts.{made, remembered, are_copied, copied, with_copies, IsMade}
+use Rattle.cyc_simplify.specs.inside.Facts.{made, tested, remembered, are_copied, copied, with_copies, IsMade}
 
 -- ---- what is the same
 
@@ -362,8 +362,13 @@ copies_true scene pinned destination source count same facts holds = with_one 2 
     with_one k others are = remembered_true scene others (copied pinned (instructions.MoveWords destination source count) k) are (one k)
 
 pub all_true : (scene : Scene) (pinned : List Bool) (facts : List Fact) (i : Instruction) (index next : ℕ) → AreTrueIn scene facts → IsMade scene pinned i index next
-    → AreTrueIn scene (remembered (with_copies pinned i facts) (made pinned i index next))
+    → AreTrueIn scene (remembered (remembered (with_copies pinned i facts) (tested pinned i)) (made pinned i index next))
 all_true scene pinned facts (instructions.MoveWords destination source count) index next holds is = copies_true scene pinned destination source count is facts holds
+all_true scene pinned facts (instructions.Unary operator destination operand) index next holds is =
+    remembered_true scene facts (tested pinned (instructions.Unary operator destination operand)) holds is
+all_true scene pinned facts (instructions.Binary operator destination left right) index next holds (is, computes) =
+    let i : Instruction = instructions.Binary operator destination left right in
+    remembered_true scene (remembered facts (tested pinned i)) (made pinned i index next) (remembered_true scene facts (tested pinned i) holds is) computes
 all_true scene pinned facts i index next holds is = remembered_true scene facts (made pinned i index next) holds is
 
 -- ---- slots that are free

@@ -4,24 +4,25 @@ use Rattle.std.specs.Prelude.{◌==◌, slice_index_or}
 use Rattle.std.proofs.lemmas.Bool.{cases_lt, and_parts, and_from, eqb-true}
 use Rattle.std.proofs.lemmas.List.{length-append}
 use Rattle.cyc_words.proofs.Items.{below_from_slice_get}
+use Rattle.cyc_words.proofs.Sums.{sum_by-at_most_each}
 use Rattle.cyc_plain.specs.declared.instruction.Instruction.{Instruction}
 use Rattle.cyc_plain.specs.declared.instruction.Instruction.TheVariants as instructions
 use Rattle.cyc_plain.specs.declared.program.Function.{Function}
-use Rattle.cyc_plain.specs.inside.Program.{Routine, Program, no_routine, routine_of, routine_at}
+use Rattle.cyc_plain.specs.inside.Program.{Routine, Program, no_routine, routine_of, routine_at, instruction_size}
 use Rattle.cyc_plain.specs.inside.Uses.{At}
 use Rattle.cyc_simplify.specs.declared.entry.Entry.{Entry}
 use Rattle.cyc_simplify.specs.declared.fact.Fact.{Fact}
-use Rattle.cyc_simplify.specs.inside.Facts.{facts_behind}
-use Rattle.cyc_simplify.specs.inside.Replacement.{simplified_instruction}
-use Rattle.cyc_simplify.specs.inside.Table.{ArePins, IsReplaced, entered_or, facts_behind_place, facts_at, may_jump, is_entry_suited, leads_well, is_checked_at}
+use Rattle.cyc_simplify.specs.inside.Replacement.{put_at}
+use Rattle.cyc_simplify.specs.inside.Table.{ArePins, IsReplaced, behind_put, entered_or, facts_behind_place, facts_at, may_jump, is_entry_suited, leads_well, is_checked_at}
 use Rattle.cyc_simplify.specs.inside.Entries.{entry_in, jumps_well, goes_well, AreWalked, IsWalked, with_code, AreFirstReplaced}
+use Rattle.cyc_simplify.proofs.Sizes.{put_not_larger}
 use Rattle.cyc_simplify.proofs.Tables.{replaced, unchanged}
 
 -- ---- the two halves of the check
 
 module _ (program : Program) (pinned : List Bool) (entry : ℕ → Option (List Fact)) where
   opened : (facts : List Fact) (first handler index : ℕ) → jumps_well pinned entry facts (instructions.Try first handler) index ≡ true
-      → goes_well entry (facts_behind program pinned facts (instructions.Try first handler) index (index + 1)) (instructions.Try first handler) index ≡ true
+      → goes_well entry (behind_put program pinned facts (instructions.Try first handler) index) (instructions.Try first handler) index ≡ true
       → leads_well program pinned entry facts (instructions.Try first handler) index ≡ true
   opened [] first handler index jumps goes = and_from _ _ jumps goes
   opened (fact ∷ facts) first handler index jumps goes =
@@ -29,7 +30,7 @@ module _ (program : Program) (pinned : List Bool) (entry : ℕ → Option (List 
       absurd (omega (arith, eqb-true (length (fact ∷ facts)) 0 none))
 
   halves : (facts : List Fact) (i : Instruction) (index : ℕ) → jumps_well pinned entry facts i index ≡ true
-      → goes_well entry (facts_behind program pinned facts i index (index + 1)) i index ≡ true → leads_well program pinned entry facts i index ≡ true
+      → goes_well entry (behind_put program pinned facts i index) i index ≡ true → leads_well program pinned entry facts i index ≡ true
   halves facts (instructions.Jump target) index jumps goes = jumps
   halves facts (instructions.Branch comparison left right target) index jumps goes = and_from _ _ jumps goes
   halves facts (instructions.Try first handler) index jumps goes = opened facts first handler index jumps goes
@@ -40,7 +41,7 @@ module _ (program : Program) (pinned : List Bool) (entry : ℕ → Option (List 
   halves facts i index jumps goes = goes
 
   pub is_checked : (facts : List Fact) (i : Instruction) (index : ℕ) → jumps_well pinned entry facts i index ≡ true → is_entry_suited pinned (entry (index + 1)) ≡ true
-      → goes_well entry (facts_behind program pinned facts i index (index + 1)) i index ≡ true → is_checked_at program pinned entry facts i index ≡ true
+      → goes_well entry (behind_put program pinned facts i index) i index ≡ true → is_checked_at program pinned entry facts i index ≡ true
   is_checked facts i index jumps suited goes = and_from _ _ suited (halves facts i index jumps goes)
 
 -- ---- instruction by instruction
@@ -67,16 +68,16 @@ module _ (program : Program) (r : Routine) (pinned : List Bool) (entries : List 
   }
 
   module _ (count : ℕ) (code : List Instruction) (facts next : List Fact) (i : Instruction) (are : AreWalked program r pinned entries count code facts) (at : At r count i)
-      (right : is_checked_at program pinned (entry_in entries) facts (simplified_instruction facts i) count ≡ true)
-      (becomes : next ≡ entered_or (entry_in entries (count + 1)) (facts_behind program pinned facts (simplified_instruction facts i) count (count + 1))) where
+      (right : is_checked_at program pinned (entry_in entries) facts (put_at facts count (length r.code) i) count ≡ true)
+      (becomes : next ≡ entered_or (entry_in entries (count + 1)) (behind_put program pinned facts (put_at facts count (length r.code) i) count)) where
     after : suc count ≡ count + 1
     after = omega arith
 
     known_next : next ≡ known_at (count + 1)
     known_next =
-        let behind : List Fact → List Fact = λ (known : List Fact). facts_behind program pinned known (simplified_instruction known i) count (count + 1) in
+        let behind : List Fact → List Fact = λ (known : List Fact). behind_put program pinned known (put_at known count (length r.code) i) count in
         let there : known_at (suc count) ≡ entered_or (entry_in entries (suc count)) (behind (known_at count)) =
-        ap (λ (o : Option Instruction). entered_or (entry_in entries (suc count)) (facts_behind_place program pinned (known_at count) o count)) at in
+        ap (λ (o : Option Instruction). entered_or (entry_in entries (suc count)) (facts_behind_place program pinned (known_at count) o count (length r.code))) at in
         let here : next ≡ entered_or (entry_in entries (count + 1)) (behind (known_at count)) =
         becomes ∙ ap (λ (known : List Fact). entered_or (entry_in entries (count + 1)) (behind known)) are.known in
         let same : next ≡ known_at (suc count) =
@@ -87,17 +88,17 @@ module _ (program : Program) (r : Routine) (pinned : List Bool) (entries : List 
     same_instruction k j there same = let e : Some i ≡ Some j = sym at ∙ ap (slice_get r.code) (sym same) ∙ there in cc
 
     abbrev Stands : ℕ → Instruction → Type 0
-    Stands k j = slice_get (code ++ simplified_instruction facts i ∷ []) k ≡ Some (simplified_instruction (known_at k) j)
+    Stands k j = slice_get (code ++ put_at facts count (length r.code) i ∷ []) k ≡ Some (put_at (known_at k) k (length r.code) j)
 
     abbrev Checked : ℕ → Instruction → Type 0
-    Checked k j = is_checked_at program pinned (entry_in entries) (known_at k) (simplified_instruction (known_at k) j) k ≡ true
+    Checked k j = is_checked_at program pinned (entry_in entries) (known_at k) (put_at (known_at k) k (length r.code) j) k ≡ true
 
-    pub one_more : AreWalked program r pinned entries (count + 1) (code ++ simplified_instruction facts i ∷ []) next
+    pub one_more : AreWalked program r pinned entries (count + 1) (code ++ put_at facts count (length r.code) i ∷ []) next
     one_more = record {
-      as_many = omega (arith, length-append code (simplified_instruction facts i ∷ []), are.as_many);
+      as_many = omega (arith, length-append code (put_at facts count (length r.code) i ∷ []), are.as_many);
       known = known_next;
       each = λ k j there below. elim (cases_lt k count) [
-        | inl before ↦ get_before code (simplified_instruction facts i) k (omega (arith, before, are.as_many)) ∙ are.each k j there before
+        | inl before ↦ get_before code (put_at facts count (length r.code) i) k (omega (arith, before, are.as_many)) ∙ are.each k j there before
         | inr not_before ↦ last_each k j there (omega (arith, below, not_before))
       ];
       checked = λ k j there below. elim (cases_lt k count) [
@@ -108,32 +109,35 @@ module _ (program : Program) (r : Routine) (pinned : List Bool) (entries : List 
       where
         last_each : (k : ℕ) (j : Instruction) → At r k j → k ≡ count → Stands k j
         last_each k j there same =
-            let e : slice_get (code ++ simplified_instruction facts i ∷ []) count ≡ Some (simplified_instruction facts i) =
-            subst (λ (n : ℕ). slice_get (code ++ simplified_instruction facts i ∷ []) n ≡ Some (simplified_instruction facts i)) are.as_many (get_last code (simplified_instruction facts i)) in
-            let here : Stands count i = e ∙ ap (λ (known : List Fact). Some (simplified_instruction known i)) are.known in
+            let e : slice_get (code ++ put_at facts count (length r.code) i ∷ []) count ≡ Some (put_at facts count (length r.code) i) =
+            subst (λ (n : ℕ). slice_get (code ++ put_at facts count (length r.code) i ∷ []) n ≡ Some (put_at facts count (length r.code) i)) are.as_many (get_last code (put_at facts count (length r.code) i)) in
+            let here : Stands count i = e ∙ ap (λ (known : List Fact). Some (put_at known count (length r.code) i)) are.known in
             subst (λ (n : ℕ). Stands n j) (sym same) (subst (Stands count) (same_instruction k j there same) here)
 
         last_checked : (k : ℕ) (j : Instruction) → At r k j → k ≡ count → Checked k j
         last_checked k j there same =
             let here : Checked count i =
-            subst (λ (known : List Fact). is_checked_at program pinned (entry_in entries) known (simplified_instruction known i) count ≡ true) are.known right in
+            subst (λ (known : List Fact). is_checked_at program pinned (entry_in entries) known (put_at known count (length r.code) i) count ≡ true) are.known right in
             subst (λ (n : ℕ). Checked n j) (sym same) (subst (Checked count) (same_instruction k j there same) here)
 
   pub walked_replaced : (code : List Instruction) → ArePins r pinned → IsWalked program r pinned entries code → IsReplaced program r (with_code r code)
   walked_replaced code pins (facts, are) =
       replaced program r (with_code r code) pinned (entry_in entries) (λ index i at. are.checked index i at (below_from_slice_get r.code index i at)) are.as_many
       (λ index i at. are.each index i at (below_from_slice_get r.code index i at)) pins refl refl refl refl refl
+      (sum_by-at_most_each instruction_size r.code code are.as_many (λ index i at.
+      let known = known_at index in
+      (put_at known index (length r.code) i, are.each index i at (below_from_slice_get r.code index i at), put_not_larger known index (length r.code) i)))
 
 -- the same, of what the code makes of it
 pub stepped : (program : Program) (r : Routine) (pinned : List Bool) (entries : List Entry) (count : ℕ) (code : List Instruction) (facts next : List Fact) (i : Instruction)
-    → AreWalked program r pinned entries count code facts → At r count i → (made : Instruction) (all : List Instruction) → made ≡ simplified_instruction facts i
+    → AreWalked program r pinned entries count code facts → At r count i → (made : Instruction) (all : List Instruction) → made ≡ put_at facts count (length r.code) i
     → all ≡ code ++ made ∷ [] → is_checked_at program pinned (entry_in entries) facts made count ≡ true
-    → next ≡ entered_or (entry_in entries (count + 1)) (facts_behind program pinned facts made count (count + 1)) → AreWalked program r pinned entries (count + 1) all next
+    → next ≡ entered_or (entry_in entries (count + 1)) (behind_put program pinned facts made count) → AreWalked program r pinned entries (count + 1) all next
 stepped program r pinned entries count code facts next i are at made all is all_is right becomes =
     subst (λ (is : List Instruction). AreWalked program r pinned entries (count + 1) is next) (sym (all_is ∙ ap (λ (j : Instruction). code ++ j ∷ []) is))
     (one_more program r pinned entries count code facts next i are at
     (subst (λ (j : Instruction). is_checked_at program pinned (entry_in entries) facts j count ≡ true) is right)
-    (becomes ∙ ap (λ (j : Instruction). entered_or (entry_in entries (count + 1)) (facts_behind program pinned facts j count (count + 1))) is))
+    (becomes ∙ ap (λ (j : Instruction). entered_or (entry_in entries (count + 1)) (behind_put program pinned facts j count)) is))
 
 pub same_replaced : (program : Program) (r : Routine) (pinned : List Bool) (code : List Instruction) → ArePins r pinned → code ≡ r.code → IsReplaced program r (with_code r code)
 same_replaced program r pinned code pins same = subst (λ (is : List Instruction). IsReplaced program r (with_code r is)) (sym same) (unchanged program r pinned pins)

@@ -2,6 +2,7 @@
 pub mod Simplified
 -- the functions inside the crate
 pub mod Facts
+pub mod Copies
 pub mod Replacement
 pub mod Table
 pub mod Entries

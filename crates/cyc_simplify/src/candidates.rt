@@ -1,6 +1,7 @@
 //! Which functions are worth a look. Nothing is promised of it: any function may stay as it is.
 use crate::effects::is_any_slot;
 use crate::jumps::is_end;
+use crate::known::{are_same_operands, is_same_operator, is_same_word};
 use cyc_plain::{Instruction, Operand, Request};
 
 /// Slots to which other slots were moved since the last call, from the first to the last.
@@ -117,18 +118,85 @@ fn is_of_word(instruction: Instruction) -> bool {
     }
 }
 
-/// Whether code may test or move something once more, or compute what is known: it has a check, reads a copy of a slot, or has a
-/// constant with a sign.
+/// A bit for a global, which others may have too.
+fn bit_of(global: usize) -> u64 {
+    1 << (global % 64)
+}
+
+/// The bits of the globals whose words are known behind an instruction, since the last call.
+fn globals_behind(globals: u64, instruction: Instruction) -> u64 {
+    match instruction {
+        Instruction::LoadGlobal { global, .. } => globals | bit_of(global),
+        Instruction::StoreGlobal { global, .. } => globals | bit_of(global),
+        Instruction::Call { .. } => 0,
+        _ => globals,
+    }
+}
+
+/// Whether a global is loaded whose word may be known.
+fn reads_global(globals: u64, instruction: Instruction) -> bool {
+    match instruction {
+        Instruction::LoadGlobal { global, .. } => globals & bit_of(global) != 0,
+        _ => false,
+    }
+}
+
+/// Whether two instructions compute or load the same.
+fn are_same(one: Instruction, other: Instruction) -> bool {
+    match (one, other) {
+        (
+            Instruction::Binary {
+                operator,
+                left,
+                right,
+                ..
+            },
+            Instruction::Binary {
+                operator: second,
+                left: other_left,
+                right: other_right,
+                ..
+            },
+        ) => {
+            is_same_operator(operator, second)
+                && are_same_operands(left, right, other_left, other_right)
+        }
+        (
+            Instruction::Load {
+                address,
+                offset,
+                ..
+            },
+            Instruction::Load {
+                address: second,
+                offset: other_offset,
+                ..
+            },
+        ) => is_same_word(address, offset, second, other_offset),
+        (Instruction::LoadGlobal { global, .. }, Instruction::LoadGlobal { global: second, .. }) =>
+            { global == second }
+        _ => false,
+    }
+}
+
+/// Whether code may test, move, compute or load something once more, or compute what is known: it has a check, reads a copy of a slot
+/// or a global anew, computes one thing twice in a row, or has a constant with a sign.
 pub(crate) fn is_candidate(code: &[Instruction]) -> bool {
     let mut copies = no_copies();
+    let mut globals = 0;
+    let mut last = Instruction::Jump { target: 0 };
     for instruction in code {
         if is_check(code, *instruction)
             || reads_copy(copies, *instruction)
+            || reads_global(globals, *instruction)
             || is_of_word(*instruction)
+            || are_same(last, *instruction)
         {
             return true;
         }
         copies = copies_behind(copies, *instruction);
+        globals = globals_behind(globals, *instruction);
+        last = *instruction;
     }
     false
 }

@@ -1,14 +1,18 @@
 //! What is known behind an instruction.
-ghost use Rattle.std.specs.Prelude.{◌≡◌, ◌+◌, ◌<◌, ◌^◌, OnOk};
+ghost use Rattle.std.specs.Prelude.{◌≡◌, ◌+◌, ◌<◌, ◌^◌, OnOk, Some};
 ghost use Rattle.cyc_plain.specs.inside.Program.{routine_at};
 ghost use Rattle.cyc_plain.specs.inside.Requests as requests_of;
 ghost use Rattle.cyc_simplify.specs.inside.Entries as keeping;
 ghost use Rattle.cyc_simplify.specs.inside.Facts as facts_of;
 
 use crate::fact::{Fact, MOST_FACTS, Touched, Written};
+use crate::facts::Facts;
 use crate::known::{is_same_operand, is_slot};
 use crate::pins::{are_free, is_free, suits_operand};
-use cyc_plain::{Comparison, Instruction, Operand, Plain, RECORD_WORDS, Request};
+use cyc_plain::{
+    BinaryOperator, Comparison, GLOBALS_BASE, Instruction, MOST_GLOBALS, Operand, Plain,
+    RECORD_WORDS, Request, UnaryOperator,
+};
 use std::alloc::AllocError;
 
 fn results_of(plain: &Plain, function: usize) -> usize
@@ -139,6 +143,37 @@ fn touched_by_words(pinned: &[bool], first: usize, count: usize) -> Touched
     }
 }
 
+/// By how many bytes a global stands behind the first, if it is one that a program may have.
+pub(crate) fn global_offset(global: usize) -> Option<u32>
+    ensures { result ≡ facts_of.global_offset global }
+{
+    if global < MOST_GLOBALS {
+        Some(4 * global as u32)
+    } else {
+        None
+    }
+}
+
+/// The address of the first global.
+pub(crate) fn first_global() -> Operand
+    ensures { result ≡ facts_of.first_global }
+{
+    Operand::Word { word: GLOBALS_BASE }
+}
+
+/// What a store to a global changes of memory.
+fn touched_global(global: usize) -> Touched
+    ensures { result ≡ facts_of.touched_global (facts_of.global_offset global) }
+{
+    match global_offset(global) {
+        Some(offset) => Touched::Word {
+            address: first_global(),
+            offset,
+        },
+        None => Touched::All,
+    }
+}
+
 /// What an instruction may change of memory.
 fn touched(pinned: &[bool], instruction: Instruction) -> Touched
     ensures { result ≡ facts_of.touched pinned.now instruction }
@@ -163,8 +198,8 @@ fn touched(pinned: &[bool], instruction: Instruction) -> Touched
             offset,
             ..
         } => Touched::Word { address, offset },
+        Instruction::StoreGlobal { global, .. } => touched_global(global),
         Instruction::StoreByte { .. }
-        | Instruction::StoreGlobal { .. }
         | Instruction::Call { .. }
         | Instruction::Ask { .. }
         | Instruction::Try { .. } => Touched::All,
@@ -223,18 +258,6 @@ fn keeps(slots: Written, touched: Touched, fact: Fact) -> bool
     }
 }
 
-/// Whether each fact is kept.
-fn keeps_all(slots: Written, touched: Touched, facts: &[Fact]) -> bool
-    ensures { result ≡ keeping.keeps_all slots touched facts.now }
-{
-    for fact in facts {
-        if !keeps(slots, touched, *fact) {
-            return false;
-        }
-    }
-    true
-}
-
 /// Whether nothing is written or changed.
 fn changes_nothing(slots: Written, touched: Touched) -> bool
     ensures { result ≡ keeping.changes_nothing slots touched }
@@ -246,13 +269,10 @@ fn changes_nothing(slots: Written, touched: Touched) -> bool
 }
 
 /// What is known of slots that are written, and of what may be changed, is forgotten.
-fn keep(facts: &mut Vec<Fact>, slots: Written, touched: Touched)
+pub(crate) fn keep(facts: &mut Vec<Fact>, slots: Written, touched: Touched)
     ensures { facts.new.items ≡ facts_of.kept slots touched facts.old.items }
 {
-    if changes_nothing(slots, touched) {
-        return;
-    }
-    if !keeps_all(slots, touched, facts) {
+    if !changes_nothing(slots, touched) {
         facts.retain(|fact| keeps(slots, touched, *fact));
     }
 }
@@ -377,6 +397,16 @@ fn loaded(pinned: &[bool], address: Operand, offset: u32, destination: usize) ->
     )
 }
 
+/// What is true where a global has this word.
+fn held_global(pinned: &[bool], global: usize, value: Operand) -> Option<Fact>
+    ensures { result ≡ facts_of.held_global pinned.now (facts_of.global_offset global) value }
+{
+    match global_offset(global) {
+        Some(offset) => held(pinned, first_global(), offset, value),
+        None => None,
+    }
+}
+
 /// What is true behind the instruction at this index where the run goes on at `next`, whatever was true before.
 pub(crate) fn made(
     pinned: &[bool],
@@ -430,6 +460,17 @@ pub(crate) fn made(
             right,
             target,
         } => shown(pinned, comparison, left, right, target, index, next),
+        Instruction::LoadGlobal {
+            destination,
+            global,
+        } => held_global(
+            pinned,
+            global,
+            Operand::Slot {
+                number: destination,
+            },
+        ),
+        Instruction::StoreGlobal { global, source } => held_global(pinned, global, source),
         Instruction::Load {
             destination,
             address,
@@ -444,16 +485,80 @@ pub(crate) fn made(
     }
 }
 
-/// A fact more, in place of the oldest where there are as many as there may be.
-fn remember(facts: &mut Vec<Fact>, made: Option<Fact>) -> Result<(), AllocError>
-    ensures { OnOk result (facts.new.items ≡ facts_of.remembered facts.old.items made) }
+/// Whether an operator computes whether something is so: 1 or 0.
+fn is_test(operator: BinaryOperator) -> bool
+    ensures { result ≡ facts_of.is_test operator }
 {
-    if let Some(fact) = made {
-        if facts.len() >= MOST_FACTS {
-            facts.remove(0);
-        }
-        facts.push(fact)?;
+    match operator {
+        BinaryOperator::Equal
+        | BinaryOperator::NotEqual
+        | BinaryOperator::Less
+        | BinaryOperator::LessOrEqual
+        | BinaryOperator::Greater
+        | BinaryOperator::GreaterOrEqual => true,
+        _ => false,
     }
+}
+
+fn is_not(operator: UnaryOperator) -> bool
+    ensures { result ≡ facts_of.is_not operator }
+{
+    match operator {
+        UnaryOperator::Not => true,
+        _ => false,
+    }
+}
+
+/// The slot holds 1 or 0.
+fn truth_in(slot: usize) -> Fact
+    ensures { result ≡ facts_of.truth_in slot }
+{
+    Fact::Holds {
+        comparison: Comparison::LessUnsigned,
+        left: Operand::Slot { number: slot },
+        right: Operand::Word { word: 2 },
+    }
+}
+
+/// So it does behind such an operator, also where it is one of the operands.
+fn tested(pinned: &[bool], instruction: Instruction) -> Option<Fact>
+    ensures { result ≡ facts_of.tested pinned.now instruction }
+{
+    match instruction {
+        Instruction::Unary {
+            operator,
+            destination,
+            ..
+        } => {
+            if is_not(operator) {
+                suited(pinned, truth_in(destination))
+            } else {
+                None
+            }
+        }
+        Instruction::Binary {
+            operator,
+            destination,
+            ..
+        } => {
+            if is_test(operator) {
+                suited(pinned, truth_in(destination))
+            } else {
+                None
+            }
+        }
+        _ => None,
+    }
+}
+
+/// A fact more, in place of the oldest where there are as many as there may be.
+pub(crate) fn remember(facts: &mut Vec<Fact>, fact: Fact) -> Result<(), AllocError>
+    ensures { OnOk result (facts.new.items ≡ facts_of.remembered facts.old.items (Some fact)) }
+{
+    if facts.len() >= MOST_FACTS {
+        facts.remove(0);
+    }
+    facts.push(fact)?;
     Ok(())
 }
 
@@ -505,32 +610,34 @@ fn copied(pinned: &[bool], instruction: Instruction, index: usize) -> Option<Fac
 /// What is known of words that an instruction copies: of three at most, as a pointer with its bounds has.
 fn remember_copies(
     pinned: &[bool],
-    facts: &mut Vec<Fact>,
+    facts: &mut Facts,
     instruction: Instruction,
 ) -> Result<(), AllocError>
-    ensures { OnOk result (facts.new.items ≡ facts_of.with_copies pinned.now instruction facts.old.items) }
+    ensures { OnOk result (facts.new ≡ facts_of.with_copies pinned.now instruction facts.old) }
 {
-    remember(facts, copied(pinned, instruction, 0))?;
-    remember(facts, copied(pinned, instruction, 1))?;
-    remember(facts, copied(pinned, instruction, 2))
+    match instruction {
+        Instruction::MoveWords { .. } => {
+            facts.remember(copied(pinned, instruction, 0))?;
+            facts.remember(copied(pinned, instruction, 1))?;
+            facts.remember(copied(pinned, instruction, 2))
+        }
+        _ => Ok(()),
+    }
 }
 
 /// The facts become those that are known behind an instruction, where the run goes on to the next one.
 pub(crate) fn go_on(
     plain: &Plain,
     pinned: &[bool],
-    facts: &mut Vec<Fact>,
+    facts: &mut Facts,
     instruction: Instruction,
     index: usize,
 ) -> Result<(), AllocError>
     requires { index + 1 < 2 ^ 64 }
-    ensures { OnOk result (facts.new.items ≡ facts_of.facts_behind plain.now pinned.now facts.old.items instruction index (index + 1)) }
+    ensures { OnOk result (facts.new ≡ facts_of.facts_behind plain.now pinned.now facts.old instruction index (index + 1)) }
 {
-    keep(
-        facts,
-        written(plain, instruction),
-        touched(pinned, instruction),
-    );
+    facts.keep(written(plain, instruction), touched(pinned, instruction));
     remember_copies(pinned, facts, instruction)?;
-    remember(facts, made(pinned, instruction, index, index + 1))
+    facts.remember(tested(pinned, instruction))?;
+    facts.remember(made(pinned, instruction, index, index + 1))
 }

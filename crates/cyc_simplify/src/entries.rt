@@ -1,15 +1,17 @@
 //! Looks for what is known at the places that are jumped to. Nothing is promised of it: it is checked where it is used.
-use crate::effects::{go_on, made};
+use crate::effects::made;
 use crate::entry::{Entry, enter};
 use crate::fact::Fact;
+use crate::facts::Facts;
 use crate::jumps::{goes_on, is_end, target_of};
-use crate::known::follows;
-use crate::replacement::simplified_instruction;
+use crate::known::{follows, is_unreached};
+use crate::replacement::put_at;
+use crate::walk::come_behind;
 use cyc_plain::{Function, Instruction, Plain};
 use std::alloc::{AllocError, Global};
 
 /// How often the code is gone through at most.
-const ROUNDS: usize = 3;
+const ROUNDS: usize = 4;
 
 /// What does not follow from what is known is taken away. Answers whether nothing was.
 fn restrict(asked: &mut Vec<Fact>, facts: &[Fact], more: Option<Fact>) -> bool {
@@ -50,18 +52,20 @@ fn is_joined(entries: &[Entry], place: usize) -> bool {
     }
 }
 
-/// The code comes to a place from the instruction before it, if it goes on there. What is known becomes what is known at the place.
+/// The code comes to a place from the instruction before it, if a run does. What is known becomes what is known at the place.
 fn come_next(
     entries: &mut Vec<Entry>,
     code: &[Instruction],
     place: usize,
-    goes_on: bool,
-    facts: &mut Vec<Fact>,
+    is_reached: bool,
+    facts: &mut Facts,
 ) -> Result<(), AllocError> {
-    if !goes_on {
-        facts.clear();
-    } else if is_joined(entries, place) {
-        come_to(entries, code, place, facts, None)?;
+    if is_joined(entries, place) {
+        if is_reached {
+            come_to(entries, code, place, facts.all(), None)?;
+        } else {
+            facts.clear();
+        }
     }
     enter(entries, place, facts)
 }
@@ -72,23 +76,29 @@ fn go_through(
     function: &Function,
     pinned: &[bool],
     entries: &mut Vec<Entry>,
-    facts: &mut Vec<Fact>,
+    facts: &mut Facts,
 ) -> Result<bool, AllocError> {
     let mut is_settled = true;
     facts.clear();
     for index in 0..function.code.len() {
-        let instruction = simplified_instruction(facts, function.code[index]);
-        if let Some(target) = target_of(instruction) {
+        let instruction = put_at(facts, index, function.code.len(), function.code[index]);
+        let is_reached = !is_unreached(facts.all());
+        let target = if is_reached {
+            target_of(instruction)
+        } else {
+            None
+        };
+        if let Some(target) = target {
             let more = made(pinned, instruction, index, target);
-            let is_still = come_to(entries, &function.code, target, facts, more)?;
+            let is_still = come_to(entries, &function.code, target, facts.all(), more)?;
             is_settled = is_settled && (is_still || target > index);
         }
-        go_on(plain, pinned, facts, instruction, index)?;
+        come_behind(plain, pinned, facts, instruction, index)?;
         come_next(
             entries,
             &function.code,
             index + 1,
-            goes_on(instruction),
+            is_reached && goes_on(instruction),
             facts,
         )?;
     }
@@ -141,9 +151,10 @@ fn forget(entries: &mut Vec<Entry>) {
     }
 }
 
-/// Nothing is known at any place that is jumped to.
-fn forget_all(entries: &mut Vec<Entry>) {
+/// At heads nothing is known, and elsewhere it is to be found once more.
+fn forget_heads(entries: &mut Vec<Entry>) {
     for entry in entries {
+        entry.is_target = entry.is_head;
         entry.facts.clear();
     }
 }
@@ -156,14 +167,14 @@ pub(crate) fn entries_of(
     pinned: &[bool],
 ) -> Result<Vec<Entry>, AllocError> {
     let mut entries = unknown(alloc, &function.code)?;
-    let mut facts = Vec::new(alloc);
+    let mut facts = Facts::new(alloc);
     for _ in 0..ROUNDS {
         if go_through(plain, function, pinned, &mut entries, &mut facts)? {
             return Ok(entries);
         }
         forget(&mut entries);
     }
+    forget_heads(&mut entries);
     go_through(plain, function, pinned, &mut entries, &mut facts)?;
-    forget_all(&mut entries);
     Ok(entries)
 }

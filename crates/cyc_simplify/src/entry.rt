@@ -5,6 +5,7 @@ ghost use Rattle.cyc_simplify.specs.inside.Entries as entries_of;
 ghost use Rattle.cyc_simplify.specs.inside.Table as table;
 
 use crate::fact::Fact;
+use crate::facts::Facts;
 use crate::known::are_known;
 use crate::pins::are_suited;
 use std::alloc::AllocError;
@@ -50,17 +51,12 @@ pub(crate) fn is_entry_suited(pinned: &[bool], entries: &[Entry], place: usize) 
 }
 
 /// The facts become those that are known at a place, if it is jumped to.
-pub(crate) fn enter(
-    entries: &[Entry],
-    place: usize,
-    facts: &mut Vec<Fact>,
-) -> Result<(), AllocError>
-    ensures { OnOk result (facts.new.items ≡ table.entered_or (entries_of.entry_in entries.now place) facts.old.items) }
+pub(crate) fn enter(entries: &[Entry], place: usize, facts: &mut Facts) -> Result<(), AllocError>
+    ensures { OnOk result (facts.new ≡ table.entered_or (entries_of.entry_in entries.now place) facts.old) }
 {
     if let Some(entry) = entries.get(place) {
         if entry.is_target {
-            facts.clear();
-            facts.extend_from_slice(&entry.facts)?;
+            facts.replace(&entry.facts)?;
         }
     }
     Ok(())

@@ -2,7 +2,7 @@
 use cyc_plain::{BinaryOperator, Comparison, Operand};
 
 /// So many facts are remembered at most. Where there is one more, the oldest is forgotten.
-pub(crate) const MOST_FACTS: usize = 12;
+pub(crate) const MOST_FACTS: usize = 24;
 
 /// Something that is true of the words in a function's slots, and of memory.
 #[derive(Clone, Copy)]

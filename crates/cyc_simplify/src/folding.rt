@@ -29,7 +29,7 @@ fn word_by(fact: Fact, operand: Operand) -> Option<u32>
 }
 
 /// The word that an operand is known to stand for.
-fn word_in(facts: &[Fact], operand: Operand) -> Option<u32>
+pub(crate) fn word_in(facts: &[Fact], operand: Operand) -> Option<u32>
     ensures { result ≡ replacement.word_in facts.now operand }
 {
     for fact in facts {

@@ -1,4 +1,7 @@
 //! Where the code leads by jumps.
+ghost use Rattle.std.specs.Prelude.{◌≡◌};
+ghost use Rattle.cyc_simplify.specs.inside.Table as table;
+
 use cyc_plain::Instruction;
 
 /// Where an instruction leads, but for the next one.
@@ -12,7 +15,9 @@ pub(crate) fn target_of(instruction: Instruction) -> Option<usize> {
 }
 
 /// Whether the code may go on behind an instruction.
-pub(crate) fn goes_on(instruction: Instruction) -> bool {
+pub(crate) fn goes_on(instruction: Instruction) -> bool
+    ensures { result ≡ table.goes_on instruction }
+{
     match instruction {
         Instruction::Jump { .. }
         | Instruction::Return { .. }

@@ -5,7 +5,8 @@ ghost use Rattle.cyc_simplify.specs.inside.Facts as facts_of;
 ghost use Rattle.cyc_simplify.specs.inside.Table as table;
 
 use crate::fact::Fact;
-use crate::replacement::simplified_operand;
+use crate::folding::word_in;
+use crate::replacement::operand_in;
 use cyc_plain::{BinaryOperator, Comparison, Operand};
 
 /// Whether an operand is this slot.
@@ -169,6 +170,27 @@ fn is_same_fact(one: Fact, other: Fact) -> bool
     }
 }
 
+/// What is true nowhere, so that all follows from it.
+pub(crate) fn never() -> Fact
+    ensures { result ≡ facts_of.never }
+{
+    Fact::Holds {
+        comparison: Comparison::NotEqual,
+        left: Operand::Word { word: 0 },
+        right: Operand::Word { word: 0 },
+    }
+}
+
+/// Whether it is the first of these: no run comes to the place.
+pub(crate) fn is_unreached(facts: &[Fact]) -> bool
+    ensures { result ≡ facts_of.is_unreached facts.now }
+{
+    match facts.get(0) {
+        Some(fact) => is_same_fact(*fact, never()),
+        None => false,
+    }
+}
+
 /// Whether a fact is among these.
 pub(crate) fn is_known(facts: &[Fact], fact: Fact) -> bool
     ensures { result ≡ facts_of.is_known facts.now fact }
@@ -207,18 +229,49 @@ fn resolved_fact(facts: &[Fact], fact: Fact) -> Fact
             right,
         } => Fact::Holds {
             comparison,
-            left: simplified_operand(facts, left),
-            right: simplified_operand(facts, right),
+            left: operand_in(facts, left),
+            right: operand_in(facts, right),
         },
         _ => fact,
     }
 }
 
-/// Whether a fact is among these and one more, if need be where operands are put for equal ones.
+fn are_below(left: Option<u32>, right: Option<u32>) -> bool
+    ensures { result ≡ table.are_below left right }
+{
+    match left {
+        Some(one) => match right {
+            Some(other) => one < other,
+            None => false,
+        },
+        None => false,
+    }
+}
+
+/// Whether a word is below another, where both are known.
+fn is_below(facts: &[Fact], fact: Fact) -> bool
+    ensures { result ≡ table.is_below facts.now fact }
+{
+    match fact {
+        Fact::Holds {
+            comparison,
+            left,
+            right,
+        } => {
+            is_same_comparison(comparison, Comparison::LessUnsigned)
+                && are_below(word_in(facts, left), word_in(facts, right))
+        }
+        _ => false,
+    }
+}
+
+/// Whether a fact is among these and one more, if need be where operands are put for equal ones, or is one about words that are known.
 pub(crate) fn follows(facts: &[Fact], more: Option<Fact>, fact: Fact) -> bool
     ensures { result ≡ table.follows facts.now more fact }
 {
-    is_known_with(facts, more, fact) || is_known_with(facts, more, resolved_fact(facts, fact))
+    is_unreached(facts)
+        || (is_known_with(facts, more, fact)
+            || (is_known_with(facts, more, resolved_fact(facts, fact)) || is_below(facts, fact)))
 }
 
 /// Whether all that is asked for is known.

@@ -6,6 +6,7 @@ mod effects;
 mod entries;
 mod entry;
 mod fact;
+mod facts;
 mod folding;
 mod jumps;
 mod known;

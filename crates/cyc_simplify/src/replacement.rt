@@ -1,14 +1,18 @@
 //! What stands for an instruction where facts are known.
-ghost use Rattle.std.specs.Prelude.{◌≡◌};
+ghost use Rattle.std.specs.Prelude.{◌≡◌, ◌+◌, ◌<◌, ◌^◌};
 ghost use Rattle.cyc_simplify.specs.inside.Replacement as replacement;
 ghost use Rattle.cyc_simplify.specs.inside.Facts as facts_of;
 ghost use Rattle.cyc_simplify.specs.declared.fact.Fact.TheVariants as facts_are;
+ghost use Rattle.cyc_plain.specs.declared.instruction.Instruction.TheVariants as instructions;
+ghost use Rattle.cyc_plain.specs.declared.instruction.Operand.TheVariants as operands;
 
-use crate::effects::negated;
+use crate::effects::{first_global, global_offset, negated};
 use crate::fact::Fact;
+use crate::facts::Facts;
 use crate::folding::{folded_at, folded_unary, right_operand};
 use crate::known::{
-    are_same_operands, is_known, is_same_comparison, is_same_operator, is_same_word, is_slot,
+    are_same_operands, is_known, is_same_comparison, is_same_operand, is_same_operator,
+    is_same_word, is_slot, is_unreached,
 };
 use cyc_plain::{BinaryOperator, Comparison, Instruction, Operand, Request, UnaryOperator};
 
@@ -43,7 +47,7 @@ fn instead(fact: Fact, operand: Operand) -> Option<Operand>
 
 /// What stands for the same word as an operand. For a word that is the word itself, whatever is known.
 #[tactic(auto, using(crate::proofs::Keeping::simplified_word))]
-pub(crate) fn simplified_operand(facts: &[Fact], operand: Operand) -> Operand
+pub(crate) fn operand_in(facts: &[Fact], operand: Operand) -> Operand
     ensures { result ≡ replacement.simplified_operand facts.now operand }
 {
     if let Operand::Word { .. } = operand {
@@ -55,6 +59,41 @@ pub(crate) fn simplified_operand(facts: &[Fact], operand: Operand) -> Operand
         }
     }
     operand
+}
+
+/// The same, which for most operands is seen at once to be the operand itself.
+fn simplified_operand(facts: &Facts, operand: Operand) -> Operand
+    ensures { result ≡ replacement.simplified_operand facts.now operand }
+{
+    if facts.may_be_copy(operand) {
+        operand_in(facts.all(), operand)
+    } else {
+        operand
+    }
+}
+
+/// Whether the first word is below two, and it is tested whether it is not zero: it is the result itself.
+fn is_truth_test(
+    comparison: Comparison,
+    bound: Operand,
+    operator: BinaryOperator,
+    right: Operand,
+) -> bool
+    ensures { result ≡ replacement.is_truth_test comparison bound operator right }
+{
+    is_same_comparison(comparison, Comparison::LessUnsigned)
+        && (is_same_operand(bound, Operand::Word { word: 2 })
+            && (is_same_operator(operator, BinaryOperator::NotEqual)
+                && is_same_operand(right, Operand::Word { word: 0 })))
+}
+
+fn own_slot(operand: Operand) -> Option<usize>
+    ensures { result ≡ replacement.own_slot operand }
+{
+    match operand {
+        Operand::Slot { number } => Some(number),
+        Operand::Word { .. } => None,
+    }
 }
 
 /// The slot that holds a result already, by a fact.
@@ -72,6 +111,19 @@ fn holder(fact: Fact, operator: BinaryOperator, left: Operand, right: Operand) -
                 && are_same_operands(other_left, other_right, left, right)
             {
                 Some(slot)
+            } else {
+                None
+            }
+        }
+        Fact::Holds {
+            comparison,
+            left: other_left,
+            right: bound,
+        } => {
+            if is_same_operand(other_left, left)
+                && is_truth_test(comparison, bound, operator, right)
+            {
+                own_slot(other_left)
             } else {
                 None
             }
@@ -148,6 +200,16 @@ fn simplified_unary(
     }
 }
 
+/// The move of a slot's own word, which does nothing.
+fn moved_to_itself(slot: usize) -> Instruction
+    ensures { result ≡ instructions.Move slot (operands.Slot slot) }
+{
+    Instruction::Move {
+        destination: slot,
+        source: Operand::Slot { number: slot },
+    }
+}
+
 fn simplified_move(facts: &[Fact], destination: usize, source: Operand) -> Instruction
     ensures { result ≡ replacement.simplified_move (facts_of.is_known facts.now (facts_are.Equal destination source)) destination source }
 {
@@ -156,12 +218,7 @@ fn simplified_move(facts: &[Fact], destination: usize, source: Operand) -> Instr
         operand: source,
     };
     if is_known(facts, equal) {
-        Instruction::Move {
-            destination,
-            source: Operand::Slot {
-                number: destination,
-            },
-        }
+        moved_to_itself(destination)
     } else {
         Instruction::Move {
             destination,
@@ -245,6 +302,24 @@ fn decision_in(
     None
 }
 
+/// What stands for a branch that is never taken.
+fn passed_by(left: Operand, right: Operand, target: usize) -> Instruction
+    ensures { result ≡ replacement.passed_by left right target }
+{
+    match left {
+        Operand::Slot { number } => moved_to_itself(number),
+        Operand::Word { .. } => match right {
+            Operand::Slot { number } => moved_to_itself(number),
+            Operand::Word { .. } => Instruction::Branch {
+                comparison: Comparison::NotEqual,
+                left: Operand::Word { word: 0 },
+                right: Operand::Word { word: 0 },
+                target,
+            },
+        },
+    }
+}
+
 fn simplified_branch(
     facts: &[Fact],
     comparison: Comparison,
@@ -259,12 +334,7 @@ fn simplified_branch(
             if holds {
                 Instruction::Jump { target }
             } else {
-                Instruction::Branch {
-                    comparison: Comparison::NotEqual,
-                    left: Operand::Word { word: 0 },
-                    right: Operand::Word { word: 0 },
-                    target,
-                }
+                passed_by(left, right, target)
             }
         }
         None => Instruction::Branch {
@@ -307,6 +377,15 @@ fn value_in(facts: &[Fact], address: Operand, offset: u32) -> Option<Operand>
     None
 }
 
+fn global_value(facts: &[Fact], global: usize) -> Option<Operand>
+    ensures { result ≡ replacement.global_value facts.now (facts_of.global_offset global) }
+{
+    match global_offset(global) {
+        Some(offset) => value_in(facts, first_global(), offset),
+        None => None,
+    }
+}
+
 /// The load of a word that is known is a move.
 fn simplified_load(facts: &[Fact], destination: usize, address: Operand, offset: u32) -> Instruction
     ensures { result ≡ replacement.simplified_load (replacement.value_in facts.now address offset) destination address offset }
@@ -324,7 +403,23 @@ fn simplified_load(facts: &[Fact], destination: usize, address: Operand, offset:
     }
 }
 
-fn simplified_request(facts: &[Fact], request: Request) -> Request
+/// The load of a global whose word is known is a move.
+fn simplified_global(facts: &[Fact], destination: usize, global: usize) -> Instruction
+    ensures { result ≡ replacement.simplified_global (replacement.global_value facts.now (facts_of.global_offset global)) destination global }
+{
+    match global_value(facts, global) {
+        Some(value) => Instruction::Move {
+            destination,
+            source: value,
+        },
+        None => Instruction::LoadGlobal {
+            destination,
+            global,
+        },
+    }
+}
+
+fn simplified_request(facts: &Facts, request: Request) -> Request
     ensures { result ≡ replacement.simplified_request facts.now request }
 {
     match request {
@@ -352,23 +447,23 @@ fn simplified_request(facts: &[Fact], request: Request) -> Request
 
 /// An instruction that does exactly the same wherever the facts are true. Where there are none that is the instruction itself.
 #[tactic(auto, using(crate::proofs::Tables::unaltered_without))]
-pub(crate) fn simplified_instruction(facts: &[Fact], instruction: Instruction) -> Instruction
+pub(crate) fn simplified_instruction(facts: &Facts, instruction: Instruction) -> Instruction
     ensures { result ≡ replacement.simplified_instruction facts.now instruction }
 {
-    if facts.is_empty() {
+    if facts.all().is_empty() {
         return instruction;
     }
     match instruction {
         Instruction::Move {
             destination,
             source,
-        } => simplified_move(facts, destination, simplified_operand(facts, source)),
+        } => simplified_move(facts.all(), destination, simplified_operand(facts, source)),
         Instruction::Unary {
             operator,
             destination,
             operand,
         } => simplified_unary(
-            facts,
+            facts.all(),
             operator,
             destination,
             simplified_operand(facts, operand),
@@ -379,11 +474,11 @@ pub(crate) fn simplified_instruction(facts: &[Fact], instruction: Instruction) -
             left,
             right,
         } => simplified_binary(
-            facts,
+            facts.all(),
             operator,
             destination,
             simplified_operand(facts, left),
-            right_operand(facts, operator, simplified_operand(facts, right)),
+            right_operand(facts.all(), operator, simplified_operand(facts, right)),
         ),
         Instruction::Branch {
             comparison,
@@ -391,7 +486,7 @@ pub(crate) fn simplified_instruction(facts: &[Fact], instruction: Instruction) -
             right,
             target,
         } => simplified_branch(
-            facts,
+            facts.all(),
             comparison,
             simplified_operand(facts, left),
             simplified_operand(facts, right),
@@ -400,6 +495,10 @@ pub(crate) fn simplified_instruction(facts: &[Fact], instruction: Instruction) -
         Instruction::WriteByte { source } => Instruction::WriteByte {
             source: simplified_operand(facts, source),
         },
+        Instruction::LoadGlobal {
+            destination,
+            global,
+        } => simplified_global(facts.all(), destination, global),
         Instruction::StoreGlobal { global, source } => Instruction::StoreGlobal {
             global,
             source: simplified_operand(facts, source),
@@ -409,7 +508,7 @@ pub(crate) fn simplified_instruction(facts: &[Fact], instruction: Instruction) -
             address,
             offset,
         } => simplified_load(
-            facts,
+            facts.all(),
             destination,
             simplified_operand(facts, address),
             offset,
@@ -453,5 +552,34 @@ pub(crate) fn simplified_instruction(facts: &[Fact], instruction: Instruction) -
             value: simplified_operand(facts, value),
         },
         _ => instruction,
+    }
+}
+
+/// Whether an instruction to which no run comes may go. What takes the address of slots stays, so that they are the same as before, and
+/// a call of the store, whatever its size.
+fn may_vanish(instruction: Instruction) -> bool
+    ensures { result ≡ replacement.may_vanish instruction }
+{
+    match instruction {
+        Instruction::AddressOf { .. } | Instruction::Ask { .. } => false,
+        _ => true,
+    }
+}
+
+/// What stands at this place of so many for an instruction: where no run comes a jump to the next place, if there is one, which has no
+/// lines.
+pub(crate) fn put_at(
+    facts: &Facts,
+    index: usize,
+    count: usize,
+    instruction: Instruction,
+) -> Instruction
+    requires { index + 1 < 2 ^ 64 }
+    ensures { result ≡ replacement.put_at facts.now index count instruction }
+{
+    if is_unreached(facts.all()) && (index + 1 < count && may_vanish(instruction)) {
+        Instruction::Jump { target: index + 1 }
+    } else {
+        simplified_instruction(facts, instruction)
     }
 }

@@ -1,15 +1,17 @@
 //! The code of a function, each instruction by what is known where it stands.
-ghost use Rattle.std.specs.Prelude.{◌≡◌, ◌+◌, ◌<◌, ◌^◌, true, IfOk, IfSome, length};
+ghost use Rattle.std.specs.Prelude.{◌≡◌, ◌+◌, ◌<◌, ◌^◌, true, IfOk, IfSome, OnOk, length};
 ghost use Rattle.cyc_plain.specs.inside.Program.{routine_of};
 ghost use Rattle.cyc_plain.specs.inside.Uses.{At};
 ghost use Rattle.cyc_simplify.specs.inside.Entries as entries_of;
-ghost use Rattle.cyc_simplify.specs.inside.Facts as facts_of;
 ghost use Rattle.cyc_simplify.specs.inside.Table as table;
 
 use crate::effects::{go_on, made};
 use crate::entry::{Entry, enter, is_entry_suited, may_go_on, may_jump};
 use crate::fact::Fact;
-use crate::replacement::simplified_instruction;
+use crate::facts::Facts;
+use crate::jumps::goes_on;
+use crate::known::{is_unreached, never};
+use crate::replacement::put_at;
 use cyc_plain::{Function, Instruction, Plain};
 use std::alloc::{AllocError, Global};
 
@@ -25,7 +27,9 @@ fn jumps_well(
     ensures { result ≡ entries_of.jumps_well pinned.now (entries_of.entry_in entries.now) facts.now instruction index }
 {
     match instruction {
-        Instruction::Jump { target } => may_jump(entries, target, facts, None),
+        Instruction::Jump { target } => {
+            is_unreached(facts) || may_jump(entries, target, facts, None)
+        }
         Instruction::Branch { target, .. } => may_jump(
             entries,
             target,
@@ -54,30 +58,48 @@ fn goes_well(entries: &[Entry], behind: &[Fact], instruction: Instruction, index
     }
 }
 
+/// The facts become those at the next place, if no jump leads there. No run comes behind an instruction that does not go on.
+pub(crate) fn come_behind(
+    plain: &Plain,
+    pinned: &[bool],
+    facts: &mut Facts,
+    instruction: Instruction,
+    index: usize,
+) -> Result<(), AllocError>
+    requires { index + 1 < 2 ^ 64 }
+    ensures { OnOk result (facts.new ≡ table.behind_put plain.now pinned.now facts.old instruction index) }
+{
+    if goes_on(instruction) {
+        return go_on(plain, pinned, facts, instruction, index);
+    }
+    facts.clear();
+    facts.remember(Some(never()))
+}
+
 /// One instruction: the facts become those at the next one. Answers whether the entries are right there.
 fn is_passed(
     plain: &Plain,
     pinned: &[bool],
     entries: &[Entry],
-    facts: &mut Vec<Fact>,
+    facts: &mut Facts,
     instruction: Instruction,
     index: usize,
 ) -> Result<bool, AllocError>
     requires { index + 1 < 2 ^ 64 }
     ensures checked { IfOk result (λ is_right. is_right ≡ true
-        → table.is_checked_at plain.now pinned.now (entries_of.entry_in entries.now) facts.old.items instruction index ≡ true) }
+        → table.is_checked_at plain.now pinned.now (entries_of.entry_in entries.now) facts.old instruction index ≡ true) }
     ensures facts { IfOk result (λ is_right. is_right ≡ true
-        → facts.new.items ≡ table.entered_or (entries_of.entry_in entries.now (index + 1))
-        (facts_of.facts_behind plain.now pinned.now facts.old.items instruction index (index + 1))) }
+        → facts.new ≡ table.entered_or (entries_of.entry_in entries.now (index + 1))
+        (table.behind_put plain.now pinned.now facts.old instruction index)) }
 {
-    if !jumps_well(pinned, entries, facts, instruction, index) {
+    if !jumps_well(pinned, entries, facts.all(), instruction, index) {
         return Ok(false);
     }
-    go_on(plain, pinned, facts, instruction, index)?;
+    come_behind(plain, pinned, facts, instruction, index)?;
     if !is_entry_suited(pinned, entries, index + 1) {
         return Ok(false);
     }
-    if !goes_well(entries, facts, instruction, index) {
+    if !goes_well(entries, facts.all(), instruction, index) {
         return Ok(false);
     }
     enter(entries, index + 1, facts)?;
@@ -104,10 +126,10 @@ pub(crate) fn walked(
         entries_of.IsWalked plain.now (routine_of function.now) pinned.now entries.now code.items)) }
 {
     let mut code = Vec::with_capacity(alloc, function.code.len())?;
-    let mut facts = Vec::new(alloc);
+    let mut facts = Facts::new(alloc);
     for index in 0..function.code.len() {
         let given = instruction_at(function, index);
-        let instruction = simplified_instruction(&facts, given);
+        let instruction = put_at(&facts, index, function.code.len(), given);
         code.push(instruction)?;
         if !is_passed(plain, pinned, entries, &mut facts, instruction, index)? {
             return Ok(None);

@@ -1,5 +1,5 @@
 -- What is known at the places that are jumped to, as the code holds it, and the two halves of the check.
-use Rattle.std.specs.Prelude.{◌≡◌, ℕ, ◌+◌, ◌<◌, Bool, true, false, ◌==◌, ◌&&◌, if◌then◌else◌, List, [], ◌∷◌, length, Option, Some, None, slice_get, slice_index_or}
+use Rattle.std.specs.Prelude.{◌≡◌, ℕ, ◌+◌, ◌<◌, Bool, true, false, ◌==◌, ◌&&◌, ◌||◌, if◌then◌else◌, List, length, Option, Some, None, slice_get, slice_index_or}
 use Rattle.cyc_plain.specs.declared.instruction.Instruction.{Instruction}
 use Rattle.cyc_plain.specs.declared.instruction.Instruction.TheVariants as instructions
 use Rattle.cyc_plain.specs.inside.Uses.{At}
@@ -9,8 +9,8 @@ use Rattle.cyc_plain.specs.inside.Program.{Program, Routine, no_routine, routine
 use Rattle.cyc_simplify.specs.declared.fact.Touched.{Touched}
 use Rattle.cyc_simplify.specs.declared.fact.Touched.TheVariants as touches
 use Rattle.cyc_simplify.specs.declared.fact.Written.{Written}
-use Rattle.cyc_simplify.specs.inside.Facts.{keeps, made}
-use Rattle.cyc_simplify.specs.inside.Replacement.{simplified_instruction}
+use Rattle.cyc_simplify.specs.inside.Facts.{is_unreached, made}
+use Rattle.cyc_simplify.specs.inside.Replacement.{put_at}
 use Rattle.cyc_simplify.specs.inside.Table.{facts_at, may_jump, may_go_on, is_checked_at, IsReplaced}
 
 abbrev pub entry_of : Option Entry → Option (List Fact)
@@ -22,7 +22,7 @@ entry_in entries index = entry_of (slice_get entries index)
 
 -- an instruction leads by a jump to a place that asks for no more than what is known
 abbrev pub jumps_well : List Bool → (entry : ℕ → Option (List Fact)) → List Fact → Instruction → (index : ℕ) → Bool
-jumps_well pinned entry facts (instructions.Jump target) index = may_jump (entry target) facts None
+jumps_well pinned entry facts (instructions.Jump target) index = is_unreached facts || may_jump (entry target) facts None
 jumps_well pinned entry facts (instructions.Branch comparison left right target) index =
     may_jump (entry target) facts (made pinned (instructions.Branch comparison left right target) index target)
 jumps_well pinned entry facts (instructions.Try first handler) index = length facts == 0 && may_jump (entry handler) facts None
@@ -42,10 +42,10 @@ pub record AreWalked (program : Program) (r : Routine) (pinned : List Bool) (ent
   pub as_many : length code ≡ count
   pub known : facts ≡ facts_at program pinned (entry_in entries) r.code count
   pub each : (k : ℕ) (i : Instruction) → At r k i → k < count
-      → slice_get code k ≡ Some (simplified_instruction (facts_at program pinned (entry_in entries) r.code k) i)
+      → slice_get code k ≡ Some (put_at (facts_at program pinned (entry_in entries) r.code k) k (length r.code) i)
   pub checked : (k : ℕ) (i : Instruction) → At r k i → k < count
       → is_checked_at program pinned (entry_in entries) (facts_at program pinned (entry_in entries) r.code k)
-      (simplified_instruction (facts_at program pinned (entry_in entries) r.code k) i) k
+      (put_at (facts_at program pinned (entry_in entries) r.code k) k (length r.code) i) k
       ≡ true
 
 -- all of them were
@@ -60,11 +60,6 @@ with_code r code = record r { code = code }
 pub record AreFirstReplaced (program : Program) (count : ℕ) (routines : List Routine) : Type 0 where
   pub as_many : length routines ≡ count
   pub each : (k : ℕ) → k < count → IsReplaced program (routine_at program k) (slice_index_or routines k no_routine)
-
--- each fact is kept
-abbrev pub keeps_all : Written → Touched → List Fact → Bool
-keeps_all slots touched [] = true
-keeps_all slots touched (fact ∷ facts) = keeps slots touched fact && keeps_all slots touched facts
 
 -- nothing is written or changed
 abbrev pub changes_nothing : Written → Touched → Bool

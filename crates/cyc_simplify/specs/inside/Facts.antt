@@ -1,16 +1,18 @@
 -- Facts about the slots of a function, and memory: when they are true, which an instruction keeps, and which it makes.
-use Rattle.std.specs.Prelude.{◌≡◌, ℕ, zero, suc, ◌+◌, ◌<◌, ◌^◌, Bool, true, false, not, ◌==◌, ◌&&◌, ◌||◌, nat_le, nat_lt, if◌then◌else◌, List, [], ◌∷◌, ◌++◌, length, filter, drop, Option, Some, None, slice_index_or}
+use Rattle.std.specs.Prelude.{◌≡◌, ℕ, zero, suc, ◌+◌, ◌*◌, ◌<◌, ◌^◌, Bool, true, false, not, ◌==◌, ◌&&◌, ◌||◌, nat_le, nat_lt, if◌then◌else◌, List, [], ◌∷◌, ◌++◌, length, filter, drop, Option, Some, None, slice_get, slice_index_or}
 use Rattle.std.specs.List.{AllByRecursion}
 use Rattle.cyc_words.specs.Word.{add_of}
 use Rattle.cyc_plain.specs.declared.instruction.Instruction.{Instruction}
 use Rattle.cyc_plain.specs.declared.instruction.Instruction.TheVariants as instructions
 use Rattle.cyc_plain.specs.declared.instruction.Operand.{Operand}
 use Rattle.cyc_plain.specs.declared.instruction.Operand.TheVariants as operands
+use Rattle.cyc_plain.specs.declared.instruction.UnaryOperator.{UnaryOperator}
+use Rattle.cyc_plain.specs.declared.instruction.UnaryOperator.TheVariants as unary
 use Rattle.cyc_plain.specs.declared.instruction.BinaryOperator.{BinaryOperator}
 use Rattle.cyc_plain.specs.declared.instruction.BinaryOperator.TheVariants as binary
 use Rattle.cyc_plain.specs.declared.instruction.Comparison.{Comparison}
 use Rattle.cyc_plain.specs.declared.instruction.Comparison.TheVariants as comparisons
-use Rattle.cyc_plain.specs.declared.limits.TheConstants.{RECORD_WORDS}
+use Rattle.cyc_plain.specs.declared.limits.TheConstants.{GLOBALS_BASE, MOST_GLOBALS, RECORD_WORDS}
 use Rattle.cyc_plain.specs.inside.Requests.{destination_of, answer_count}
 use Rattle.cyc_plain.specs.inside.Operators.{binary_result, has_no_result, compares}
 use Rattle.cyc_plain.specs.inside.Program.{Program, routine_at}
@@ -116,6 +118,29 @@ abbrev pub is_known : List Fact → Fact → Bool
 is_known [] fact = false
 is_known (other ∷ facts) fact = is_same_fact other fact || is_known facts fact
 
+-- ---- what is not reached
+
+-- What is true nowhere, so that all follows from it. It is known where no run comes.
+abbrev pub never : Fact
+never = facts_are.Holds comparisons.NotEqual (operands.Word 0) (operands.Word 0)
+
+abbrev pub is_never : Option Fact → Bool
+is_never (Some fact) = is_same_fact fact never
+is_never None = false
+
+-- it is the first of these
+abbrev pub is_unreached : List Fact → Bool
+is_unreached facts = is_never (slice_get facts 0)
+
+-- ---- globals
+
+-- A global is a word of memory too: it stands so many bytes behind the first, where it is one that a program may have.
+abbrev pub first_global : Operand
+first_global = operands.Word GLOBALS_BASE
+
+abbrev pub global_offset : (global : ℕ) → Option ℕ
+global_offset global = if nat_lt global MOST_GLOBALS then Some (4 * global) else None
+
 -- ---- of which slots there are facts
 
 -- `pinned` says of each slot of a function whether its address is taken. A slot is free where it is not: no store changes it.
@@ -178,6 +203,11 @@ touched_by pinned slot = if is_free pinned slot then touches.Nothing else touche
 abbrev pub touched_by_words : List Bool → (first count : ℕ) → Touched
 touched_by_words pinned first count = if are_free pinned first count then touches.Nothing else touches.All
 
+-- the word of a global
+abbrev pub touched_global : (offset : Option ℕ) → Touched
+touched_global (Some offset) = touches.Word first_global offset
+touched_global None = touches.All
+
 abbrev pub touched : List Bool → Instruction → Touched
 touched pinned (instructions.Move destination source) = touched_by pinned destination
 touched pinned (instructions.Unary operator destination operand) = touched_by pinned destination
@@ -190,7 +220,7 @@ touched pinned (instructions.LoadByte destination address offset) = touched_by p
 touched pinned (instructions.CountLexical destination) = touched_by pinned destination
 touched pinned (instructions.Store address offset source) = touches.Word address offset
 touched pinned (instructions.StoreByte address offset source) = touches.All
-touched pinned (instructions.StoreGlobal global source) = touches.All
+touched pinned (instructions.StoreGlobal global source) = touched_global (global_offset global)
 touched pinned (instructions.MoveWords destination source count) = touched_by_words pinned destination count
 touched pinned (instructions.Call function arguments count result) = touches.All
 touched pinned (instructions.Ask request) = touches.All
@@ -255,6 +285,11 @@ abbrev pub loaded : List Bool → (address : Operand) → (offset destination : 
 loaded pinned address offset destination =
     if is_slot address destination then None else held pinned address offset (operands.Slot destination)
 
+-- the same, of a global
+abbrev pub held_global : List Bool → (offset : Option ℕ) → (value : Operand) → Option Fact
+held_global pinned (Some offset) value = held pinned first_global offset value
+held_global pinned None value = None
+
 -- what is true behind the instruction at this index where the run goes on at `next`, whatever was true before
 abbrev pub made : List Bool → Instruction → (index next : ℕ) → Option Fact
 made pinned (instructions.Move destination source) index next =
@@ -262,9 +297,35 @@ made pinned (instructions.Move destination source) index next =
 made pinned (instructions.Binary operator destination left right) index next =
     if is_slot left destination || is_slot right destination then None else suited pinned (facts_are.Computed destination operator left right)
 made pinned (instructions.Branch comparison left right target) index next = shown pinned comparison left right target index next
+made pinned (instructions.LoadGlobal destination global) index next = held_global pinned (global_offset global) (operands.Slot destination)
+made pinned (instructions.StoreGlobal global source) index next = held_global pinned (global_offset global) source
 made pinned (instructions.Load destination address offset) index next = loaded pinned address offset destination
 made pinned (instructions.Store address offset source) index next = held pinned address offset source
 made pinned instruction index next = None
+
+-- the operators that compute whether something is so: 1 or 0
+abbrev pub is_test : BinaryOperator → Bool
+is_test binary.Equal = true
+is_test binary.NotEqual = true
+is_test binary.Less = true
+is_test binary.LessOrEqual = true
+is_test binary.Greater = true
+is_test binary.GreaterOrEqual = true
+is_test operator = false
+
+abbrev pub is_not : UnaryOperator → Bool
+is_not unary.Not = true
+is_not operator = false
+
+-- the slot holds one of those
+abbrev pub truth_in : (slot : ℕ) → Fact
+truth_in slot = facts_are.Holds comparisons.LessUnsigned (operands.Slot slot) (operands.Word 2)
+
+-- so it does behind such an operator, also where it is one of the operands
+abbrev pub tested : List Bool → Instruction → Option Fact
+tested pinned (instructions.Unary operator destination operand) = if is_not operator then suited pinned (truth_in destination) else None
+tested pinned (instructions.Binary operator destination left right) = if is_test operator then suited pinned (truth_in destination) else None
+tested pinned instruction = None
 
 -- a fact more, in place of the oldest where there are as many as there may be
 abbrev pub remembered : List Fact → Option Fact → List Fact
@@ -292,12 +353,18 @@ copied pinned instruction index = None
 abbrev pub with_copies : List Bool → Instruction → List Fact → List Fact
 with_copies pinned i facts = remembered (remembered (remembered facts (copied pinned i 0)) (copied pinned i 1)) (copied pinned i 2)
 
--- what an instruction makes is true: the words that it moves as copies are the same as their sources, and the fact of any other
+-- What an instruction makes is true: the words that it moves as copies are the same as their sources, what it computes is a truth
+-- value, and the fact of any other.
 abbrev pub IsMade : Scene → List Bool → Instruction → (index next : ℕ) → Type 0
 IsMade scene pinned (instructions.MoveWords destination source count) index next =
     are_copied pinned destination source count ≡ true → (k : ℕ) → k < count → scene.slots (destination + k) ≡ scene.slots (source + k)
+IsMade scene pinned (instructions.Unary operator destination operand) index next = IsTrueIfAny scene (tested pinned (instructions.Unary operator destination operand))
+IsMade scene pinned (instructions.Binary operator destination left right) index next =
+    IsTrueIfAny scene (tested pinned (instructions.Binary operator destination left right))
+    × IsTrueIfAny scene (made pinned (instructions.Binary operator destination left right) index next)
 IsMade scene pinned instruction index next = IsTrueIfAny scene (made pinned instruction index next)
 
 -- what is known behind an instruction
 abbrev pub facts_behind : Program → List Bool → List Fact → Instruction → (index next : ℕ) → List Fact
-facts_behind program pinned facts i index next = remembered (with_copies pinned i (kept (written program i) (touched pinned i) facts)) (made pinned i index next)
+facts_behind program pinned facts i index next =
+    remembered (remembered (with_copies pinned i (kept (written program i) (touched pinned i) facts)) (tested pinned i)) (made pinned i index next)

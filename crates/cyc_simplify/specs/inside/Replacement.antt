@@ -1,5 +1,5 @@
 -- What stands for an instruction where facts are known: another that does exactly the same wherever they are true.
-use Rattle.std.specs.Prelude.{ℕ, Bool, true, false, nat_lt, bit_and, bit_or, bit_xor, ◌&&◌, ◌||◌, not, if◌then◌else◌, List, [], ◌∷◌, Option, Some, None, unwrap_or}
+use Rattle.std.specs.Prelude.{ℕ, ◌+◌, Bool, true, false, nat_lt, bit_and, bit_or, bit_xor, ◌&&◌, ◌||◌, not, if◌then◌else◌, List, [], ◌∷◌, Option, Some, None, unwrap_or}
 use Rattle.cyc_words.specs.Word.{add_of, sub_of, mul_of, shl_of, sar_of}
 use Rattle.cyc_plain.specs.declared.instruction.Instruction.{Instruction}
 use Rattle.cyc_plain.specs.declared.instruction.Instruction.TheVariants as instructions
@@ -16,7 +16,7 @@ use Rattle.cyc_plain.specs.inside.Operators.{unary_result}
 use Rattle.cyc_plain.specs.inside.Uses.{is_slot}
 use Rattle.cyc_simplify.specs.declared.fact.Fact.{Fact}
 use Rattle.cyc_simplify.specs.declared.fact.Fact.TheVariants as facts_are
-use Rattle.cyc_simplify.specs.inside.Facts.{is_same_operator, is_same_word, is_same_comparison, is_same_operand, is_known, negated}
+use Rattle.cyc_simplify.specs.inside.Facts.{is_same_operator, is_same_word, is_same_comparison, is_same_operand, is_known, is_unreached, first_global, global_offset, negated}
 
 -- ---- operands
 
@@ -115,10 +115,22 @@ folded_at facts operator destination left right =
 
 -- ---- results
 
+-- The first word is below two, and it is tested whether it is not zero: it is the result itself.
+abbrev pub is_truth_test : Comparison → (bound : Operand) → BinaryOperator → (right : Operand) → Bool
+is_truth_test comparison bound operator right =
+    is_same_comparison comparison comparisons.LessUnsigned
+    && (is_same_operand bound (operands.Word 2) && (is_same_operator operator binary.NotEqual && is_same_operand right (operands.Word 0)))
+
+abbrev pub own_slot : Operand → Option ℕ
+own_slot (operands.Slot number) = Some number
+own_slot (operands.Word word) = None
+
 -- the slot that holds a result already, by one fact, or by the first that says so
 abbrev pub holder : Fact → BinaryOperator → (left right : Operand) → Option ℕ
 holder (facts_are.Computed slot other left_2 right_2) operator left right =
     if is_same_operator other operator && (is_same_operand left_2 left && is_same_operand right_2 right) then Some slot else None
+holder (facts_are.Holds comparison left_2 bound) operator left right =
+    if is_same_operand left_2 left && is_truth_test comparison bound operator right then own_slot left_2 else None
 holder fact operator left right = None
 
 abbrev pub or_slot : Option ℕ → Option ℕ → Option ℕ
@@ -175,11 +187,16 @@ abbrev pub decision_in : List Fact → Comparison → (left right : Operand) →
 decision_in [] comparison left right = None
 decision_in (fact ∷ facts) comparison left right = or_verdict (decision fact comparison left right) (decision_in facts comparison left right)
 
--- A branch that is never taken is one that nothing takes.
+-- A branch that is never taken: what moves a slot to itself does nothing either, and counts for less.
+abbrev pub passed_by : (left right : Operand) → (target : ℕ) → Instruction
+passed_by (operands.Slot number) right target = instructions.Move number (operands.Slot number)
+passed_by (operands.Word word) (operands.Slot number) target = instructions.Move number (operands.Slot number)
+passed_by (operands.Word word) (operands.Word other) target =
+    instructions.Branch comparisons.NotEqual (operands.Word 0) (operands.Word 0) target
+
 abbrev pub simplified_branch : Option Bool → Comparison → (left right : Operand) → (target : ℕ) → Instruction
 simplified_branch (Some true) comparison left right target = instructions.Jump target
-simplified_branch (Some false) comparison left right target =
-    instructions.Branch comparisons.NotEqual (operands.Word 0) (operands.Word 0) target
+simplified_branch (Some false) comparison left right target = passed_by left right target
 simplified_branch None comparison left right target = instructions.Branch comparison left right target
 
 -- ---- loads
@@ -200,6 +217,15 @@ value_in (fact ∷ facts) address offset = or_value (value_by fact address offse
 abbrev pub simplified_load : Option Operand → (destination : ℕ) → (address : Operand) → (offset : ℕ) → Instruction
 simplified_load (Some value) destination address offset = instructions.Move destination value
 simplified_load None destination address offset = instructions.Load destination address offset
+
+-- the word that a global is known to hold
+abbrev pub global_value : List Fact → (offset : Option ℕ) → Option Operand
+global_value facts (Some offset) = value_in facts first_global offset
+global_value facts None = None
+
+abbrev pub simplified_global : Option Operand → (destination global : ℕ) → Instruction
+simplified_global (Some value) destination global = instructions.Move destination value
+simplified_global None destination global = instructions.LoadGlobal destination global
 
 -- ---- instructions
 
@@ -222,6 +248,8 @@ simplified_instruction facts (instructions.Branch comparison left right target) 
     simplified_branch (decision_in facts comparison (simplified_operand facts left) (simplified_operand facts right))
     comparison (simplified_operand facts left) (simplified_operand facts right) target
 simplified_instruction facts (instructions.WriteByte source) = instructions.WriteByte (simplified_operand facts source)
+simplified_instruction facts (instructions.LoadGlobal destination global) =
+    simplified_global (global_value facts (global_offset global)) destination global
 simplified_instruction facts (instructions.StoreGlobal global source) = instructions.StoreGlobal global (simplified_operand facts source)
 simplified_instruction facts (instructions.Load destination address offset) =
     simplified_load (value_in facts (simplified_operand facts address) offset) destination (simplified_operand facts address) offset
@@ -236,3 +264,19 @@ simplified_instruction facts (instructions.Throw tag value) =
     instructions.Throw (simplified_operand facts tag) (simplified_operand facts value)
 simplified_instruction facts (instructions.Uncaught tag value) = instructions.Uncaught tag (simplified_operand facts value)
 simplified_instruction facts instruction = instruction
+
+-- ---- what is not reached
+
+-- What takes the address of slots stays, so that they are the same as before. So does a call of the store, whatever its size.
+abbrev pub may_vanish : Instruction → Bool
+may_vanish (instructions.AddressOf destination slot count) = false
+may_vanish (instructions.Ask request) = false
+may_vanish i = true
+
+abbrev pub vanishes : List Fact → (index count : ℕ) → Instruction → Bool
+vanishes facts index count i = is_unreached facts && (nat_lt (index + 1) count && may_vanish i)
+
+-- What stands at this place of so many for an instruction: where no run comes a jump to the next place, if there is one, which has no
+-- lines.
+abbrev pub put_at : List Fact → (index count : ℕ) → Instruction → Instruction
+put_at facts index count i = if vanishes facts index count i then instructions.Jump (index + 1) else simplified_instruction facts i

@@ -1,15 +1,16 @@
 -- Tables of what is known at each place of a function, and how one is checked, instruction by instruction: whatever made the
 -- entries, where the check holds everywhere what the table says is true in each run.
-use Rattle.std.specs.Prelude.{◌≡◌, ℕ, zero, suc, ◌+◌, ◌<◌, Bool, true, false, ◌&&◌, ◌||◌, List, [], ◌∷◌, length, Option, Some, None, slice_get}
+use Rattle.std.specs.Prelude.{◌≡◌, ℕ, zero, suc, ◌+◌, ◌<◌, ◌≤◌, Bool, true, false, ◌&&◌, ◌||◌, nat_lt, if◌then◌else◌, List, [], ◌∷◌, length, Option, Some, None, slice_get}
 use Rattle.cyc_plain.specs.declared.instruction.Instruction.{Instruction}
 use Rattle.cyc_plain.specs.declared.instruction.Instruction.TheVariants as instructions
+use Rattle.cyc_plain.specs.declared.instruction.Comparison.TheVariants as comparisons
 use Rattle.cyc_plain.specs.inside.Memory.{is_pinned}
-use Rattle.cyc_plain.specs.inside.Program.{Routine, Program, routine_at}
+use Rattle.cyc_plain.specs.inside.Program.{Routine, Program, routine_at, size}
 use Rattle.cyc_plain.specs.inside.Uses.{At, leads}
 use Rattle.cyc_simplify.specs.declared.fact.Fact.{Fact}
 use Rattle.cyc_simplify.specs.declared.fact.Fact.TheVariants as facts_are
-use Rattle.cyc_simplify.specs.inside.Facts.{Scene, AreTrueIn, IsMade, is_same_fact, is_known, is_free, are_suited, written, touched, kept, made, facts_behind}
-use Rattle.cyc_simplify.specs.inside.Replacement.{simplified_operand, simplified_instruction}
+use Rattle.cyc_simplify.specs.inside.Facts.{Scene, AreTrueIn, IsMade, is_same_comparison, is_same_fact, is_known, never, is_unreached, is_free, are_suited, written, touched, kept, made, facts_behind}
+use Rattle.cyc_simplify.specs.inside.Replacement.{simplified_operand, word_in, put_at}
 
 -- ---- tables
 
@@ -34,11 +35,12 @@ pub record IsReplaced (program : Program) (r s : Routine) : Type 0 where
   pub slots : s.slots ≡ r.slots
   pub frame_count : s.frame_count ≡ r.frame_count
   pub as_many : length s.code ≡ length r.code
+  pub small : size s ≤ size r
   pub pinned : List Bool
   pub pins : ArePins r pinned
   pub table : ℕ → List Fact
   pub is_table : IsTable program s pinned table
-  pub each : (index : ℕ) (i : Instruction) → At r index i → At s index (simplified_instruction (table index) i)
+  pub each : (index : ℕ) (i : Instruction) → At r index i → At s index (put_at (table index) index (length r.code) i)
 
 -- function by function, in order
 pub record AreReplaced (program simplified : Program) : Type 0 where
@@ -49,20 +51,33 @@ pub record AreReplaced (program simplified : Program) : Type 0 where
 
 -- ---- a table by its entries
 
+-- the run goes on at the next place
+abbrev pub goes_on : Instruction → Bool
+goes_on (instructions.Jump target) = false
+goes_on (instructions.Return value) = false
+goes_on (instructions.Throw tag value) = false
+goes_on (instructions.Finish value) = false
+goes_on (instructions.Uncaught tag value) = false
+goes_on i = true
+
+-- what is known at the next place, if no jump leads there
+abbrev pub behind_put : Program → List Bool → List Fact → Instruction → (index : ℕ) → List Fact
+behind_put program pinned facts i index = if goes_on i then facts_behind program pinned facts i index (index + 1) else never ∷ []
+
 -- `entry` has the facts of the places that are jumped to. At any other they are what is known behind the instruction before it.
 abbrev pub entered_or : Option (List Fact) → List Fact → List Fact
 entered_or (Some facts) others = facts
 entered_or None others = others
 
-abbrev pub facts_behind_place : Program → List Bool → List Fact → Option Instruction → (index : ℕ) → List Fact
-facts_behind_place program pinned facts (Some i) index =
-    facts_behind program pinned facts (simplified_instruction facts i) index (index + 1)
-facts_behind_place program pinned facts None index = []
+abbrev pub facts_behind_place : Program → List Bool → List Fact → Option Instruction → (index count : ℕ) → List Fact
+facts_behind_place program pinned facts (Some i) index count = behind_put program pinned facts (put_at facts index count i) index
+facts_behind_place program pinned facts None index count = []
 
 abbrev pub facts_at : Program → List Bool → (entry : ℕ → Option (List Fact)) → List Instruction → (index : ℕ) → List Fact
 facts_at program pinned entry code zero = []
 facts_at program pinned entry code (suc index) =
-    entered_or (entry (suc index)) (facts_behind_place program pinned (facts_at program pinned entry code index) (slice_get code index) index)
+    entered_or (entry (suc index))
+    (facts_behind_place program pinned (facts_at program pinned entry code index) (slice_get code index) index (length code))
 
 -- ---- the check
 
@@ -80,8 +95,19 @@ resolved_fact facts (facts_are.Holds comparison left right) =
     facts_are.Holds comparison (simplified_operand facts left) (simplified_operand facts right)
 resolved_fact facts fact = fact
 
+abbrev pub are_below : (left right : Option ℕ) → Bool
+are_below (Some left) (Some right) = nat_lt left right
+are_below left right = false
+
+-- a word is below another, where both are known
+abbrev pub is_below : List Fact → Fact → Bool
+is_below facts (facts_are.Holds comparison left right) =
+    is_same_comparison comparison comparisons.LessUnsigned && are_below (word_in facts left) (word_in facts right)
+is_below facts fact = false
+
 abbrev pub follows : List Fact → Option Fact → Fact → Bool
-follows facts more fact = is_known_with facts more fact || is_known_with facts more (resolved_fact facts fact)
+follows facts more fact =
+    is_unreached facts || (is_known_with facts more fact || (is_known_with facts more (resolved_fact facts fact) || is_below facts fact))
 
 abbrev pub are_known : (asked facts : List Fact) → Option Fact → Bool
 are_known [] facts more = true
@@ -106,9 +132,9 @@ is_empty [] = true
 is_empty (fact ∷ facts) = false
 
 -- The instruction, as it is simplified, leads to places that ask for no more than what is known then. A jump and a branch write
--- nothing.
+-- nothing. Where a jump stands to which no run comes, it leads nowhere.
 abbrev pub leads_well : Program → List Bool → (entry : ℕ → Option (List Fact)) → List Fact → Instruction → (index : ℕ) → Bool
-leads_well program pinned entry facts (instructions.Jump target) index = may_jump (entry target) facts None
+leads_well program pinned entry facts (instructions.Jump target) index = is_unreached facts || may_jump (entry target) facts None
 leads_well program pinned entry facts (instructions.Branch comparison left right target) index =
     may_jump (entry target) facts (made pinned (instructions.Branch comparison left right target) index target)
     && may_go_on (entry (index + 1)) (facts_behind program pinned facts (instructions.Branch comparison left right target) index (index + 1)) None
@@ -129,5 +155,5 @@ is_checked_at program pinned entry facts i index =
 abbrev pub IsChecked : Program → Routine → List Bool → (entry : ℕ → Option (List Fact)) → Type 0
 IsChecked program r pinned entry = (index : ℕ) (i : Instruction) → At r index i
     → is_checked_at program pinned entry (facts_at program pinned entry r.code index)
-    (simplified_instruction (facts_at program pinned entry r.code index) i) index
+    (put_at (facts_at program pinned entry r.code index) index (length r.code) i) index
     ≡ true

@@ -4,7 +4,7 @@ use Rattle.std.specs.Prelude.{List, OnOk, Option}
 use Rattle.cyc_simplify.specs.declared.fact.Fact.{Fact}
 use Rattle.cyc_simplify.specs.declared.fact.Touched.{Touched}
 use Rattle.cyc_simplify.specs.declared.fact.Written.{Written}
-use Rattle.cyc_simplify.specs.inside.Facts.{written, kept, made, remembered, with_copies}
+use Rattle.cyc_simplify.specs.inside.Facts.{written, kept, made, tested, remembered, with_copies}
 use Rattle.cyc_simplify.proofs.effects.go_on.Goals as goal
 
 pub returns : goal.returns
@@ -12,8 +12,12 @@ returns c =
     let a = c.args in
     let keeps =
     c.keep.ensures
-    ∙ ap (λ (w : Written). kept w c.touched.result a.facts.now.items) c.written.ensures
-    ∙ ap (λ (t : Touched). kept (written a.plain.now a.instruction) t a.facts.now.items) c.touched.ensures in
+    ∙ ap (λ (w : Written). kept w c.touched.result a.facts.now) c.written.ensures
+    ∙ ap (λ (t : Touched). kept (written a.plain.now a.instruction) t a.facts.now) c.touched.ensures in
     let copies = c.in_ok-remember_copies.ensures ∙ ap (λ (facts : List Fact). with_copies a.pinned.now a.instruction facts) keeps in
-    subst (λ (facts : List Fact). OnOk c.remember.result (c.remember.new.facts.items ≡ remembered facts (made a.pinned.now a.instruction a.index (a.index + 1)))) copies
-    (subst (λ (one : Option Fact). OnOk c.remember.result (c.remember.new.facts.items ≡ remembered c.remember_copies.new.facts.items one)) c.made.ensures c.remember.ensures)
+    let tests =
+    c.in_ok-remember.ensures
+    ∙ ap (λ (one : Option Fact). remembered c.remember_copies.new.facts one) c.tested.ensures
+    ∙ ap (λ (facts : List Fact). remembered facts (tested a.pinned.now a.instruction)) copies in
+    subst (λ (facts : List Fact). OnOk c.remember-2.result (c.remember-2.new.self ≡ remembered facts (made a.pinned.now a.instruction a.index (a.index + 1)))) tests
+    (subst (λ (one : Option Fact). OnOk c.remember-2.result (c.remember-2.new.self ≡ remembered c.remember.new.self one)) c.made.ensures c.remember-2.ensures)

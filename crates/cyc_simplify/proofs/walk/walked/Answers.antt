@@ -1,9 +1,8 @@
 -- cyc_simplify/proofs/walk/walked/Answers.antt
-use Rattle.std.proofs.Common.{◌∙◌, ap}
-use Rattle.std.specs.Prelude.{List}
+use Rattle.std.proofs.Common.{◌≡◌, ℕ, ◌∙◌, ap, arith}
+use Rattle.std.specs.Prelude.{length}
 use Rattle.cyc_plain.specs.inside.Program.{routine_of}
-use Rattle.cyc_simplify.specs.declared.fact.Fact.{Fact}
-use Rattle.cyc_simplify.specs.inside.Replacement.{simplified_instruction}
+use Rattle.cyc_simplify.specs.inside.Replacement.{put_at}
 use Rattle.cyc_simplify.proofs.Walks.{stepped}
 use Rattle.cyc_simplify.proofs.walk.walked.Goals as goal
 
@@ -12,8 +11,9 @@ loop-index-preserved c =
     let a = c.args in
     let old = c.loop-index in
     let i = c.instruction_at-given.result in
-    stepped a.plain.now (routine_of a.function.now) a.pinned.now a.entries.now old.index old.code.items old.facts.items c.is_passed.new.facts.items
-    i old.invariant c.instruction_at-given.ensures c.simplified_instruction-instruction.result c.push.new.self.items
-    (c.simplified_instruction-instruction.ensures ∙ ap (λ (facts : List Fact). simplified_instruction facts i) c.deref.ensures.value)
+    let long : c.len-in-loop-index.result ≡ length (routine_of a.function.now).code = omega (arith, c.len-in-loop-index.ensures, a.function.now.code.ok.0) in
+    stepped a.plain.now (routine_of a.function.now) a.pinned.now a.entries.now old.index old.code.items old.facts c.is_passed.new.facts
+    i old.invariant c.instruction_at-given.ensures c.put_at-instruction.result c.push.new.self.items
+    (c.put_at-instruction.ensures ∙ ap (λ (count : ℕ). put_at old.facts old.index count i) long)
     c.in_ok-push.ensures.items
     (c.in_ok-is_passed.ensures.checked c.if-not-branch.false) (c.in_ok-is_passed.ensures.facts c.if-not-branch.false)

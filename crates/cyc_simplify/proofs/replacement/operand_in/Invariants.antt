@@ -1,7 +1,7 @@
--- cyc_simplify/proofs/replacement/simplified_operand/Invariants.antt
+-- cyc_simplify/proofs/replacement/operand_in/Invariants.antt
 use Rattle.std.proofs.Common.{◌≡◌, drop}
 use Rattle.cyc_simplify.specs.inside.Replacement.{simplified_operand}
-use Rattle.cyc_simplify.proofs.replacement.simplified_operand.Given as goal
+use Rattle.cyc_simplify.proofs.replacement.operand_in.Given as goal
 
 -- no fact so far puts another in its place
 abbrev pub invariant-loop-fact : goal.invariant-loop-fact

@@ -1,0 +1,13 @@
+-- cyc_simplify/proofs/facts/Facts/remember/Answers.antt
+use Rattle.cyc_simplify.proofs.Marked.{all_marked, copies_stay, remembered_marked}
+use Rattle.cyc_simplify.proofs.facts.Facts.remember.Goals as goal
+
+pub invariant_of-self : goal.invariant_of-self
+invariant_of-self c = all_marked c.remember.new.facts.items
+
+pub invariant_of-self-in-Some : goal.invariant_of-self-in-Some
+invariant_of-self-in-Some c =
+    let old = c.self.inside in
+    let copies = c.with_copy-copies.result in
+    rw c.in_ok-remember.ensures
+    (remembered_marked copies old.facts.items c.in-Some.fact (copies_stay old.copies copies c.with_copy-copies.ensures.more old.facts.items c.self.invariant) c.with_copy-copies.ensures.has)
