@@ -1,7 +1,7 @@
 -- The places that are said to be idle are.
-use Rattle.std.proofs.Common.{◌≡◌, ◌≢◌, ℕ, zero, suc, ◌+◌, ◌≤◌, Bool, false, true, List, [], ◌∷◌, ◌++◌, length, Some, length-append, refl, sym, ap, subst, ◌∙◌, arith, inl, inr}
+use Rattle.std.proofs.Common.{◌≡◌, ◌≢◌, ℕ, zero, suc, ◌+◌, ◌<◌, ◌≤◌, Bool, false, true, List, [], ◌∷◌, ◌++◌, length, Some, length-append, refl, sym, ap, subst, ◌∙◌, arith, inl, inr}
 use Rattle.std.specs.Prelude.{◌==◌, ◌&&◌, ◌||◌, not, nat_le, nat_lt, bit_and, slice_get}
-use Rattle.std.proofs.lemmas.Bool.{and_parts, and_from, or_cases, cases_eq, leb-true, ltb-true, lt-ltb, eqb-true, false≢true, not_from_true, not-true}
+use Rattle.std.proofs.lemmas.Bool.{and_parts, and_from, or_cases, cases_eq, cases_lt, leb-true, ltb-true, lt-ltb, eqb-true, false≢true, not_from_true, not-true}
 use Rattle.cyc_plain.specs.declared.instruction.Comparison.{Comparison}
 use Rattle.cyc_plain.specs.declared.instruction.Comparison.TheVariants as comparisons
 use Rattle.cyc_plain.specs.declared.instruction.Instruction.{Instruction}
@@ -14,7 +14,7 @@ use Rattle.cyc_registers.specs.declared.home.Home.{Home}
 use Rattle.cyc_registers.specs.declared.home.Home.TheVariants as homes
 use Rattle.cyc_registers.specs.declared.liveness.TheConstants.{MOST_CHOSEN}
 use Rattle.cyc_registers.specs.inside.Interference.{is_kept, home_of, register_of}
-use Rattle.cyc_registers.specs.inside.Idle.{always_has_result, AreIdle, IsIdle, IsThere, IsUnused, NeverHolds, idle_at}
+use Rattle.cyc_registers.specs.inside.Idle.{always_has_result, AreIdle, IsIdle, LeadsOver, IsThere, IsUnused, NeverHolds, idle_at}
 use Rattle.cyc_registers.specs.inside.IdlePlaces.{is_idle, is_there, is_unused, are_unused, never_holds, shares_register}
 use Rattle.cyc_registers.specs.inside.LivenessTable.{IsSound}
 use Rattle.cyc_registers.specs.inside.Masks.{AreMasks, mask_at}
@@ -61,7 +61,7 @@ never_holds_right comparisons.NotEqual (operands.Word left) (operands.Word right
 never_holds_right comparison left right is = absurd (false≢true is)
 
 module _ (program : Program) (r : Routine) (masks live : List ℕ) (calls clauses barred : ℕ) (sound : IsSound program r masks live calls clauses barred)
-    (are : AreMasks masks MOST_CHOSEN) (hs : List Home) (index : ℕ) where
+    (are : AreMasks masks MOST_CHOSEN) (hs : List Home) (flags : List Bool) (index : ℕ) where
   unused : (slot : ℕ) → is_unused masks live hs index slot ≡ true → IsUnused program r hs index slot
   unused slot is =
       let without : Bool = bit_and (mask_at live (index + 1)) (mask_at masks slot) == 0 in
@@ -92,7 +92,7 @@ module _ (program : Program) (r : Routine) (masks live : List ℕ) (calls clause
   next_index : (target : ℕ) → (target == index + 1) ≡ true → target ≡ suc index
   next_index target is = omega (arith, eqb-true target (index + 1) is)
 
-  pub idle : (i : Instruction) → is_idle masks live hs index i ≡ true → IsIdle program r hs index i
+  pub idle : (i : Instruction) → is_idle masks live hs index i ≡ true → IsIdle program r hs flags index i
   idle (instructions.Move destination source) is = elim (or_cases (is_unused masks live hs index destination) (is_slot source destination || is_there hs destination source) is) [
     | inl never ↦ inr (inl (unused destination never))
     | inr moved ↦ elim (or_cases (is_slot source destination) (is_there hs destination source) moved) [
@@ -106,7 +106,7 @@ module _ (program : Program) (r : Routine) (masks live : List ℕ) (calls clause
   idle (instructions.Binary operator destination left right) is =
       let parts = and_parts (is_unused masks live hs index destination) (always_has_result operator) is in
       (parts.1, unused destination parts.0)
-  idle (instructions.Jump target) is = next_index target is
+  idle (instructions.Jump target) is = let next = next_index target is in (omega (arith, next), λ k low high. absurd (omega (arith, next, low, high)))
   idle (instructions.Branch comparison left right target) is = elim (or_cases (target == index + 1) (never_holds comparison left right) is) [
     | inl next ↦ inl (next_index target next)
     | inr other ↦ inr (never_holds_right comparison left right other)
@@ -125,21 +125,101 @@ flag_last : (flags : List Bool) (flag : Bool) → idle_at (flags ++ flag ∷ [])
 flag_last [] flag = refl
 flag_last (f ∷ flags) flag = flag_last flags flag
 
+-- what is idle where so many places are said to be is so where more are
+still_idle : (program : Program) (r : Routine) (hs : List Home) (flags more : List Bool) (index : ℕ) → ((k : ℕ) → idle_at flags k ≡ true → idle_at more k ≡ true)
+    → (i : Instruction) → IsIdle program r hs flags index i → IsIdle program r hs more index i
+still_idle program r hs flags more index still (instructions.Move destination source) is = is
+still_idle program r hs flags more index still (instructions.MoveWords destination source count) is = is
+still_idle program r hs flags more index still (instructions.Unary operator destination operand) is = is
+still_idle program r hs flags more index still (instructions.Binary operator destination left right) is = is
+still_idle program r hs flags more index still (instructions.Jump target) (further, are) = (further, λ k low high. still k (are k low high))
+still_idle program r hs flags more index still (instructions.Branch comparison left right target) is = is
+still_idle program r hs flags more index still i is = is
+
+idle_before : (flags : List Bool) (flag : Bool) (k : ℕ) → idle_at flags k ≡ true → idle_at (flags ++ flag ∷ []) k ≡ true
+idle_before [] flag k is = absurd (false≢true is)
+idle_before (f ∷ flags) flag zero is = is
+idle_before (f ∷ flags) flag (suc k) is = idle_before flags flag k is
+
 -- the places of the first instructions, so many of them
 abbrev pub AreFirstIdle : Program → Routine → List Home → (count : ℕ) → List Bool → Type 0
 AreFirstIdle program r hs count flags = AreIdle program r hs flags × (length flags ≡ count)
 
 pub more_idle : (program : Program) (r : Routine) (hs : List Home) (count : ℕ) (flags : List Bool) (flag : Bool) (last : Instruction)
-    → AreFirstIdle program r hs count flags → At r count last → (flag ≡ true → IsIdle program r hs count last)
+    → AreFirstIdle program r hs count flags → At r count last → (flag ≡ true → IsIdle program r hs flags count last)
     → AreFirstIdle program r hs (count + 1) (flags ++ flag ∷ [])
 more_idle program r hs count flags flag last (are, many) at idle = (each, omega (arith, many, length-append flags (flag ∷ [])))
   where
+    more : (index : ℕ) (i : Instruction) → IsIdle program r hs flags index i → IsIdle program r hs (flags ++ flag ∷ []) index i
+    more index i is = still_idle program r hs flags (flags ++ flag ∷ []) index (idle_before flags flag) i is
+
     each : AreIdle program r hs (flags ++ flag ∷ [])
     each index i at_i is = elim (cases_eq index (length flags)) [
       | inl same ↦
           let here : index ≡ count = same ∙ many in
           let its : last ≡ i = (let e : Some last ≡ Some i = sym at ∙ (ap (slice_get r.code) (sym here) ∙ at_i) in cc) in
-          subst (λ (n : ℕ). IsIdle program r hs n i) (sym here)
-          (subst (IsIdle program r hs count) its (idle (sym (ap (idle_at (flags ++ flag ∷ [])) same ∙ flag_last flags flag) ∙ is)))
-      | inr apart ↦ are index i at_i (sym (flag_before flags flag index apart) ∙ is)
+          subst (λ (n : ℕ). IsIdle program r hs (flags ++ flag ∷ []) n i) (sym here)
+          (more count i (subst (IsIdle program r hs flags count) its (idle (sym (ap (idle_at (flags ++ flag ∷ [])) same ∙ flag_last flags flag) ∙ is))))
+      | inr apart ↦ more index i (are index i at_i (sym (flag_before flags flag index apart) ∙ is))
     ]
+
+-- ---- jumps over places that are idle
+
+-- the places of the first instructions, by those that are idle alone: each of these is, and of the others each leads over such
+pub record AreFirstOver (program : Program) (r : Routine) (hs : List Home) (alone : List Bool) (count : ℕ) (flags : List Bool) : Type 0 where
+  pub each : (index : ℕ) (i : Instruction) → At r index i → idle_at flags index ≡ true → IsIdle program r hs alone index i
+  pub still : (k : ℕ) → k < count → idle_at alone k ≡ true → idle_at flags k ≡ true
+  pub as_many : length flags ≡ count
+
+pub none_over : (program : Program) (r : Routine) (hs : List Home) (alone : List Bool) → AreFirstOver program r hs alone 0 []
+none_over program r hs alone = record {
+  each = λ index i at is. absurd (false≢true is);
+  still = λ k below. absurd (omega (arith, below));
+  as_many = refl;
+}
+
+pub more_over : (program : Program) (r : Routine) (hs : List Home) (alone : List Bool) (count : ℕ) (flags : List Bool) (flag : Bool) (last : Instruction)
+    → AreFirstOver program r hs alone count flags → At r count last → (flag ≡ true → IsIdle program r hs alone count last) → (idle_at alone count ≡ true → flag ≡ true)
+    → AreFirstOver program r hs alone (count + 1) (flags ++ flag ∷ [])
+more_over program r hs alone count flags flag last are at idle alone_too = record {
+  each = each;
+  still = still;
+  as_many = omega (arith, are.as_many, length-append flags (flag ∷ []));
+}
+  where
+    its_own : idle_at (flags ++ flag ∷ []) count ≡ flag
+    its_own = ap (idle_at (flags ++ flag ∷ [])) (sym are.as_many) ∙ flag_last flags flag
+
+    each : (index : ℕ) (i : Instruction) → At r index i → idle_at (flags ++ flag ∷ []) index ≡ true → IsIdle program r hs alone index i
+    each index i at_i is = elim (cases_eq index count) [
+      | inl same ↦
+          let its : last ≡ i = (let e : Some last ≡ Some i = sym at ∙ (ap (slice_get r.code) (sym same) ∙ at_i) in cc) in
+          subst (λ (n : ℕ). IsIdle program r hs alone n i) (sym same)
+          (subst (IsIdle program r hs alone count) its (idle (sym its_own ∙ (ap (idle_at (flags ++ flag ∷ [])) (sym same) ∙ is))))
+      | inr apart ↦ are.each index i at_i (sym (flag_before flags flag index (λ same. apart (same ∙ are.as_many))) ∙ is)
+    ]
+
+    still : (k : ℕ) → k < count + 1 → idle_at alone k ≡ true → idle_at (flags ++ flag ∷ []) k ≡ true
+    still k below is = elim (cases_eq k count) [
+      | inl same ↦ ap (idle_at (flags ++ flag ∷ [])) same ∙ (its_own ∙ alone_too (ap (idle_at alone) (sym same) ∙ is))
+      | inr apart ↦ idle_before flags flag k (are.still k (omega (arith, below, apart)) is)
+    ]
+
+none_idle_behind : (flags : List Bool) (k : ℕ) → length flags ≤ k → idle_at flags k ≡ false
+none_idle_behind [] k behind = refl
+none_idle_behind (f ∷ flags) zero behind = absurd (omega (arith, behind))
+none_idle_behind (f ∷ flags) (suc k) behind = none_idle_behind flags k (omega (arith, behind))
+
+pub are_over : (program : Program) (r : Routine) (hs : List Home) (alone flags : List Bool) (count : ℕ) → length alone ≡ count → AreFirstOver program r hs alone count flags → AreIdle program r hs flags
+are_over program r hs alone flags count many are index i at is = still_idle program r hs alone flags index still i (are.each index i at is)
+  where
+    still : (k : ℕ) → idle_at alone k ≡ true → idle_at flags k ≡ true
+    still k is_k = elim (cases_lt k count) [
+      | inl below ↦ are.still k below is_k
+      | inr behind ↦ absurd (false≢true (sym (none_idle_behind alone k (omega (arith, many, behind))) ∙ is_k))
+    ]
+
+-- a place that leads over those that are idle alone is idle
+pub over_idle : (program : Program) (r : Routine) (hs : List Home) (alone : List Bool) (index : ℕ) (i : Instruction) → LeadsOver alone index i → IsIdle program r hs alone index i
+over_idle program r hs alone index (instructions.Jump target) leads = leads
+over_idle program r hs alone index i leads = absurd leads

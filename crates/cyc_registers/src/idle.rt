@@ -1,9 +1,10 @@
 //! Places where nothing is to be done.
-ghost use Rattle.std.specs.Prelude.{◌≡◌, ◌+◌, ◌<◌, length, not, IfOk};
+ghost use Rattle.std.specs.Prelude.{◌≡◌, ◌+◌, ◌<◌, ◌⊎◌, true, length, not, IfOk};
 ghost use Rattle.cyc_plain.specs.inside.Program.{routine_of};
 ghost use Rattle.cyc_plain.specs.inside.Uses.{is_slot};
 ghost use Rattle.cyc_registers.specs.inside.Interference as right;
 ghost use Rattle.cyc_registers.specs.inside.Idle.{AreIdle, always_has_result};
+ghost use Rattle.cyc_registers.specs.inside.Idle as rules;
 ghost use Rattle.cyc_registers.specs.inside.IdlePlaces as checks;
 ghost use Rattle.cyc_registers.specs.inside.LivenessTable.{IsSound};
 ghost use Rattle.cyc_registers.specs.inside.Masks.{AreMasks};
@@ -164,8 +165,71 @@ fn is_idle(
     }
 }
 
-/// Which places of a function's code are idle.
+/// Whether a place is idle; where nothing is said of it, it is not.
+fn idle_at(idle: &[bool], index: usize) -> bool
+    ensures { result ≡ rules.idle_at idle.now index }
+{
+    match idle.get(index) {
+        Some(is_idle) => *is_idle,
+        None => false,
+    }
+}
+
+/// Whether the places from one on, up to another, are idle.
+fn are_idle(idle: &[bool], first: usize, end: usize) -> bool
+    ensures { result ≡ true → rules.AreIdleFrom idle.now first end }
+{
+    for place in first..end {
+        if !idle_at(idle, place) {
+            return false;
+        }
+    }
+    true
+}
+
+/// Whether an instruction leads over idle places alone.
+fn leads_over(idle: &[bool], instruction: Instruction, index: usize) -> bool
+    ensures { result ≡ true → rules.LeadsOver idle.now index instruction }
+{
+    match instruction {
+        Instruction::Jump { target } => target > index && are_idle(idle, index + 1, target),
+        _ => false,
+    }
+}
+
+/// Whether a place is idle by those that are so but for jumps over others.
+fn is_idle_or_over(alone: &[bool], instruction: Instruction, index: usize) -> bool
+    ensures either { result ≡ true → (rules.idle_at alone.now index ≡ true) ⊎ rules.LeadsOver alone.now index instruction }
+    ensures alone { rules.idle_at alone.now index ≡ true → result ≡ true }
+{
+    idle_at(alone, index) || leads_over(alone, instruction, index)
+}
+
+/// Which places of a function's code are idle, but for jumps over others.
 #[tactic(auto, using(crate::proofs::IdleCode::none_idle))]
+fn idle_alone(
+    alloc: Global,
+    plain: &Plain,
+    function: &Function,
+    masks: &[u64],
+    lives: &Lives,
+    homes: &[Home],
+) -> Result<Vec<bool>, AllocError>
+    requires numbered { AreMasks masks.now MOST_CHOSEN }
+    requires sound { IsSound plain.now (routine_of function.now) masks.now lives.now.live.items lives.now.calls lives.now.clauses lives.now.barred }
+    requires table { length lives.now.live.items ≡ length function.now.code.items }
+    ensures idle { IfOk result (λ idle. AreIdle plain.now (routine_of function.now) homes.now idle.items) }
+    ensures as_many { IfOk result (λ idle. length idle.items ≡ length function.now.code.items) }
+{
+    let mut idle = Vec::with_capacity(alloc, function.code.len())?;
+    for index in 0..function.code.len() {
+        idle.push(is_idle(masks, &lives.live, homes, index, function.code[index]))?;
+    }
+    Ok(idle)
+}
+
+/// Which places of a function's code are idle.
+#[tactic(auto, using(crate::proofs::IdleCode::none_over))]
 pub(crate) fn idle_places(
     alloc: Global,
     plain: &Plain,
@@ -179,9 +243,10 @@ pub(crate) fn idle_places(
     requires table { length lives.now.live.items ≡ length function.now.code.items }
     ensures { IfOk result (λ idle. AreIdle plain.now (routine_of function.now) homes.now idle.items) }
 {
+    let alone = idle_alone(alloc, plain, function, masks, lives, homes)?;
     let mut idle = Vec::with_capacity(alloc, function.code.len())?;
     for index in 0..function.code.len() {
-        idle.push(is_idle(masks, &lives.live, homes, index, function.code[index]))?;
+        idle.push(is_idle_or_over(&alone, function.code[index], index))?;
     }
     Ok(idle)
 }

@@ -1,6 +1,6 @@
 -- Idle instructions: the run goes on behind them whatever is in the slots, and what they change nothing asks for later, or a
 -- register has it already. So a machine has nothing to do for them.
-use Rattle.std.specs.Prelude.{◌≡◌, ℕ, suc, ◌⊎◌, Bool, true, false, List, slice_index_or}
+use Rattle.std.specs.Prelude.{◌≡◌, ℕ, suc, ◌<◌, ◌≤◌, ◌⊎◌, Bool, true, false, List, slice_index_or}
 use Rattle.cyc_plain.specs.declared.instruction.BinaryOperator.{BinaryOperator}
 use Rattle.cyc_plain.specs.declared.instruction.BinaryOperator.TheVariants as operators
 use Rattle.cyc_plain.specs.declared.instruction.Comparison.{Comparison}
@@ -37,24 +37,34 @@ IsThere hs slot (operands.Slot number) =
     (register : ℕ) × (home_of hs slot ≡ homes.Register register) × HasRegister hs number register
 IsThere hs slot (operands.Word word) = ⊥
 
-abbrev pub IsIdle : Program → Routine → List Home → (index : ℕ) → Instruction → Type 0
-IsIdle program r hs index (instructions.Move destination source) =
-    (source ≡ operands.Slot destination) ⊎ (IsUnused program r hs index destination ⊎ IsThere hs destination source)
-IsIdle program r hs index (instructions.MoveWords destination source count) =
-    (slot : ℕ) → is_among destination count slot ≡ true → IsUnused program r hs index slot
-IsIdle program r hs index (instructions.Unary operator destination operand) = IsUnused program r hs index destination
-IsIdle program r hs index (instructions.Binary operator destination left right) =
-    (always_has_result operator ≡ true) × IsUnused program r hs index destination
-IsIdle program r hs index (instructions.Jump target) = target ≡ suc index
-IsIdle program r hs index (instructions.Branch comparison left right target) =
-    (target ≡ suc index) ⊎ NeverHolds comparison left right
-IsIdle program r hs index i = ⊥
-
 -- whether the place of this index is idle; where nothing is said of it, it is not
 abbrev pub idle_at : List Bool → (index : ℕ) → Bool
 idle_at idle index = slice_index_or idle index false
 
+-- the places from one on, up to another, are idle
+abbrev pub AreIdleFrom : (idle : List Bool) → (first end : ℕ) → Type 0
+AreIdleFrom idle first end = (k : ℕ) → first ≤ k → k < end → idle_at idle k ≡ true
+
+-- an instruction leads over idle places alone
+abbrev pub LeadsOver : (idle : List Bool) → (index : ℕ) → Instruction → Type 0
+LeadsOver idle index (instructions.Jump target) = (suc index ≤ target) × AreIdleFrom idle (suc index) target
+LeadsOver idle index i = ⊥
+
+-- A jump is idle that leads over idle places alone, or to the next one.
+abbrev pub IsIdle : Program → Routine → List Home → (idle : List Bool) → (index : ℕ) → Instruction → Type 0
+IsIdle program r hs idle index (instructions.Move destination source) =
+    (source ≡ operands.Slot destination) ⊎ (IsUnused program r hs index destination ⊎ IsThere hs destination source)
+IsIdle program r hs idle index (instructions.MoveWords destination source count) =
+    (slot : ℕ) → is_among destination count slot ≡ true → IsUnused program r hs index slot
+IsIdle program r hs idle index (instructions.Unary operator destination operand) = IsUnused program r hs index destination
+IsIdle program r hs idle index (instructions.Binary operator destination left right) =
+    (always_has_result operator ≡ true) × IsUnused program r hs index destination
+IsIdle program r hs idle index (instructions.Jump target) = LeadsOver idle index (instructions.Jump target)
+IsIdle program r hs idle index (instructions.Branch comparison left right target) =
+    (target ≡ suc index) ⊎ NeverHolds comparison left right
+IsIdle program r hs idle index i = ⊥
+
 -- The places that are said to be idle are. Others may be too.
 abbrev pub AreIdle : Program → Routine → List Home → (idle : List Bool) → Type 0
 AreIdle program r hs idle =
-    (index : ℕ) (i : Instruction) → At r index i → idle_at idle index ≡ true → IsIdle program r hs index i
+    (index : ℕ) (i : Instruction) → At r index i → idle_at idle index ≡ true → IsIdle program r hs idle index i

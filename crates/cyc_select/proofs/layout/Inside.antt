@@ -117,9 +117,9 @@ module _ (program : Program) (well : IsWellFormed program) (frames : List Frame)
       go (plain.Binary operator destination left right) there is = stays (plain.Binary operator destination left right) there refl
       go (plain.Branch comparison left right target) there is = stays (plain.Branch comparison left right target) there refl
       go (plain.Jump target) there is =
-          let next : target ≡ suc index = fit.idle function known index (plain.Jump target) there is in
+          let (further, over) = fit.idle function known index (plain.Jump target) there is in
           let below : target < length (routine_at program function).code = range_at program well (record { function = function; index = index }) (plain.Jump target) there in
-          omega (arith, next, below)
+          omega (arith, further, below)
       go j there is = absurd (let e : false ≡ true = is in cc)
 
   -- the line of each place is there: it is the place's own, or that of one behind it

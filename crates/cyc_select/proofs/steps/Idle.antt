@@ -1,8 +1,10 @@
 -- An idle instruction: the run below stays where it is, which matches the state behind it.
-use Rattle.std.proofs.Common.{◌≡◌, ◌≢◌, ℕ, suc, ◌+◌, ◌-◌, ◌*◌, ◌≤◌, Bool, true, false, List, Some, refl, sym, ap, subst, ◌∙◌, arith, inl, inr}
+use Rattle.std.proofs.Common.{◌≡◌, ◌≢◌, ℕ, zero, suc, ◌+◌, ◌-◌, ◌*◌, ◌<◌, ◌≤◌, Bool, true, false, List, length, Some, refl, sym, ap, subst, ◌∙◌, arith, inl, inr}
 use Rattle.std.specs.Prelude.{◌⊎◌, ◌==◌, if◌then◌else◌}
 use Rattle.std.proofs.lemmas.Bool.{cases_Bool, cases_eq, cond-false, eq-eqb, false≢true, or_left}
 use Rattle.cyc_words.proofs.Items.{below_from_slice_get}
+use Rattle.cyc_words.proofs.Lists.{slice_get_below}
+use Rattle.cyc_words.proofs.Members.{All_at}
 use Rattle.cyc_words.proofs.Numbers.{eqb_other, eqb_itself, eqb_next}
 use Rattle.cyc_plain.specs.inside.Uses.{is_among, writes, leads}
 use Rattle.cyc_machine.specs.State.{globals_length, words_per_call}
@@ -18,14 +20,15 @@ use Rattle.cyc_plain.specs.inside.Program.{Program, routine_at}
 use Rattle.cyc_plain.specs.inside.State as states
 use Rattle.cyc_plain.specs.inside.State.{Words, put, copied, Configuration}
 use Rattle.cyc_plain.specs.inside.Step.{at, with_slots, gives, instruction_at, operand_word, performed, is_within}
-use Rattle.cyc_plain.specs.inside.WellFormed.{IsWellFormed}
+use Rattle.cyc_plain.specs.inside.WellFormed.{IsInRange, IsWellFormed}
+use Rattle.cyc_plain.proofs.Placed.{routine_in}
 use Rattle.cyc_plain.proofs.RunLaws.{zeros, calls_nothing, zeros_at, limit_free}
 use Rattle.cyc_plain.proofs.SlotLaws.{put-same, put-other}
 use Rattle.cyc_frame.specs.inside.Frame.{Frame}
 use Rattle.cyc_registers.specs.declared.home.Home.TheVariants as homes
 use Rattle.cyc_registers.specs.inside.Interference as homing
 use Rattle.cyc_registers.specs.inside.Interference.{AreHomes}
-use Rattle.cyc_registers.specs.inside.Idle.{IsIdle, IsThere, IsUnused, NeverHolds, always_has_result, idle_at}
+use Rattle.cyc_registers.specs.inside.Idle.{AreIdleFrom, IsIdle, IsThere, IsUnused, NeverHolds, always_has_result, idle_at}
 use Rattle.cyc_frame.specs.inside.Layout.{AreFrames, frame_at}
 use Rattle.cyc_select.specs.inside.Labelled.{Labelled, IsFormed}
 use Rattle.cyc_select.specs.inside.Machine.{State}
@@ -50,20 +53,25 @@ module _ (program : Program) (well : IsWellFormed program) (frames : List Frame)
   right : AreHomes program (routine_at program c.active.function) (frame_at frames c.active.function).saved (frame_at frames c.active.function).homes
   right = fit.homes c.active.function ready.standing.known
 
-  -- the same call at the next instruction, with such slots
-  abbrev behind_it : Words → Configuration
-  behind_it slots' = at (with_slots c slots') (c.active.next + 1)
-
-  passes_with : (i : Instruction) → IsAt i → calls_nothing i ≡ true → is_idle (frame_at frames c.active.function) c.active.next i ≡ true → behind_count program frames c.active.function i ≡ 0
-      → (slots' : Words) → performed program zeros c i ≡ states.Running (behind_it slots')
-      → Standing program frames addresses pages calls c ready.r ready.w ready.base ready.back (stage_of frames c) slots'
-      → Caches program frames c.active.function (c.active.next + 1) ready.r slots'
-      → Passes
-  passes_with i at_i free idle none slots' does standing caches =
-      let d : Configuration = behind_it slots' in
+  -- an idle place has no line of its own
+  no_line : (index : ℕ) (i : Instruction) → instruction_at program (record { function = c.active.function; index = index }) ≡ Some i → is_idle (frame_at frames c.active.function) index i ≡ true
+      → behind_count program frames c.active.function i ≡ 0 → instruction_line program frames c.active.function index ≡ instruction_line program frames c.active.function (index + 1)
+  no_line index i at_i idle none =
       let counted = ap (λ (b : Bool). (if b then 0 else body_count program frames c.active.function i) + behind_count program frames c.active.function i) idle in
-      let line : instruction_line program frames c.active.function c.active.next ≡ instruction_line program frames c.active.function (c.active.next + 1) =
-      omega (arith, line_next program frames c.active.function c.active.next i at_i, counted, none) in
+      omega (arith, line_next program frames c.active.function index i at_i, counted, none)
+
+  -- the same call at an instruction further on, with such slots
+  abbrev behind_it : (to : ℕ) → Words → Configuration
+  behind_it to slots' = at (with_slots c slots') to
+
+  passes_to : (to : ℕ) → c.active.next < to → (i : Instruction) → IsAt i → calls_nothing i ≡ true
+      → instruction_line program frames c.active.function c.active.next ≡ instruction_line program frames c.active.function to
+      → (slots' : Words) → performed program zeros c i ≡ states.Running (behind_it to slots')
+      → Standing program frames addresses pages calls c ready.r ready.w ready.base ready.back (stage_of frames c) slots'
+      → Caches program frames c.active.function to ready.r slots'
+      → Passes
+  passes_to to further i at_i free line slots' does standing caches =
+      let d : Configuration = behind_it to slots' in
       let there = standing_at program well frames fit addresses pages calls few c ready.r ready.w ready.base ready.back (stage_of frames c) slots' standing d refl refl refl refl refl refl ready.standing.input in (
         states.Running d,
         steps_to program well frames fit code formed addresses pages calls few c zeros i (states.Running d) (zeros_at program c i at_i free) at_i does
@@ -75,12 +83,19 @@ module _ (program : Program) (well : IsWellFormed program) (frames : List Frame)
           base = ready.base;
           back = ready.back;
           is = ready.is;
-          now = now_at code formed addresses globals_length (words_per_call * calls) (instruction_line program frames c.active.function c.active.next) (instruction_line program frames c.active.function (c.active.next + 1)) c.output c.input ready.r ready.w ready.run line ready.now;
+          now = now_at code formed addresses globals_length (words_per_call * calls) (instruction_line program frames c.active.function c.active.next) (instruction_line program frames c.active.function to) c.output c.input ready.r ready.w ready.run line ready.now;
           standing = there;
           caches = caches;
         }),
-        omega (arith, below_from_slice_get (routine_at program c.active.function).code c.active.next i at_i),
+        omega (arith, further, below_from_slice_get (routine_at program c.active.function).code c.active.next i at_i),
       )
+
+  passes_with : (i : Instruction) → IsAt i → calls_nothing i ≡ true → is_idle (frame_at frames c.active.function) c.active.next i ≡ true → behind_count program frames c.active.function i ≡ 0
+      → (slots' : Words) → performed program zeros c i ≡ states.Running (behind_it (c.active.next + 1) slots')
+      → Standing program frames addresses pages calls c ready.r ready.w ready.base ready.back (stage_of frames c) slots'
+      → Caches program frames c.active.function (c.active.next + 1) ready.r slots'
+      → Passes
+  passes_with i at_i free idle none = passes_to (c.active.next + 1) (omega arith) i at_i free (no_line c.active.next i at_i idle none)
 
   -- a slot that nothing asks for gets a word
   passes_unused : (i : Instruction) → IsAt i → calls_nothing i ≡ true → is_idle (frame_at frames c.active.function) c.active.next i ≡ true → behind_count program frames c.active.function i ≡ 0
@@ -149,7 +164,7 @@ module _ (program : Program) (well : IsWellFormed program) (frames : List Frame)
   passes_itself : (destination : ℕ) → IsAt (plain.Move destination (operands.Slot destination)) → is_idle (frame_at frames c.active.function) c.active.next (plain.Move destination (operands.Slot destination)) ≡ true → Passes
   passes_itself destination at_i idle =
       passes_with (plain.Move destination (operands.Slot destination)) at_i refl idle refl c.active.slots
-      (ap (λ (x : Words). states.Running (behind_it x)) (own_words destination)) ready.standing
+      (ap (λ (x : Words). states.Running (behind_it (c.active.next + 1) x)) (own_words destination)) ready.standing
       (λ slot k has wanted. elim (cases_eq slot destination) [
         | inl same ↦ ready.caches slot k has (0, (plain.Move destination (operands.Slot destination), at_i, eq-eqb destination slot (sym same)))
         | inr other ↦
@@ -184,6 +199,52 @@ module _ (program : Program) (well : IsWellFormed program) (frames : List Frame)
   never_holds comparison (operands.Slot left) other never = absurd never
   never_holds comparison (operands.Word left) (operands.Slot other) never = absurd never
 
+  -- the kinds of instructions that idle places have
+  idle_kind : (index : ℕ) (i : Instruction) → instruction_at program (record { function = c.active.function; index = index }) ≡ Some i → idle_at (frame_at frames c.active.function).idle index ≡ true
+      → (is_idle (frame_at frames c.active.function) index i ≡ true) × (behind_count program frames c.active.function i ≡ 0)
+  idle_kind index i at_i is = go i (fit.idle c.active.function ready.standing.known index i at_i is)
+    where
+      go : (j : Instruction) → IsIdle program (routine_at program c.active.function) (frame_at frames c.active.function).homes (frame_at frames c.active.function).idle index j
+          → (is_idle (frame_at frames c.active.function) index j ≡ true) × (behind_count program frames c.active.function j ≡ 0)
+      go (plain.Move destination source) idle = (is, refl)
+      go (plain.MoveWords destination source count) idle = (is, refl)
+      go (plain.Unary operator destination operand) idle = (is, refl)
+      go (plain.Binary operator destination left right_operand) idle = (is, refl)
+      go (plain.Jump target) idle = (is, refl)
+      go (plain.Branch comparison left right_operand target) idle = (is, refl)
+      go j idle = absurd idle
+
+  -- idle places have no lines
+  no_lines : (first count : ℕ) → first + count ≤ length (routine_at program c.active.function).code → AreIdleFrom (frame_at frames c.active.function).idle first (first + count)
+      → instruction_line program frames c.active.function first ≡ instruction_line program frames c.active.function (first + count)
+  no_lines first zero inside idle = let e : first ≡ first + 0 = omega arith in ap (instruction_line program frames c.active.function) e
+  no_lines first (suc count) inside idle =
+      let (i, at_i) = slice_get_below (routine_at program c.active.function).code (first + count) (omega (arith, inside)) in
+      let (flagged, none) = idle_kind (first + count) i at_i (idle (first + count) (omega arith) (omega arith)) in
+      let next : first + count + 1 ≡ first + suc count = omega arith in
+      no_lines first count (omega (arith, inside)) (λ k low high. idle k low (omega (arith, high)))
+      ∙ (no_line (first + count) i at_i flagged none ∙ ap (instruction_line program frames c.active.function) next)
+
+  jumps_over : (target : ℕ) → IsAt (plain.Jump target) → suc c.active.next ≤ target → AreIdleFrom (frame_at frames c.active.function).idle (suc c.active.next) target
+      → is_idle (frame_at frames c.active.function) c.active.next (plain.Jump target) ≡ true → Passes
+  jumps_over target there further over is =
+      let inside : target < length (routine_at program c.active.function).code = target_inside in
+      let count : ℕ = target - suc c.active.next in
+      let first : c.active.next + 1 ≡ suc c.active.next = omega arith in
+      let last : suc c.active.next + (target - suc c.active.next) ≡ target = omega (arith, further) in
+      let line =
+      no_line c.active.next (plain.Jump target) there is refl
+      ∙ (ap (instruction_line program frames c.active.function) first
+      ∙ (no_lines (suc c.active.next) count (omega (arith, inside, last)) (subst (AreIdleFrom (frame_at frames c.active.function).idle (suc c.active.next)) (sym last) over)
+      ∙ ap (instruction_line program frames c.active.function) last)) in
+      passes_to target further (plain.Jump target) there refl line c.active.slots refl ready.standing
+      (caches_past program frames c.active.function right c.active.next target ready.r ready.r c.active.slots c.active.slots (plain.Jump target) there (eqb_itself target)
+      (λ slot k has. refl) (λ slot k has. refl) (λ n low high. refl) ready.caches)
+    where
+      target_inside : target < length (routine_at program c.active.function).code
+      target_inside = All_at (IsInRange program (routine_at program c.active.function)) (routine_at program c.active.function).code c.active.next (plain.Jump target)
+          (routine_in program c.active.function well ready.standing.known).instructions there
+
   either_next : (b : Bool) (target : ℕ) → target ≡ suc c.active.next → (if b then target else c.active.next + 1) ≡ c.active.next + 1
   either_next true target is = omega (arith, is)
   either_next false target is = refl
@@ -191,7 +252,7 @@ module _ (program : Program) (well : IsWellFormed program) (frames : List Frame)
   pub passes : (i : Instruction) → IsAt i → is_idle (frame_at frames c.active.function) c.active.next i ≡ true → Passes
   passes i at_i idle = go i at_i idle
     where
-      idle_is : (j : Instruction) → IsAt j → idle_at (frame_at frames c.active.function).idle c.active.next ≡ true → IsIdle program (routine_at program c.active.function) (frame_at frames c.active.function).homes c.active.next j
+      idle_is : (j : Instruction) → IsAt j → idle_at (frame_at frames c.active.function).idle c.active.next ≡ true → IsIdle program (routine_at program c.active.function) (frame_at frames c.active.function).homes (frame_at frames c.active.function).idle c.active.next j
       idle_is j there is = fit.idle c.active.function ready.standing.known c.active.next j there is
 
       moves : (destination : ℕ) (source : Operand) → IsAt (plain.Move destination source) → is_idle (frame_at frames c.active.function) c.active.next (plain.Move destination source) ≡ true
@@ -226,8 +287,7 @@ module _ (program : Program) (well : IsWellFormed program) (frames : List Frame)
           (ap (λ (b : Bool). if b then states.Stuck c.output c.input else gives c destination (binary_result operator (operand_word c.active.slots left) (operand_word c.active.slots other)))
           (has_result operator (operand_word c.active.slots other) always))
       go (plain.Jump target) there is =
-          let next : target ≡ suc c.active.next = idle_is (plain.Jump target) there is in
-          let here : target ≡ c.active.next + 1 = omega (arith, next) in
-          passes_same (plain.Jump target) there refl is refl (λ slot. refl) (eq-eqb target (c.active.next + 1) here) (ap (λ (n : ℕ). states.Running (at c n)) here)
+          let (further, over) = idle_is (plain.Jump target) there is in
+          jumps_over target there further over is
       go (plain.Branch comparison left other target) there is = branches comparison left other target there is (idle_is (plain.Branch comparison left other target) there is)
       go j there is = absurd (false≢true is)
