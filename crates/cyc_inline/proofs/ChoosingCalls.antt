@@ -1,11 +1,12 @@
--- Which calls may be opened, and that the numbers of their code fit.
+-- Which calls may be opened and which slots are for twins, and that the numbers of the code fit.
 use Rattle.std.proofs.Common.{◌≡◌, ℕ, zero, suc, ◌+◌, ◌^◌, ◌<◌, ◌≤◌, Bool, true, false, List, [], ◌∷◌, ◌++◌, length, Option, Some, None, refl, sym, ap, subst, ◌∙◌, arith, inl, inr}
-use Rattle.std.specs.Prelude.{◌⊎◌, ◌==◌, if◌then◌else◌, sum_by}
-use Rattle.std.proofs.lemmas.Bool.{false≢true}
+use Rattle.std.specs.Prelude.{◌⊎◌, ◌==◌, nat_lt, nat_le, if◌then◌else◌, sum_by}
+use Rattle.std.proofs.lemmas.Bool.{false≢true, leb-true}
 use Rattle.std.proofs.lemmas.List.{length-append}
 use Rattle.std.proofs.lemmas.List.Elements.{recursion_from_All}
 use Rattle.std.proofs.lemmas.List.Sums.{sum_by-cons, get_or-le-sum_by}
 use Rattle.cyc_words.proofs.Members.{All_at}
+use Rattle.cyc_words.proofs.Numbers.{nat_lt-true}
 use Rattle.cyc_plain.specs.declared.instruction.BinaryOperator.{BinaryOperator}
 use Rattle.cyc_plain.specs.declared.instruction.BinaryOperator.TheVariants as binary
 use Rattle.cyc_plain.specs.declared.instruction.Instruction.{Instruction}
@@ -22,9 +23,9 @@ use Rattle.cyc_plain.proofs.Placed.{routine_in}
 use Rattle.cyc_inline.specs.declared.choice.Choice.{Choice}
 use Rattle.cyc_inline.specs.declared.choice.Need.{Need}
 use Rattle.cyc_inline.specs.declared.site.Call.{Call}
-use Rattle.cyc_inline.specs.inside.Opened.{is_end}
+use Rattle.cyc_inline.specs.inside.Opened.{may_have_twin, is_end}
 use Rattle.cyc_inline.specs.inside.Sites.{chosen_call, place_in, site_size}
-use Rattle.cyc_inline.specs.inside.Emission.{IsFitOperand, IsFit, IsFitEnd, IsFitInside, IsFitSite, IsLeaf, AreLeafs, IsSmallCall, IsOpenable, IsNeed, IsChosenBy, AreChosen, call_size}
+use Rattle.cyc_inline.specs.inside.Emission.{IsFitOperand, IsFit, IsFitEnd, IsFitInside, IsFitSite, IsLeaf, AreLeafs, IsSmallCall, IsOpenable, IsNeed, IsChosenBy, AreChosen, call_size, twin_by, IsTwinSlot}
 
 -- ---- a call that is chosen
 
@@ -84,6 +85,32 @@ pub few_instructions : (program : Program) (number : ℕ) → IsPlain program �
 few_instructions program number plain is_function =
     let small = plain.small in
     omega (arith, code_few (routine_at program number).code, get_or-le-sum_by size program.functions number no_routine is_function, small)
+
+-- ---- twins
+
+pub twin_slots : (program : Program) (number : ℕ) (choice : Choice) (index : ℕ) (i : Instruction) (slot : ℕ) → twin_by program number choice index i ≡ Some slot
+    → IsTwinSlot (routine_at program number) choice.slots i slot
+twin_slots program number choice index i slot is =
+    go (may_have_twin i) (nat_le r.slots wanted) (nat_lt wanted choice.slots) refl refl refl is
+  where
+    r : Routine
+    r = routine_at program number
+
+    wanted : ℕ
+    wanted = place_in choice.twins.items index
+
+    go : (may least below : Bool) → may_have_twin i ≡ may → nat_le r.slots wanted ≡ least → nat_lt wanted choice.slots ≡ below
+        → (if may then (if least then (if below then Some wanted else None) else None) else None) ≡ Some slot → IsTwinSlot r choice.slots i slot
+    go true true true may least below is =
+        let same : wanted ≡ slot = cc in
+        record {
+          further = subst (λ (n : ℕ). r.slots ≤ n) same (leb-true r.slots wanted least);
+          room = subst (λ (n : ℕ). n < choice.slots) same (nat_lt-true wanted choice.slots below);
+          may = may;
+        }
+    go true true false may least below is = absurd (let e : None ≡ Some slot = is in cc)
+    go true false below may least is_below is = absurd (let e : None ≡ Some slot = is in cc)
+    go false least below may is_least is_below is = absurd (let e : None ≡ Some slot = is in cc)
 
 -- ---- numbers that fit
 

@@ -24,7 +24,7 @@ use Rattle.cyc_inline.proofs.Performing.{is_ordinary}
 use Rattle.cyc_inline.proofs.Lodged.{IsLodged, IsGoing, Going, Falls, performs_inside}
 use Rattle.cyc_inline.proofs.Matched.{step_is, made_first, finds, owns, Matches, matching, kept, words_kept}
 
-ordinary_calls : (i : Instruction) → is_ordinary i ≡ true → calls_nothing i ≡ true
+pub ordinary_calls : (i : Instruction) → is_ordinary i ≡ true → calls_nothing i ≡ true
 ordinary_calls (instructions.Call function arguments count result) ordinary = ordinary
 ordinary_calls (instructions.Ask request) ordinary = ordinary
 ordinary_calls (instructions.Enter function) ordinary = ordinary
@@ -38,7 +38,7 @@ ordinary_moved program d shift place choice other (instructions.Ask request) ord
 ordinary_moved program d shift place choice other (instructions.Try first handler) ordinary = absurd (let e : false ≡ true = ordinary in cc)
 ordinary_moved program d shift place choice other i ordinary = refl
 
-ordinary_limit : (shift : ℕ) (place : ℕ → ℕ) (calls : ℕ) (i : Instruction) → is_ordinary i ≡ true → limit_of (Some (moved shift place i)) calls ≡ calls
+pub ordinary_limit : (shift : ℕ) (place : ℕ → ℕ) (calls : ℕ) (i : Instruction) → is_ordinary i ≡ true → limit_of (Some (moved shift place i)) calls ≡ calls
 ordinary_limit shift place calls (instructions.Enter function) ordinary = absurd (let e : false ≡ true = ordinary in cc)
 ordinary_limit shift place calls i ordinary = refl
 

@@ -16,6 +16,7 @@ pub mod Steps
 pub mod Passing
 pub mod Entering
 pub mod Inside
+pub mod Twins
 pub mod Returning
 -- each run of an inlined program is one of the program given
 pub mod Runs

@@ -56,7 +56,10 @@ module _ (program inlined : Program) (origins : List (List Origin)) (are : AreOp
       by : (p : ℕ) (i : Instruction) → At (routine_at program function).code p i → pins i slot ≡ true → is_pinned (routine_at inlined function).code slot ≡ true
       by p (instructions.AddressOf destination first count) at names =
           let o = each_opened program inlined origins are function in
-          pinned_by (routine_at inlined function).code (o.place p) (instructions.AddressOf destination first count) slot (o.stands p (instructions.AddressOf destination first count) at).0 names
+          elim (o.stands p (instructions.AddressOf destination first count) at) [
+            | inl itself ↦ pinned_by (routine_at inlined function).code (o.place p) (instructions.AddressOf destination first count) slot itself.0 names
+            | inr twinned ↦ absurd (let e : false ≡ true = twinned.may in cc)
+          ]
       by p i at names = absurd (let e : false ≡ true = names in cc)
 
       below : is_pinned (routine_at program function).code slot ≡ true → is_pinned (routine_at inlined function).code slot ≡ true

@@ -26,7 +26,7 @@ use Rattle.cyc_inline.proofs.Memory.{put_next, memory_outside, written_outside}
 use Rattle.cyc_inline.proofs.Performing.{gone, IsNext, Bears, performs}
 
 module _ (program inlined : Program) (origins : List (List Origin)) (are : AreOpened program inlined origins) (well : IsWellFormed program)
-    (c : Configuration) (b : Activation) (gs : List Frame) (same : AreCalls program inlined origins are c.active b) (waiting : AreWaiting program inlined origins are c.active.function c.frames gs) where
+    (c : Configuration) (b : Activation) (gs : List Frame) (slotted : AreSlotted program inlined origins are c.active b) (waiting : AreWaiting program inlined origins are c.active.function c.frames gs) where
   abbrev d : Configuration
   d = beside program inlined origins are c b gs
 
@@ -38,9 +38,6 @@ module _ (program inlined : Program) (origins : List (List Origin)) (are : AreOp
 
   abbrev Match : State → State → Type 0
   Match = Outside program inlined origins are
-
-  slotted : AreSlotted program inlined origins are c.active b
-  slotted = same.slotted
 
   -- both stand behind the instruction
   abbrev Falls : Type 0
@@ -58,7 +55,7 @@ module _ (program inlined : Program) (origins : List (List Origin)) (are : AreOp
   there to other (inl at) = at
   there to other (inr (behind, next, falls)) = next ∙ falls ∙ ap place (sym behind)
 
-  bears : Bears program inlined r 0 place c b gs Falls Match
+  pub bears : Bears program inlined r 0 place c b gs Falls Match
   bears = record {
     stuck = λ output input. refl;
     goes = λ slots others to other globals output input agree kept next.
@@ -75,7 +72,7 @@ module _ (program inlined : Program) (origins : List (List Origin)) (are : AreOp
 
   -- ---- operands
 
-  operand_same : (operand : Operand) → IsOperand r operand → operand_word b.slots operand ≡ operand_word c.active.slots operand
+  pub operand_same : (operand : Operand) → IsOperand r operand → operand_word b.slots operand ≡ operand_word c.active.slots operand
   operand_same (operands.Slot number) inside = slotted.slots number inside
   operand_same (operands.Word word) inside = refl
 
@@ -186,8 +183,8 @@ module _ (program inlined : Program) (origins : List (List Origin)) (are : AreOp
 
   -- ---- handlers
 
-  opened : (choice : Choice) (first : ℕ) → first + RECORD_WORDS ≤ r.slots → Falls → Match (opens choice c first) (opens choice d first)
-  opened choice first room falls = record {
+  opened : (choice : Choice) (first : ℕ) → first + RECORD_WORDS ≤ r.slots → b.next ≡ place c.active.next → Falls → Match (opens choice c first) (opens choice d first)
+  opened choice first room here falls = record {
     active = record b { next = b.next + 1; slots = copied choice.contents 0 RECORD_WORDS b.slots first; handlers = Open b.next first choice.contents ∷ b.handlers };
     frames = gs;
     is = refl;
@@ -195,7 +192,7 @@ module _ (program inlined : Program) (origins : List (List Origin)) (are : AreOp
       slotted = record {
         function = slotted.function;
         base = slotted.base;
-        handlers = λ i. Open (same.next i) first choice.contents ∷ slotted.handlers i;
+        handlers = λ i. Open (here i) first choice.contents ∷ slotted.handlers i;
         records = (room, slotted.records);
         slots = λ k below.
             copied_at choice.contents choice.contents c.active.slots b.slots 0 0 RECORD_WORDS first first k k 0 (omega arith) (omega arith) (λ j less. refl) (slotted.slots k below);
@@ -219,11 +216,11 @@ module _ (program inlined : Program) (origins : List (List Origin)) (are : AreOp
     waiting = waiting;
   }
 
-  tried : (choice : Choice) (first handler : ℕ) (handlers : List Handler) → AllByRecursion (HasRecord program inlined origins are c.active.function) handlers → first + RECORD_WORDS ≤ r.slots → Falls
+  tried : (choice : Choice) (first handler : ℕ) (handlers : List Handler) → AllByRecursion (HasRecord program inlined origins are c.active.function) handlers → first + RECORD_WORDS ≤ r.slots → b.next ≡ place c.active.next → Falls
       → Match (tries choice c first handler handlers) (tries choice d first (place handler) (map (moved_handler place) handlers))
-  tried choice first handler [] records room falls = opened choice first room falls
-  tried choice first handler (Open index other contents ∷ handlers) records room falls = opened choice first room falls
-  tried choice first handler (Caught ∷ handlers) (none, records) room falls = left handler (place handler) handlers records refl
+  tried choice first handler [] records room here falls = opened choice first room here falls
+  tried choice first handler (Open index other contents ∷ handlers) records room here falls = opened choice first room here falls
+  tried choice first handler (Caught ∷ handlers) (none, records) room here falls = left handler (place handler) handlers records refl
 
   closed : (first : ℕ) (handlers : List Handler) → AllByRecursion (HasRecord program inlined origins are c.active.function) handlers → first + RECORD_WORDS ≤ r.slots → Falls
       → Match (closes c first handlers) (closes d first (map (moved_handler place) handlers))
@@ -253,12 +250,12 @@ module _ (program inlined : Program) (origins : List (List Origin)) (are : AreOp
 
   -- ---- an instruction
 
-  pub performs_outside : (choice : Choice) (i : Instruction) → IsInRange program (routine_at program c.active.function) i
+  pub performs_outside : (choice : Choice) (i : Instruction) → IsInRange program (routine_at program c.active.function) i → b.next ≡ place_in program inlined origins are c.active.function c.active.next
       → (leaves i ≡ false → b.next + 1 ≡ place_in program inlined origins are c.active.function (c.active.next + 1))
       → Outside program inlined origins are (performed program choice c i) (performed inlined choice (beside program inlined origins are c b gs) (moved 0 (place_in program inlined origins are c.active.function) i))
-  performs_outside choice (instructions.Call function arguments count result) range falls = calls_same choice function arguments count result range.arguments_in_range (falls refl)
-  performs_outside choice (instructions.Return value) inside falls = returns_same value inside
-  performs_outside choice (instructions.AddressOf destination slot count) range falls =
+  performs_outside choice (instructions.Call function arguments count result) range here falls = calls_same choice function arguments count result range.arguments_in_range (falls refl)
+  performs_outside choice (instructions.Return value) inside here falls = returns_same value inside
+  performs_outside choice (instructions.AddressOf destination slot count) range here falls =
       subst (λ (base : ℕ). Match (Running (gone program inlined r 0 place c b gs Falls c (put c.active.slots destination (add_of c.active.base (4 * slot))) (c.active.next + 1) c.globals c.output c.input))
       (Running (gone program inlined r 0 place c b gs Falls d (put b.slots destination (add_of base (4 * slot))) (b.next + 1) c.globals c.output c.input))) (sym slotted.base)
       (record {
@@ -269,25 +266,25 @@ module _ (program inlined : Program) (origins : List (List Origin)) (are : AreOp
             (put_agree r.slots destination (add_of c.active.base (4 * slot)) c.active.slots b.slots slotted.slots) (falls refl);
         waiting = waiting;
       })
-  performs_outside choice (instructions.Ask request) range falls = asks_same choice request range (falls refl)
-  performs_outside choice (instructions.Try first handler) range falls =
-      by_handlers (tries choice c first handler c.active.handlers) (tries choice d first (place handler)) (tried choice first handler c.active.handlers slotted.records range.record_in_range (falls refl))
-  performs_outside choice (instructions.Leave first) room falls =
+  performs_outside choice (instructions.Ask request) range here falls = asks_same choice request range (falls refl)
+  performs_outside choice (instructions.Try first handler) range here falls =
+      by_handlers (tries choice c first handler c.active.handlers) (tries choice d first (place handler)) (tried choice first handler c.active.handlers slotted.records range.record_in_range here (falls refl))
+  performs_outside choice (instructions.Leave first) room here falls =
       by_handlers (closes c first c.active.handlers) (closes d first) (closed first c.active.handlers slotted.records room (falls refl))
-  performs_outside choice (instructions.Throw tag value) (first, second) falls =
+  performs_outside choice (instructions.Throw tag value) (first, second) here falls =
       subst (λ (x : ℕ). Match (performed program choice c (instructions.Throw tag value)) (performed inlined choice d (instructions.Throw (operands.Word x) (shifted_operand 0 value)))) (sym (thrown_same tag first))
       (subst (λ (x : ℕ). Match (performed program choice c (instructions.Throw tag value)) (performed inlined choice d (instructions.Throw (operands.Word (operand_word c.active.slots tag)) (operands.Word x)))) (sym (thrown_same value second))
       (thrown program inlined origins are c b gs (operand_word c.active.slots tag) (operand_word c.active.slots value) c.active b c.frames gs slotted waiting))
-  performs_outside choice (instructions.Finish value) inside falls =
+  performs_outside choice (instructions.Finish value) inside here falls =
       by_handlers (finishes c value r.results c.active.handlers) (finishes d value (routine_at inlined b.function).results) (finished value c.active.handlers inside)
-  performs_outside choice (instructions.Uncaught tag value) first falls =
+  performs_outside choice (instructions.Uncaught tag value) first here falls =
       ap (λ (word : ℕ). Ended (Uncaught tag (signed word)) c.output c.input) (operand_same value first)
-  performs_outside choice (instructions.Enter function) known falls = record {
+  performs_outside choice (instructions.Enter function) known here falls = record {
     active = record b { next = b.next + 1 };
     frames = gs;
     is = refl;
     calls = on c.active.slots b.slots (c.active.next + 1) (b.next + 1) slotted.slots (falls refl);
     waiting = waiting;
   }
-  performs_outside choice i range falls =
+  performs_outside choice i range here falls =
       performs program inlined r 0 place c b gs Falls choice choice (agree_from r.slots c.active.slots b.slots slotted.slots) Match bears i refl range falls

@@ -69,4 +69,4 @@ copied_is_made program number origins plain is_function are = record {
     stands index (instructions.Call callee arguments count result) at =
         inl (at, made_of_own number origins (length (routine_at program number).code) index are (below_from_slice_get (routine_at program number).code index _ at), refl)
     stands index i at =
-        (at ∙ ap Some (sym (stays i)), made_of_own number origins (length (routine_at program number).code) index are (below_from_slice_get (routine_at program number).code index i at), λ further. refl)
+        inl (at ∙ ap Some (sym (stays i)), made_of_own number origins (length (routine_at program number).code) index are (below_from_slice_get (routine_at program number).code index i at), λ further. refl)

@@ -10,7 +10,7 @@ use Rattle.cyc_plain.specs.inside.Memory.{pins}
 use Rattle.cyc_plain.specs.inside.Requests.{first_operand, second_operand, answer_count, destination_of}
 use Rattle.cyc_plain.specs.inside.Program.{Routine, Program, routine_at}
 use Rattle.cyc_plain.specs.inside.WellFormed.{HasSlots, IsOperand, IsArgument, IsInRange, IsOfWord, HasWord, is_return, leaves}
-use Rattle.cyc_inline.specs.inside.Opened.{shifted_operand, moved, is_end, is_of_leaf}
+use Rattle.cyc_inline.specs.inside.Opened.{shifted_operand, moved, may_have_twin, twin, is_end, is_of_leaf}
 
 -- ---- what it names
 
@@ -117,6 +117,40 @@ same_leaving shift place i = refl
 pub same_pins : (shift : ℕ) (place : ℕ → ℕ) (i : Instruction) (slot : ℕ) → pins (moved shift place i) slot ≡ pins i slot
 same_pins shift place (instructions.Jump target) slot = refl
 same_pins shift place i slot = refl
+
+-- ---- a twin
+
+-- what names slots of a function names slots of one that has more
+operand_in_more : (r s : Routine) (operand : Operand) → r.slots ≤ s.slots → IsOperand r operand → IsOperand s operand
+operand_in_more r s (operands.Slot number) least is = omega (arith, is, least)
+operand_in_more r s (operands.Word word) least is = tt
+
+pub twin_in : (program : Program) (r s : Routine) (slot : ℕ) (i : Instruction) → r.slots ≤ s.slots → slot < s.slots → may_have_twin i ≡ true → IsInRange program r i
+    → IsInRange program s (twin slot i)
+twin_in program r s slot (instructions.Binary operator destination left right) least room may (first, second, third) =
+    (room, operand_in_more r s left least second, operand_in_more r s right least third)
+twin_in program r s slot (instructions.LoadGlobal destination global) least room may (first, second) = (room, second)
+twin_in program r s slot (instructions.Load destination address offset) least room may (first, second) = (room, operand_in_more r s address least second)
+twin_in program r s slot i least room may is = absurd (false≢true may)
+
+pub twin_word : (slot : ℕ) (i : Instruction) → HasWord i → HasWord (twin slot i)
+twin_word slot (instructions.Load destination address offset) has = has
+twin_word slot i has = has
+
+pub same_return_twin : (slot : ℕ) (i : Instruction) → is_return (twin slot i) ≡ is_return i
+same_return_twin slot (instructions.Load destination address offset) = refl
+same_return_twin slot i = refl
+
+pub same_pins_twin : (further : ℕ) (i : Instruction) (slot : ℕ) → pins (twin further i) slot ≡ pins i slot
+same_pins_twin further (instructions.Load destination address offset) slot = refl
+same_pins_twin further i slot = refl
+
+-- what leads nowhere has none
+pub leaves_alone : (i : Instruction) → leaves i ≡ true → may_have_twin i ≡ false
+leaves_alone (instructions.Binary operator destination left right) leaving = absurd (false≢true leaving)
+leaves_alone (instructions.LoadGlobal destination global) leaving = absurd (false≢true leaving)
+leaves_alone (instructions.Load destination address offset) leaving = absurd (false≢true leaving)
+leaves_alone i leaving = refl
 
 -- ---- a leaf's
 

@@ -30,6 +30,7 @@ use Rattle.cyc_inline.proofs.Matched.{IsInside, Alike, Matches, matching}
 use Rattle.cyc_inline.proofs.Steps.{either_stands, steps_itself}
 use Rattle.cyc_inline.proofs.Entering.{steps_opened}
 use Rattle.cyc_inline.proofs.Inside.{steps_ordinary}
+use Rattle.cyc_inline.proofs.Twins.{steps_twinned}
 use Rattle.cyc_inline.proofs.Returning.{steps_returned, steps_thrown}
 
 module _ (program inlined : Program) (origins : List (List Origin)) (are : AreOpened program inlined origins) (plain : IsPlain program) (fine : IsPlain inlined) (pages calls : ℕ) where
@@ -60,8 +61,8 @@ module _ (program inlined : Program) (origins : List (List Origin)) (are : AreOp
 
   -- ---- outside
 
-  outside : (c : Configuration) (t : State) → IsOutside program inlined origins are c t → Matched (Running c) t → IsStep (Running c) t
-  outside c t o matches =
+  outside : (c : Configuration) (t : State) → IsOutside program inlined origins are c t → Matched (Running c) t → FailsNever (Running c) → IsStep (Running c) t
+  outside c t o matches never =
       subst (IsStep (Running c)) (sym o.is) (either (subst (Matched (Running c)) o.is matches))
     where
       either : Matched (Running c) (Running (beside program inlined origins are c o.active o.frames)) → IsStep (Running c) (Running (beside program inlined origins are c o.active o.frames))
@@ -69,10 +70,11 @@ module _ (program inlined : Program) (origins : List (List Origin)) (are : AreOp
           let h = found c (Running (beside program inlined origins are c o.active o.frames)) both in
           elim (either_stands program inlined origins are c.active.function c.active.next h.i h.at) [
             | inl itself ↦ steps_itself program inlined origins are plain fine pages calls c o.active o.frames o.calls o.waiting both h.i h.at h.range itself
-            | inr opened ↦
+            | inr (inl opened) ↦
                 let call : Instruction = instructions.Call opened.callee opened.arguments opened.count opened.result in
                 steps_opened program inlined origins are plain fine pages calls c o.active o.frames o.calls o.waiting both opened.callee opened.arguments opened.count opened.result
                 (h.at ∙ ap (λ (i : Instruction). Some i) opened.is) (subst (IsInRange program (routine_at program c.active.function)) opened.is h.range) opened.site
+            | inr (inr twinned) ↦ steps_twinned program inlined origins are plain fine pages calls c o.active o.frames o.calls o.waiting both never h.i h.at h.range twinned
           ]
 
   -- ---- inside
@@ -117,7 +119,7 @@ module _ (program inlined : Program) (origins : List (List Origin)) (are : AreOp
   steps (Running c) t matches running never = go matches.alike
     where
       go : IsOutside program inlined origins are c t ⊎ IsInside program inlined origins are c t → IsStep (Running c) t
-      go (inl o) = outside c t o matches
+      go (inl o) = outside c t o matches never
       go (inr s) = subst (IsStep (Running c)) (sym s.is) (inside c s.active s.frames s.lodged s.next (subst (Matched (Running c)) s.is matches) never)
   steps (Ended ending output input) t matches running never = absurd (running_ended ending (sym running))
   steps (Stuck output input) t matches running never = absurd (running_failed (sym running))

@@ -1,4 +1,4 @@
--- The step of an instruction that was not opened, where no inlined call is under way.
+-- The step of an instruction that stands for itself alone, where no inlined call is under way.
 use Rattle.std.proofs.Common.{◌≡◌, ℕ, ◌+◌, false, List, Option, Some, None, refl, sym, ap, subst, ◌∙◌, arith, inl, inr}
 use Rattle.std.specs.Prelude.{◌⊎◌}
 use Rattle.cyc_store.specs.Services.{Call}
@@ -12,7 +12,7 @@ use Rattle.cyc_plain.specs.inside.Step.{Choice, IsAllowed, MayLie, MayServe, cal
 use Rattle.cyc_plain.specs.inside.Straight.{At}
 use Rattle.cyc_plain.specs.inside.WellFormed.{IsInRange, IsPlain, leaves}
 use Rattle.cyc_inline.specs.declared.origin.Origin.{Origin}
-use Rattle.cyc_inline.specs.inside.Opened.{moved, origin_at, origins_of, AreMadeOf, IsSite, StandsFor, AreOpened}
+use Rattle.cyc_inline.specs.inside.Opened.{moved, origin_at, origins_of, AreMadeOf, IsSite, IsTwinned, StandsFor, AreOpened}
 use Rattle.cyc_inline.proofs.Waiting.{each_opened, place_in, slots_of, AreCalls, AreWaiting, beside}
 use Rattle.cyc_inline.proofs.Outside.{call_same, performs_outside}
 use Rattle.cyc_inline.proofs.Matched.{step_is, made_first, Alike, limited_outside, finds, owns, Matches, matching, kept, words_kept}
@@ -28,7 +28,7 @@ limit_same_moved shift place calls (instructions.Enter function) = refl
 limit_same_moved shift place calls i = refl
 
 module _ (program inlined : Program) (origins : List (List Origin)) (are : AreOpened program inlined origins) where
-  -- an instruction that stands for itself, and a call that was opened
+  -- an instruction that stands for itself, a call that was opened, and an instruction with its twin in front of it
   pub record IsItself (function index : ℕ) (i : Instruction) : Type 0 where
     pub at : At (routine_at inlined function).code (place_in program inlined origins are function index) (moved 0 (place_in program inlined origins are function) i)
     pub made : AreMadeOf (origins_of origins function) (place_in program inlined origins are function index) 1 (origin_at function index)
@@ -43,18 +43,24 @@ module _ (program inlined : Program) (origins : List (List Origin)) (are : AreOp
     pub site : IsSite program (routine_at inlined function) (origins_of origins function) (slots_of program inlined origins are function) function index
         (place_in program inlined origins are function index) (place_in program inlined origins are function (index + 1)) callee arguments count result
 
-  itself_or_opened : (function index : ℕ) (i : Instruction) → StandsFor program (routine_at program function) (routine_at inlined function) (origins_of origins function) function (place_in program inlined origins are function) index i
-      → IsItself function index i ⊎ IsOpenedCall function index i
-  itself_or_opened function index (instructions.Call callee arguments count result) stands = go stands
-    where
-      go : StandsFor program (routine_at program function) (routine_at inlined function) (origins_of origins function) function (place_in program inlined origins are function) index (instructions.Call callee arguments count result)
-          → IsItself function index (instructions.Call callee arguments count result) ⊎ IsOpenedCall function index (instructions.Call callee arguments count result)
-      go (inl (at, made, falls)) = inl (record { at = at; made = made; falls = λ stays. falls })
-      go (inr site) = inr (record { callee = callee; arguments = arguments; count = count; result = result; is = refl; site = site })
-  itself_or_opened function index i stands = inl (record { at = stands.0; made = stands.1; falls = stands.2 })
+  abbrev pub IsTwinnedHere : (function index : ℕ) → Instruction → Type 0
+  IsTwinnedHere function index i =
+      IsTwinned (routine_at program function) (routine_at inlined function) (origins_of origins function) function (place_in program inlined origins are function) index i
 
-  pub either_stands : (function index : ℕ) (i : Instruction) → At (routine_at program function).code index i → IsItself function index i ⊎ IsOpenedCall function index i
-  either_stands function index i at = itself_or_opened function index i ((each_opened program inlined origins are function).stands index i at)
+  itself_or_not : (function index : ℕ) (i : Instruction) → StandsFor program (routine_at program function) (routine_at inlined function) (origins_of origins function) function (place_in program inlined origins are function) index i
+      → IsItself function index i ⊎ (IsOpenedCall function index i ⊎ IsTwinnedHere function index i)
+  itself_or_not function index (instructions.Call callee arguments count result) stands = elim stands [
+    | inl itself ↦ inl (record { at = itself.0; made = itself.1; falls = λ stays. itself.2 })
+    | inr site ↦ inr (inl (record { callee = callee; arguments = arguments; count = count; result = result; is = refl; site = site }))
+  ]
+  itself_or_not function index i stands = elim stands [
+    | inl itself ↦ inl (record { at = itself.0; made = itself.1; falls = itself.2 })
+    | inr twinned ↦ inr (inr twinned)
+  ]
+
+  pub either_stands : (function index : ℕ) (i : Instruction) → At (routine_at program function).code index i
+      → IsItself function index i ⊎ (IsOpenedCall function index i ⊎ IsTwinnedHere function index i)
+  either_stands function index i at = itself_or_not function index i ((each_opened program inlined origins are function).stands index i at)
 
   module _ (plain : IsPlain program) (fine : IsPlain inlined) (pages calls : ℕ) (c : Configuration) (b : Activation) (gs : List Frame)
       (same : AreCalls program inlined origins are c.active b) (waiting : AreWaiting program inlined origins are c.active.function c.frames gs)
@@ -84,7 +90,7 @@ module _ (program inlined : Program) (origins : List (List Origin)) (are : AreOp
     serves choice (Some call) may = may
 
     asked : (j : Instruction) → IsInRange program (routine_at program c.active.function) j → call_of b.slots (Some (moved 0 place j)) ≡ call_of c.active.slots (Some j)
-    asked (instructions.Ask request) inside = ap (λ (call : Call). Some call) (call_same program inlined origins are plain.well_formed c b gs same waiting request inside)
+    asked (instructions.Ask request) inside = ap (λ (call : Call). Some call) (call_same program inlined origins are plain.well_formed c b gs same.slotted waiting request inside)
     asked j inside = refl
 
     allowed_same : (choice : Choice) → IsAllowed inlined (Running d) choice → IsAllowed program (Running c) choice
@@ -119,7 +125,7 @@ module _ (program inlined : Program) (origins : List (List Origin)) (are : AreOp
             subst (λ (t : State). Alike program inlined origins are t u) (sym above_is)
             (subst (Alike program inlined origins are (limited pages (limit_of (Some i) calls) (Running c) (performed program choice c i))) (sym below_is)
             (limited_outside program inlined origins are pages (limit_of (Some i) calls) c b gs (performed program choice c i) (performed inlined choice d (moved 0 place i))
-            (performs_outside program inlined origins are plain.well_formed c b gs same waiting choice i range (λ stays. ap (λ (n : ℕ). n + 1) same.next ∙ sym (itself.falls stays)))))
+            (performs_outside program inlined origins are plain.well_formed c b gs same.slotted waiting choice i range same.next (λ stays. ap (λ (n : ℕ). n + 1) same.next ∙ sym (itself.falls stays)))))
 
     pub steps_itself : IsStepped (machine program pages calls) (machine inlined pages calls) (matching program inlined origins are plain fine pages calls) (Running c) (Running (beside program inlined origins are c b gs))
     steps_itself =

@@ -1,4 +1,4 @@
-//! Which calls of a function are opened.
+//! Which calls of a function are opened, and which of its instructions have a twin.
 ghost use Rattle.std.specs.Prelude.{◌≡◌, ◌+◌, ◌*◌, ◌<◌, ◌≤◌, ◌⊎◌, Some, [], length, IfOk, IfSome, OnOk};
 ghost use Rattle.cyc_plain.specs.inside.Program.{routine_at, routine_of};
 ghost use Rattle.cyc_plain.specs.inside.Straight.{At};
@@ -7,11 +7,13 @@ ghost use Rattle.cyc_plain.specs.declared.limits.TheConstants as plain_limits;
 ghost use Rattle.cyc_inline.specs.declared.limits.TheConstants as limits;
 ghost use Rattle.cyc_inline.specs.declared.site.Call.{Call};
 ghost use Rattle.cyc_inline.specs.inside.Sites.{chosen_call, place_in};
-ghost use Rattle.cyc_inline.specs.inside.Emission.{AreChosen, AreLeafs, IsChosenBy, IsNeed, IsSmallCall, call_size};
+ghost use Rattle.cyc_inline.specs.inside.Emission.{AreChosen, AreLeafs, IsChosenBy, IsNeed, IsSmallCall, call_size, twin_by};
 
 use crate::limits::MOST_GROWTH;
+use crate::naming::Twins;
 use crate::site::{Call, chosen_call, inside_size};
 use crate::tables::place_in;
+use crate::twinning::twin_slot;
 use cyc_plain::{Function, Instruction, LAYOUT_WORDS, MOST_FRAME_WORDS, Plain};
 use std::alloc::{AllocError, Global};
 
@@ -26,12 +28,14 @@ pub(crate) struct Need {
     pub(crate) line: usize,
 }
 
-/// The calls of a function that are opened.
+/// The calls of a function that are opened, and its instructions that have a twin.
 #[derive(Drop)]
 pub(crate) struct Choice {
     /// For each of its instructions how many of the callee's stand in line, if it is such a call, and else 0.
     pub(crate) chosen: Vec<usize>,
-    /// How many slots it has with those of the functions that are called there.
+    /// For each of them the slot that is wanted for its twin. It has one where that is a further slot, and a twin may stand.
+    pub(crate) twins: Vec<usize>,
+    /// How many slots it has with those of the functions that are called there, and those of the twins.
     pub(crate) slots: usize,
     /// How many instructions stand for these calls.
     pub(crate) growth: usize,
@@ -95,6 +99,7 @@ impl Choice {
     {
         Choice {
             chosen: Vec::new(alloc),
+            twins: Vec::new(alloc),
             slots,
             growth: 0,
         }
@@ -115,6 +120,26 @@ impl Choice {
         }
         self.chosen.push(0)?;
         Ok(())
+    }
+
+    /// The slot of an instruction's twin, if it has one.
+    pub(crate) fn twin_at(
+        &self,
+        plain: &Plain,
+        number: usize,
+        index: usize,
+        instruction: Instruction,
+    ) -> Option<usize>
+        requires { number < length plain.now.functions }
+        ensures { result ≡ twin_by plain.now number self.now index instruction }
+    {
+        let given_slots = plain.function(number).slots;
+        twin_slot(
+            given_slots,
+            self.slots,
+            instruction,
+            place_in(&self.twins, index),
+        )
     }
 }
 
@@ -156,4 +181,30 @@ pub(crate) fn choose(
         }
     }
     Ok(choice)
+}
+
+/// No call of a function, but twins, if its frame stays small with their slots.
+pub(crate) fn choose_twins(
+    alloc: Global,
+    plain: &Plain,
+    number: usize,
+    twins: Twins,
+) -> Option<Choice>
+    requires { number < length plain.now.functions }
+    ensures { IfSome result (λ choice. AreChosen plain.now (routine_at plain.now number) choice.chosen.items choice.slots) }
+{
+    let function = plain.function(number);
+    let slots = twins.slots;
+    if function.frame_count > MOST_FRAME_WORDS || slots < function.slots {
+        return None;
+    }
+    if slots > MOST_FRAME_WORDS - LAYOUT_WORDS {
+        return None;
+    }
+    Some(Choice {
+        chosen: Vec::new(alloc),
+        twins: twins.wanted,
+        slots,
+        growth: 0,
+    })
 }

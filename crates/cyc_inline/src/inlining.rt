@@ -1,13 +1,14 @@
 //! Plain programs in which small functions that call nothing stand in the place of their calls.
-ghost use Rattle.std.specs.Prelude.{◌≡◌, ◌+◌, ◌≤◌, ◌⊎◌, IfOk, length, max, sum_by};
+ghost use Rattle.std.specs.Prelude.{◌≡◌, ◌+◌, ◌<◌, ◌≤◌, ◌⊎◌, IfOk, length, max, sum_by};
 ghost use Rattle.cyc_plain.specs.declared.limits.TheConstants as limits;
 ghost use Rattle.cyc_plain.specs.inside.Program.{size};
-ghost use Rattle.cyc_inline.specs.inside.Changes.{AreBegun, AreTold, left_of, notes_of};
+ghost use Rattle.cyc_plain.specs.inside.WellFormed.{IsPlain};
+ghost use Rattle.cyc_inline.specs.inside.Changes.{AreBegun, AreTold, IsChange, IsWork, left_of, notes_of};
 ghost use Rattle.cyc_inline.specs.inside.Inlined.{IsInlined};
 
 use crate::emptying::empty;
 use crate::leaf::leafs_of;
-use crate::making::{Made, make};
+use crate::making::{Made, make, make_twins};
 use crate::replacing::{Opened, replace};
 use crate::sizes::spare_of;
 use cyc_plain::Plain;
@@ -22,6 +23,15 @@ pub struct Inlined {
     pub opened: Vec<Option<Opened>>,
 }
 
+/// What is done to the functions of a program.
+#[derive(Clone, Copy)]
+pub(crate) enum Work<'a> {
+    /// Calls of leafs are opened: for each function how many of its instructions stand in line, if it is one, and else 0.
+    Calls { leafs: &'a [usize] },
+    /// Instructions get twins.
+    Twins,
+}
+
 fn has_any(leafs: &[usize]) -> bool {
     for line in leafs {
         if *line > 0 {
@@ -31,11 +41,19 @@ fn has_any(leafs: &[usize]) -> bool {
     false
 }
 
-/// By how many words a program may become larger, if any of its calls may be opened.
-fn spare_for(plain: &Plain, leafs: &[usize], room: usize) -> usize
+/// Whether there may be something to do.
+fn has_some(work: Work) -> bool {
+    match work {
+        Work::Calls { leafs } => has_any(leafs),
+        Work::Twins => true,
+    }
+}
+
+/// By how many words a program may become larger, if there may be something to do.
+fn spare_for(plain: &Plain, work: Work, room: usize) -> usize
     ensures { (result ≡ 0) ⊎ ((sum_by size plain.now.functions + result ≤ room) × (sum_by size plain.now.functions + result ≤ limits.MOST_SIZE)) }
 {
-    if has_any(leafs) {
+    if has_some(work) {
         spare_of(plain, room)
     } else {
         0
@@ -52,30 +70,60 @@ fn left_of(change: &Option<Made>, spare: usize) -> usize
     }
 }
 
+/// A function that stands for the one of this number, if another does.
+fn change_of(
+    alloc: Global,
+    plain: &Plain,
+    work: Work,
+    number: usize,
+    spare: usize,
+) -> Result<Option<Made>, AllocError>
+    requires plain { IsPlain plain.now }
+    requires work { IsWork plain.now work }
+    requires number { number < length plain.now.functions }
+    ensures { IfOk result (IsChange plain.now number spare) }
+{
+    match work {
+        Work::Calls { leafs } => make(alloc, plain, leafs, number, spare),
+        Work::Twins => make_twins(alloc, plain, number, spare),
+    }
+}
+
 /// For each function of a program the one that stands for it, if that is another.
-fn changes_of(alloc: Global, plain: &Plain, room: usize) -> Result<Vec<Option<Made>>, AllocError>
+fn changes_of(
+    alloc: Global,
+    plain: &Plain,
+    work: Work,
+    room: usize,
+) -> Result<Vec<Option<Made>>, AllocError>
+    requires { IsWork plain.now work }
     ensures as_many { IfOk result (λ changes. length changes.items ≡ length plain.now.functions) }
     ensures made { IfOk result (λ changes. AreBegun plain.now room changes.items 0) }
 {
     let count = plain.functions().len();
-    let leafs = leafs_of(alloc, plain)?;
     let mut changes = Vec::with_capacity(alloc, count)?;
-    let mut spare = spare_for(plain, &leafs, room);
+    let mut spare = spare_for(plain, work, room);
     for number in 0..count {
-        let change = make(alloc, plain, &leafs, number, spare)?;
+        let change = change_of(alloc, plain, work, number, spare)?;
         spare = left_of(&change, spare);
         changes.push(change)?;
     }
     Ok(changes)
 }
 
-/// The program with small functions that call nothing in the place of their calls.
-fn open_calls(alloc: Global, plain: Plain, room: usize) -> Result<Inlined, AllocError>
+/// The program with this done to its functions.
+pub(crate) fn remake(
+    alloc: Global,
+    plain: Plain,
+    work: Work,
+    room: usize,
+) -> Result<Inlined, AllocError>
+    requires { IsWork plain work }
     ensures inlined { IfOk result (λ made. IsInlined plain made.plain) }
     ensures size { IfOk result (λ made. sum_by size made.plain.functions ≤ max (sum_by size plain.functions) room) }
     ensures told { IfOk result (λ made. AreTold plain made.plain (notes_of made.opened.items)) }
 {
-    let changes = changes_of(alloc, &plain, room)?;
+    let changes = changes_of(alloc, &plain, work, room)?;
     let parts = plain.into_parts();
     let replaced = replace(alloc, parts.functions, changes)?;
     Ok(Inlined {
@@ -91,7 +139,9 @@ pub fn inline(alloc: Global, plain: Plain, room: usize) -> Result<Inlined, Alloc
     ensures size { IfOk result (λ made. sum_by size made.plain.functions ≤ max (sum_by size plain.functions) room) }
     ensures told { IfOk result (λ made. AreTold plain made.plain (notes_of made.opened.items)) }
 {
-    let inlined = open_calls(alloc, plain, room)?;
+    let leafs = leafs_of(alloc, &plain)?;
+    let work = Work::Calls { leafs: &leafs };
+    let inlined = remake(alloc, plain, work, room)?;
     let emptied = empty(alloc, inlined)?;
     Ok(emptied)
 }

@@ -1,21 +1,25 @@
-//! Inlining: small functions that call nothing stand in the place of their calls.
+//! Inlining: small functions that call nothing stand in the place of their calls. And expressions get slots of their own.
 #![tactic(auto)]
 
 mod caller;
 mod choice;
 mod emission;
 mod emptying;
+mod expressions;
 mod inlining;
 mod leaf;
 mod limits;
 mod making;
 mod moving;
+mod naming;
 mod origin;
 mod replacing;
 mod site;
 mod sizes;
 mod tables;
+mod twinning;
 
+pub use expressions::name_expressions;
 pub use inlining::{Inlined, inline};
 pub use leaf::line_of;
 pub use origin::Origin;

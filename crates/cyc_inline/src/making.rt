@@ -1,4 +1,4 @@
-//! Functions that stand for those of a program, with some of their calls opened.
+//! Functions that stand for those of a program, with some of their calls opened, or with twins of instructions.
 ghost use Rattle.std.specs.Prelude.{◌+◌, ◌<◌, ◌≤◌, length, IfOk, IfSome};
 ghost use Rattle.cyc_plain.specs.inside.Program.{routine_at, routine_of, size};
 ghost use Rattle.cyc_plain.specs.inside.WellFormed.{IsPlain};
@@ -6,15 +6,16 @@ ghost use Rattle.cyc_inline.specs.inside.Emission.{AreChosen, AreLeafs, IsMade};
 ghost use Rattle.cyc_inline.specs.inside.Changes.{IsChange};
 
 use crate::caller::{Caller, opened_places};
-use crate::choice::{Choice, choose, larger};
+use crate::choice::{Choice, choose, choose_twins, larger};
 use crate::emission::Emission;
+use crate::naming::twins_of;
 use crate::origin::Origin;
 use crate::sizes::code_size;
 use crate::tables::place_in;
 use cyc_plain::{Function, Instruction, LAYOUT_WORDS, MOST_SIZE, Plain};
 use std::alloc::{AllocError, Global};
 
-/// A function that stands for one of a program, with calls opened.
+/// A function that stands for one of a program.
 #[derive(Drop)]
 pub(crate) struct Made {
     pub(crate) function: Function,
@@ -24,7 +25,7 @@ pub(crate) struct Made {
     pub(crate) spare: usize,
 }
 
-/// The function with these calls opened.
+/// The function with these calls opened, and these twins.
 fn opened(
     alloc: Global,
     plain: &Plain,
@@ -78,6 +79,27 @@ fn spare_behind(given: &Function, made: &Function, spare: usize) -> Option<usize
     Some(most - behind)
 }
 
+/// A function that stands for the one of this number, with these calls opened and these twins, if there is room for its code.
+fn opened_in(
+    alloc: Global,
+    plain: &Plain,
+    number: usize,
+    choice: &Choice,
+    spare: usize,
+) -> Result<Option<Made>, AllocError>
+    requires plain { IsPlain plain.now }
+    requires number { number < length plain.now.functions }
+    requires chosen { AreChosen plain.now (routine_at plain.now number) choice.now.chosen.items choice.now.slots }
+    ensures { IfOk result (IsChange plain.now number spare) }
+{
+    let mut made = opened(alloc, plain, number, choice, spare)?;
+    if let Some(left) = spare_behind(plain.function(number), &made.function, spare) {
+        made.spare = left;
+        return Ok(Some(made));
+    }
+    Ok(None)
+}
+
 /// Whether a function calls one that may be opened.
 fn has_site(function: &Function, leafs: &[usize]) -> bool {
     for instruction in &function.code {
@@ -110,10 +132,27 @@ pub(crate) fn make(
     }
     let choice = choose(alloc, plain, leafs, number)?;
     if choice.growth > 0 {
-        let mut made = opened(alloc, plain, number, &choice, spare)?;
-        if let Some(left) = spare_behind(plain.function(number), &made.function, spare) {
-            made.spare = left;
-            return Ok(Some(made));
+        opened_in(alloc, plain, number, &choice, spare)
+    } else {
+        Ok(None)
+    }
+}
+
+/// A function that stands for the one of this number, with twins, if it gets any and there is room for their code. Where
+/// there is none, the one of this number stands for itself.
+pub(crate) fn make_twins(
+    alloc: Global,
+    plain: &Plain,
+    number: usize,
+    spare: usize,
+) -> Result<Option<Made>, AllocError>
+    requires plain { IsPlain plain.now }
+    requires number { number < length plain.now.functions }
+    ensures { IfOk result (IsChange plain.now number spare) }
+{
+    if let Some(twins) = twins_of(alloc, plain, plain.function(number))? {
+        if let Some(choice) = choose_twins(alloc, plain, number, twins) {
+            return opened_in(alloc, plain, number, &choice, spare);
         }
     }
     Ok(None)

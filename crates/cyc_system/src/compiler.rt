@@ -25,7 +25,7 @@ use crate::image::write_program;
 use cyc_asm::assemble;
 use cyc_flow::Flowed;
 use cyc_frame::{Frames, layout};
-use cyc_inline::inline;
+use cyc_inline::{inline, name_expressions};
 use cyc_lower::lower;
 use cyc_plain::Plain;
 use cyc_select::select;
@@ -70,8 +70,8 @@ pub(crate) fn room_for(tree: &TypedTree) -> usize
     SIZE_PER_WEIGHT * weight_of(tree)
 }
 
-/// The plain program of a typed one, in which small functions stand in the place of their calls, and what is known is not computed, tested
-/// or moved once more. What is refused is so by the lowering.
+/// The plain program of a typed one, in which small functions stand in the place of their calls, expressions that are computed more than once have
+/// slots of their own, and what is known is not computed, tested or moved once more. What is refused is so by the lowering.
 fn lower_improved(alloc: Global, program: &Flowed) -> Result<Plain, Fault>
     requires well_typed { IsWellTypedProgram (view_program program.now.tree) }
     requires small { program_weight (view_program program.now.tree) ≤ max_tokens }
@@ -79,8 +79,10 @@ fn lower_improved(alloc: Global, program: &Flowed) -> Result<Plain, Fault>
     ensures { Decides (IsAccepted (view_program program.now.tree)) IsProgramOf (HasTooMany (view_program program.now.tree)) (HasTooMany (view_program program.now.tree)) result }
 {
     let plain = lower(alloc, program)?;
-    let inlined = inline(alloc, plain, room_for(&program.tree))?;
-    let simplified = simplify(alloc, &inlined.plain)?;
+    let room = room_for(&program.tree);
+    let inlined = inline(alloc, plain, room)?;
+    let named = name_expressions(alloc, inlined.plain, room)?;
+    let simplified = simplify(alloc, &named.plain)?;
     Ok(simplified)
 }
 

@@ -20,7 +20,7 @@ use crate::front::run_phases;
 use cyc_asm::sources;
 use cyc_flow::Flowed;
 use cyc_frame::layout;
-use cyc_inline::{Inlined, Origin, inline, line_of};
+use cyc_inline::{Inlined, Opened, Origin, inline, line_of, name_expressions};
 use cyc_lower::{Marks, lower, marks_of};
 use cyc_machine::constants::TEXT_BASE;
 use cyc_plain::{Function, Instruction, Operand};
@@ -176,22 +176,33 @@ fn span_of(marks: &Marks, mark: usize, name: Span) -> Span {
 /// What was lowered: the functions, which stand beside what was made of them, and the marks of each.
 #[derive(Clone, Copy)]
 struct Lowered<'a> {
-    inlined: &'a Inlined,
+    /// What inlining made its functions from.
+    opened: &'a [Option<Opened>],
+    /// The program in which expressions have slots of their own.
+    named: &'a Inlined,
     marks: &'a [Marks],
 }
 
 impl<'a> Lowered<'a> {
     /// The function of this number as it was lowered.
     fn function(&self, number: usize) -> Option<&'a Function> {
-        match self.inlined.opened.get(number)? {
+        match self.opened.get(number)? {
             Some(opened) => Some(&opened.given),
-            None => self.inlined.plain.functions().get(number),
+            None => self.inlined(number),
         }
     }
 
-    /// The instruction from which this one is made, in the function of that number.
+    /// The function of this number with what is inlined.
+    fn inlined(&self, number: usize) -> Option<&'a Function> {
+        match self.named.opened.get(number)? {
+            Some(opened) => Some(&opened.given),
+            None => self.named.plain.functions().get(number),
+        }
+    }
+
+    /// The instruction from which this one of a function with what is inlined is made, in the function of that number.
     fn origin(&self, function: usize, index: usize) -> Option<Origin> {
-        match self.inlined.opened.get(function)? {
+        match self.opened.get(function)? {
             Some(opened) => opened.origins.get(index).copied(),
             None => Some(Origin { function, index }),
         }
@@ -358,6 +369,25 @@ fn add_function(
     Ok(())
 }
 
+/// The first line of each instruction of a function with what is inlined, by those of the instructions that they became.
+fn lines_before(
+    alloc: Global,
+    named: Option<&Opened>,
+    lines: &[usize],
+) -> Result<Vec<usize>, AllocError> {
+    let mut firsts = Vec::with_capacity(alloc, lines.len())?;
+    let Some(named) = named else {
+        firsts.extend_from_slice(lines)?;
+        return Ok(firsts);
+    };
+    for (index, origin) in named.origins.iter().enumerate() {
+        if origin.index == firsts.len() {
+            firsts.push(lines.get(index).copied().unwrap_or(0))?;
+        }
+    }
+    Ok(firsts)
+}
+
 /// The causes of so many lines.
 fn causes_of_lines(
     alloc: Global,
@@ -365,12 +395,13 @@ fn causes_of_lines(
     lines: &[FunctionLines],
     count: usize,
 ) -> Result<Vec<Cause>, AllocError> {
-    let functions = lowered.inlined.plain.functions();
     let mut causes = Vec::new(alloc);
-    for number in 0..functions.len() {
-        let (Some(function), Some(own)) = (functions.get(number), lines.get(number)) else {
+    for number in 0..lowered.opened.len() {
+        let (Some(function), Some(own)) = (lowered.inlined(number), lines.get(number)) else {
             return Ok(causes);
         };
+        let named = lowered.named.opened.get(number).and_then(Option::as_ref);
+        let firsts = lines_before(alloc, named, &own.lines)?;
         fill(&mut causes, own.first, own_cause(Source::Start))?;
         let end = match lines.get(number + 1) {
             Some(next) => next.first,
@@ -379,7 +410,7 @@ fn causes_of_lines(
         let made = Lines {
             number,
             code: &function.code,
-            lines: &own.lines,
+            lines: &firsts,
             end,
         };
         add_function(alloc, &mut causes, lowered, made)?;
@@ -426,19 +457,22 @@ fn places_of(alloc: Global, program: &Flowed, exceptions: Vec<Declared>) -> Resu
 {
     let plain = lower(alloc, program)?;
     let marks = marks_of(alloc, program)?;
-    let inlined = inline(alloc, plain, room_for(&program.tree))?;
-    let simplified = simplify(alloc, &inlined.plain)?;
+    let room = room_for(&program.tree);
+    let Inlined { plain, opened } = inline(alloc, plain, room)?;
+    let named = name_expressions(alloc, plain, room)?;
+    let simplified = simplify(alloc, &named.plain)?;
     let frames = layout(alloc, &simplified)?;
     let lines = lines_of(alloc, &simplified, &frames)?;
     let code = select(alloc, &simplified, &frames)?;
     let numbers = sources(alloc, &code)?;
     let lowered = Lowered {
-        inlined: &inlined,
+        opened: &opened,
+        named: &named,
         marks: &marks,
     };
     let causes = causes_of_lines(alloc, lowered, &lines, code.lines().len())?;
     let mut functions = Vec::new(alloc);
-    for function in inlined.plain.functions() {
+    for function in named.plain.functions() {
         functions.push(function.name)?;
     }
     Ok(Places {

@@ -3,11 +3,13 @@ use Rattle.std.specs.Prelude.{◌≡◌, ℕ, zero, suc, ◌+◌, ◌<◌, ◌�
 use Rattle.cyc_plain.specs.declared.limits.TheConstants.{MOST_SIZE}
 use Rattle.cyc_plain.specs.declared.program.Function.{Function}
 use Rattle.cyc_plain.specs.inside.Program.{Routine, Program, routine_of, routine_at, size}
+use Rattle.cyc_inline.specs.declared.inlining.Work.{Work}
+use Rattle.cyc_inline.specs.declared.inlining.Work.TheVariants as works
 use Rattle.cyc_inline.specs.declared.making.Made.{Made}
 use Rattle.cyc_inline.specs.declared.origin.Origin.{Origin}
 use Rattle.cyc_inline.specs.declared.replacing.Opened.{Opened}
 use Rattle.cyc_inline.specs.inside.Opened.{origin_at}
-use Rattle.cyc_inline.specs.inside.Emission.{IsMade}
+use Rattle.cyc_inline.specs.inside.Emission.{AreLeafs, IsMade}
 
 -- ---- what is said of each function: another that stands for it, or nothing
 
@@ -64,6 +66,11 @@ all_origins number [] changes = []
 all_origins number (r ∷ routines) changes = origins_made number (length r.code) (first_of changes) ∷ all_origins (suc number) routines (others changes)
 
 -- ---- how it is made
+
+-- What may be done to the functions of a program: only leafs are opened.
+abbrev pub IsWork : Program → Work → Type 0
+IsWork program (works.Calls leafs) = AreLeafs program leafs.now
+IsWork program works.Twins = Unit {0}
 
 -- what is made for a function stands for it
 abbrev pub IsMadeFor : Program → (number : ℕ) → Option Made → Type 0

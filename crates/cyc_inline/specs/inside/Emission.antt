@@ -1,5 +1,5 @@
 -- The code of a function, some of whose calls are opened, as the crate makes it, and which may be.
-use Rattle.std.specs.Prelude.{◌≡◌, All, ℕ, suc, ◌+◌, ◌<◌, ◌≤◌, ◌^◌, ◌⊎◌, Bool, true, false, List, [], ◌∷◌, ◌++◌, length, Result, OnOk, Option, Some, None, slice_get, slice_index_or, if◌then◌else◌}
+use Rattle.std.specs.Prelude.{◌≡◌, All, ℕ, suc, ◌+◌, ◌<◌, ◌≤◌, ◌^◌, ◌⊎◌, nat_lt, nat_le, Bool, true, false, List, [], ◌∷◌, ◌++◌, length, replicate, Result, OnOk, Option, Some, None, slice_get, slice_index_or, if◌then◌else◌}
 use Rattle.std.specs.List.{AllByRecursion}
 use Rattle.std.specs.declared.alloc.AllocError.{AllocError}
 use Rattle.cyc_plain.specs.declared.instruction.Instruction.{Instruction}
@@ -18,7 +18,7 @@ use Rattle.cyc_inline.specs.declared.limits.TheConstants.{MOST_LEAF_CODE, MOST_G
 use Rattle.cyc_inline.specs.declared.origin.Origin.{Origin}
 use Rattle.cyc_inline.specs.declared.site.Call.{Call}
 use Rattle.cyc_inline.specs.declared.site.Site.{Site}
-use Rattle.cyc_inline.specs.inside.Opened.{moved, is_of_leaf, is_end, origin_at, origins_of, IsOpened}
+use Rattle.cyc_inline.specs.inside.Opened.{moved, may_have_twin, twin, is_of_leaf, is_end, origin_at, origins_of, IsOpened}
 use Rattle.cyc_inline.specs.inside.Sites.{chosen_call, place_in, site_code, site_origins, site_size}
 
 -- ---- what the methods that emit add
@@ -123,6 +123,16 @@ pub record AreChosen (program : Program) (r : Routine) (chosen : List ℕ) (slot
   pub least : r.slots ≤ slots
   pub frame : (slots ≡ r.slots) ⊎ ((r.frame_count ≤ MOST_FRAME_WORDS) × (slots + LAYOUT_WORDS ≤ MOST_FRAME_WORDS))
 
+-- ---- which instructions have a twin
+
+-- The slot of an instruction's twin: the one that is wanted, if that is one of the further slots, and the instruction may have a twin.
+abbrev pub twin_slot : (given slots : ℕ) → Instruction → (wanted : ℕ) → Option ℕ
+twin_slot given slots i wanted = if may_have_twin i then (if nat_le given wanted then (if nat_lt wanted slots then Some wanted else None) else None) else None
+
+-- by the table of what is wanted
+abbrev pub twin_by : Program → (number : ℕ) → Choice → (index : ℕ) → Instruction → Option ℕ
+twin_by program number choice index i = twin_slot (routine_at program number).slots choice.slots i (place_in choice.twins.items index)
+
 -- ---- the code of a function: in line, and the rest behind it
 
 abbrev pub site_of : Program → Routine → Call → (behind rest : ℕ) → Site
@@ -134,57 +144,76 @@ site_of program r call behind rest = record {
   rest = rest;
 }
 
--- what an instruction becomes: the code of a call that is opened, or itself with other places
-abbrev pub part : Program → (number : ℕ) → (place rest : ℕ → ℕ) → (in_line : Bool) → (index : ℕ) → Instruction → Option Call → List Instruction
-part program number place rest in_line index i (Some call) =
+-- what an instruction becomes that is no such call: itself with other places, and its twin in front of it, if that has a slot
+abbrev pub own_part : (place : ℕ → ℕ) → Instruction → (further : Option ℕ) → List Instruction
+own_part place i (Some slot) = twin slot i ∷ moved 0 place i ∷ []
+own_part place i None = moved 0 place i ∷ []
+
+abbrev pub own_count : (further : Option ℕ) → ℕ
+own_count (Some slot) = 2
+own_count None = 1
+
+-- what an instruction becomes: the code of a call that is opened, or itself
+abbrev pub part : Program → (number : ℕ) → (place rest : ℕ → ℕ) → (in_line : Bool) → (index : ℕ) → Instruction → Option Call → (further : Option ℕ) → List Instruction
+part program number place rest in_line index i (Some call) further =
     site_code (site_of program (routine_at program number) call (place (index + 1)) (rest index)) in_line (place index) (routine_at program call.callee).code
-part program number place rest in_line index i None = if in_line then moved 0 place i ∷ [] else []
+part program number place rest in_line index i None further = if in_line then own_part place i further else []
 
-abbrev pub part_origins : Program → (number : ℕ) → (in_line : Bool) → (index : ℕ) → Option Call → List Origin
-part_origins program number in_line index (Some call) =
+abbrev pub part_origins : Program → (number : ℕ) → (in_line : Bool) → (index : ℕ) → Option Call → (further : Option ℕ) → List Origin
+part_origins program number in_line index (Some call) further =
     site_origins call (routine_at program call.callee).results in_line (origin_at number index) (routine_at program call.callee).code
-part_origins program number in_line index None = if in_line then origin_at number index ∷ [] else []
+part_origins program number in_line index None further = if in_line then replicate (own_count further) (origin_at number index) else []
 
-abbrev pub part_count : Program → (in_line : Bool) → Option Call → ℕ
-part_count program in_line (Some call) = call_size program in_line call
-part_count program in_line None = if in_line then 1 else 0
+abbrev pub part_count : Program → (in_line : Bool) → Option Call → (further : Option ℕ) → ℕ
+part_count program in_line (Some call) further = call_size program in_line call
+part_count program in_line None further = if in_line then own_count further else 0
 
--- the same of all instructions from an index on
-abbrev pub opened_code : Program → (number : ℕ) → List ℕ → (place rest : ℕ → ℕ) → (in_line : Bool) → (index : ℕ) → List Instruction → List Instruction
-opened_code program number chosen place rest in_line index [] = []
-opened_code program number chosen place rest in_line index (i ∷ code) =
-    part program number place rest in_line index i (chosen_call i (place_in chosen index)) ++ opened_code program number chosen place rest in_line (suc index) code
+-- the same of all instructions from an index on, each with the slot of its twin, if it has one
+abbrev pub opened_code : Program → (number : ℕ) → List ℕ → (twin_at : ℕ → Instruction → Option ℕ) → (place rest : ℕ → ℕ) → (in_line : Bool) → (index : ℕ) → List Instruction → List Instruction
+opened_code program number chosen twin_at place rest in_line index [] = []
+opened_code program number chosen twin_at place rest in_line index (i ∷ code) =
+    part program number place rest in_line index i (chosen_call i (place_in chosen index)) (twin_at index i)
+    ++ opened_code program number chosen twin_at place rest in_line (suc index) code
 
-abbrev pub opened_origins : Program → (number : ℕ) → List ℕ → (in_line : Bool) → (index : ℕ) → List Instruction → List Origin
-opened_origins program number chosen in_line index [] = []
-opened_origins program number chosen in_line index (i ∷ code) =
-    part_origins program number in_line index (chosen_call i (place_in chosen index)) ++ opened_origins program number chosen in_line (suc index) code
+abbrev pub opened_origins : Program → (number : ℕ) → List ℕ → (twin_at : ℕ → Instruction → Option ℕ) → (in_line : Bool) → (index : ℕ) → List Instruction → List Origin
+opened_origins program number chosen twin_at in_line index [] = []
+opened_origins program number chosen twin_at in_line index (i ∷ code) =
+    part_origins program number in_line index (chosen_call i (place_in chosen index)) (twin_at index i)
+    ++ opened_origins program number chosen twin_at in_line (suc index) code
 
 -- where each of them stands, if the first stands here, and what stands behind the last
-abbrev pub opened_places : Program → List ℕ → (in_line : Bool) → (index here : ℕ) → List Instruction → List ℕ
-opened_places program chosen in_line index here [] = here ∷ []
-opened_places program chosen in_line index here (i ∷ code) =
-    here ∷ opened_places program chosen in_line (suc index) (here + part_count program in_line (chosen_call i (place_in chosen index))) code
+abbrev pub opened_places : Program → List ℕ → (twin_at : ℕ → Instruction → Option ℕ) → (in_line : Bool) → (index here : ℕ) → List Instruction → List ℕ
+opened_places program chosen twin_at in_line index here [] = here ∷ []
+opened_places program chosen twin_at in_line index here (i ∷ code) =
+    here ∷ opened_places program chosen twin_at in_line (suc index) (here + part_count program in_line (chosen_call i (place_in chosen index)) (twin_at index i)) code
 
-abbrev pub opened_end : Program → List ℕ → (in_line : Bool) → (index here : ℕ) → List Instruction → ℕ
-opened_end program chosen in_line index here [] = here
-opened_end program chosen in_line index here (i ∷ code) =
-    opened_end program chosen in_line (suc index) (here + part_count program in_line (chosen_call i (place_in chosen index))) code
+abbrev pub opened_end : Program → List ℕ → (twin_at : ℕ → Instruction → Option ℕ) → (in_line : Bool) → (index here : ℕ) → List Instruction → ℕ
+opened_end program chosen twin_at in_line index here [] = here
+opened_end program chosen twin_at in_line index here (i ∷ code) =
+    opened_end program chosen twin_at in_line (suc index) (here + part_count program in_line (chosen_call i (place_in chosen index)) (twin_at index i)) code
 
--- What the code of a function is made from: the calls that are chosen, where each of its instructions stands, and where the rest of what
--- stands for it.
-pub record AreParts (program : Program) (number : ℕ) (chosen places rests : List ℕ) (slots : ℕ) : Type 0 where
+-- A slot that the twin of an instruction may have: one that the function has further than the one given.
+pub record IsTwinSlot (r : Routine) (slots : ℕ) (i : Instruction) (slot : ℕ) : Type 0 where
+  pub further : r.slots ≤ slot
+  pub room : slot < slots
+  pub may : may_have_twin i ≡ true
+
+-- What the code of a function is made from: the calls that are chosen, the slots of twins, where each of its instructions stands, and where
+-- the rest of what stands for it.
+pub record AreParts (program : Program) (number : ℕ) (chosen : List ℕ) (twin_at : ℕ → Instruction → Option ℕ) (places rests : List ℕ) (slots : ℕ) : Type 0 where
   pub plain : IsPlain program
   pub is_function : number < length program.functions
   pub calls : AreChosen program (routine_at program number) chosen slots
+  pub twins : (k : ℕ) (i : Instruction) (slot : ℕ) → twin_at k i ≡ Some slot → IsTwinSlot (routine_at program number) slots i slot
   pub few : slots < 2 ^ 64
-  pub standing : places ≡ opened_places program chosen true 0 0 (routine_at program number).code
-  pub resting : rests ≡ opened_places program chosen false 0 (opened_end program chosen true 0 0 (routine_at program number).code) (routine_at program number).code
+  pub standing : places ≡ opened_places program chosen twin_at true 0 0 (routine_at program number).code
+  pub resting : rests ≡ opened_places program chosen twin_at false 0 (opened_end program chosen twin_at true 0 0 (routine_at program number).code) (routine_at program number).code
   pub fit : (k : ℕ) → place_in rests k < 2 ^ 64
 
 abbrev pub IsKnown : Caller → Type 0
 IsKnown caller =
-    AreParts caller.plain.now caller.number caller.choice.now.chosen.items caller.places.now caller.rests.now caller.choice.now.slots
+    AreParts caller.plain.now caller.number caller.choice.now.chosen.items (twin_by caller.plain.now caller.number caller.choice.now) caller.places.now caller.rests.now
+    caller.choice.now.slots
 
 -- ---- functions that are made
 

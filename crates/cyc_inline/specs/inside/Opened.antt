@@ -1,8 +1,10 @@
 -- The code of a function some of whose calls are inlined.
-use Rattle.std.specs.Prelude.{◌≡◌, ℕ, zero, suc, ◌+◌, ◌<◌, ◌≤◌, ◌⊎◌, Bool, true, false, List, [], ◌∷◌, ◌++◌, length, Option, Some, None, slice_get, slice_index_or}
+use Rattle.std.specs.Prelude.{◌≡◌, ℕ, zero, suc, ◌+◌, ◌<◌, ◌≤◌, ◌⊎◌, Bool, true, false, not, List, [], ◌∷◌, ◌++◌, length, Option, Some, None, slice_get, slice_index_or}
 use Rattle.std.specs.List.{AllByRecursion}
 use Rattle.cyc_plain.specs.declared.instruction.Instruction.{Instruction}
 use Rattle.cyc_plain.specs.declared.instruction.Instruction.TheVariants as instructions
+use Rattle.cyc_plain.specs.declared.instruction.BinaryOperator.{BinaryOperator}
+use Rattle.cyc_plain.specs.declared.instruction.BinaryOperator.TheVariants as binary
 use Rattle.cyc_plain.specs.declared.instruction.Operand.{Operand}
 use Rattle.cyc_plain.specs.declared.instruction.Operand.TheVariants as operands
 use Rattle.cyc_plain.specs.inside.Memory.{pins, is_pinned}
@@ -98,15 +100,49 @@ pub record IsSite (program : Program) (s : Routine) (origins : List Origin) (shi
   pub body : (k : ℕ) (i : Instruction) → slice_get (routine_at program callee).code k ≡ Some i
       → StandsInside s.code origins shift result (routine_at program callee).results behind callee place k i (is_end i)
 
--- what stands for an instruction of the caller: itself, or where it is a call, perhaps the callee's code
+-- ---- twins
+
+-- An instruction that computes or loads a word may have a twin in front of it, which computes or loads the same for a further slot. A division
+-- has none, since it may fail.
+abbrev pub is_division : BinaryOperator → Bool
+is_division binary.Divide = true
+is_division binary.Remainder = true
+is_division operator = false
+
+abbrev pub may_have_twin : Instruction → Bool
+may_have_twin (instructions.Binary operator destination left right) = not (is_division operator)
+may_have_twin (instructions.LoadGlobal destination global) = true
+may_have_twin (instructions.Load destination address offset) = true
+may_have_twin instruction = false
+
+-- the same for another slot
+abbrev pub twin : (slot : ℕ) → Instruction → Instruction
+twin slot (instructions.Binary operator destination left right) = instructions.Binary operator slot left right
+twin slot (instructions.LoadGlobal destination global) = instructions.LoadGlobal slot global
+twin slot (instructions.Load destination address offset) = instructions.Load slot address offset
+twin slot instruction = instruction
+
+-- Its twin stands in front of an instruction, for a slot that the function given does not have.
+pub record IsTwinned (r s : Routine) (origins : List Origin) (function : ℕ) (place : ℕ → ℕ) (index : ℕ) (i : Instruction) : Type 0 where
+  pub slot : ℕ
+  pub further : r.slots ≤ slot
+  pub room : slot < s.slots
+  pub may : may_have_twin i ≡ true
+  pub at : At s.code (place index) (twin slot i)
+  pub itself : At s.code (place index + 1) (moved 0 place i)
+  pub made : AreMadeOf origins (place index) 2 (origin_at function index)
+  pub next : place (index + 1) ≡ place index + 2
+
+-- What stands for an instruction of the caller: itself, perhaps with its twin in front of it, or where it is a call, perhaps the callee's code.
 abbrev pub StandsFor : Program → (r s : Routine) → List Origin → (function : ℕ) → (place : ℕ → ℕ) → (index : ℕ) → Instruction → Type 0
 StandsFor program r s origins function place index (instructions.Call callee arguments count result) =
     (At s.code (place index) (instructions.Call callee arguments count result) × AreMadeOf origins (place index) 1 (origin_at function index)
     × (place (index + 1) ≡ place index + 1))
     ⊎ IsSite program s origins r.slots function index (place index) (place (index + 1)) callee arguments count result
 StandsFor program r s origins function place index i =
-    At s.code (place index) (moved 0 place i) × AreMadeOf origins (place index) 1 (origin_at function index)
-    × (leaves i ≡ false → place (index + 1) ≡ place index + 1)
+    (At s.code (place index) (moved 0 place i) × AreMadeOf origins (place index) 1 (origin_at function index)
+    × (leaves i ≡ false → place (index + 1) ≡ place index + 1))
+    ⊎ IsTwinned r s origins function place index i
 
 -- A function with some of its calls inlined. Each instruction of its code is made of one of the program: of its own code, or of a leaf's.
 pub record IsOpened (program : Program) (function : ℕ) (r s : Routine) (origins : List Origin) : Type 0 where

@@ -22,7 +22,10 @@ returns c =
     through : (q : Program) → q ≡ view_program c.args.program.now.tree → IsLowered q c.in_ok-plain.plain → IsProgramOf q c.in_ok-simplified.simplified
     through q same is =
         let made = c.in_ok-inlined.ensures in
-        simplified_is q c.in_ok-inlined.inlined.plain c.in_ok-simplified.simplified made.inlined.plain.well_formed.main
-        (inlined_is q c.in_ok-plain.plain c.in_ok-inlined.inlined.plain c.room_for.result is.well_formed.main (lowered_is q c.in_ok-plain.plain is) made.inlined made.size
-        (omega (arith, c.room_for.ensures, ap (λ (r : Program). size_per_weight * program_weight r) same)))
+        let named = c.in_ok-named.ensures in
+        let room : c.room_for-room.result ≤ size_per_weight * program_weight q = omega (arith, c.room_for-room.ensures, ap (λ (r : Program). size_per_weight * program_weight r) same) in
+        simplified_is q c.in_ok-named.named.plain c.in_ok-simplified.simplified named.inlined.plain.well_formed.main
+        (inlined_is q c.in_ok-inlined.inlined.plain c.in_ok-named.named.plain c.room_for-room.result made.inlined.plain.well_formed.main
+        (inlined_is q c.in_ok-plain.plain c.in_ok-inlined.inlined.plain c.room_for-room.result is.well_formed.main (lowered_is q c.in_ok-plain.plain is) made.inlined made.size room)
+        named.inlined named.size room)
         c.in_ok-simplified.ensures

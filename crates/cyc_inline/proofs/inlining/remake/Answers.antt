@@ -4,7 +4,7 @@ use Rattle.cyc_plain.specs.inside.Program.{Program, size}
 use Rattle.cyc_inline.specs.inside.Changes.{AreTold, notes_of}
 use Rattle.cyc_inline.specs.inside.Inlined.{IsInlined}
 use Rattle.cyc_inline.proofs.EmissionPrograms.{whole_plain, whole_inlined, whole_small, whole_told}
-use Rattle.cyc_inline.proofs.inlining.open_calls.Goals as goal
+use Rattle.cyc_inline.proofs.inlining.remake.Goals as goal
 
 pub new-requires : goal.new-requires
 new-requires c =

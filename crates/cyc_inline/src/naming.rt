@@ -1,0 +1,571 @@
+//! Which expressions of a function get slots of their own: those that are computed again behind a place where the slot that
+//! had them got another word. Nothing is promised of it: what is wanted is checked where it is used.
+use cyc_plain::{
+    BinaryOperator, Function, Instruction, LAYOUT_WORDS, MOST_FRAME_WORDS, Operand, Plain,
+    RECORD_WORDS, Request,
+};
+use std::alloc::{AllocError, Global};
+
+/// So many expressions of one bucket are compared at most.
+const MOST_COMPARED: usize = 8;
+
+/// What the kinds of loads are numbered by, behind the operators.
+const LOAD: usize = 16;
+
+const LOAD_GLOBAL: usize = 17;
+
+/// How many slots a function has with those that its expressions get, and for each of its instructions which of them its
+/// twin is for, or 0.
+#[derive(Drop)]
+pub(crate) struct Twins {
+    pub(crate) slots: usize,
+    pub(crate) wanted: Vec<usize>,
+}
+
+/// What an operand stands for, as far as it is known: a word, a slot, or an expression.
+#[derive(Clone, Copy)]
+enum Value {
+    Word { word: u32 },
+    Slot { number: usize },
+    Expression { number: usize },
+}
+
+/// What an instruction computes or loads, and of what.
+#[derive(Clone, Copy)]
+struct Shape {
+    kind: usize,
+    left: Value,
+    right: Value,
+}
+
+/// An expression. Times are numbers of instructions, from 1 on.
+#[derive(Clone, Copy)]
+struct Expression {
+    shape: Shape,
+    /// The number of the one before it in its bucket, and 1 more, or 0.
+    before: usize,
+    /// When it was computed last, and since when it has this value.
+    seen_at: usize,
+    since: usize,
+    /// The slot that got it last.
+    holder: usize,
+    /// Whether it was computed again where the holder had another word.
+    is_needed: bool,
+    /// The slot of its own, or 0.
+    slot: usize,
+}
+
+/// What a slot has had since a time.
+#[derive(Clone, Copy)]
+struct Name {
+    value: Value,
+    since: usize,
+}
+
+/// Slots that an instruction writes.
+#[derive(Clone, Copy)]
+struct Slots {
+    first: usize,
+    count: usize,
+}
+
+#[derive(Drop)]
+struct Search {
+    /// Whether each slot has its address taken.
+    pinned: Vec<bool>,
+    /// Whether the code jumps back to each place.
+    heads: Vec<bool>,
+    /// When each slot was written last, and what it has had since.
+    written: Vec<usize>,
+    names: Vec<Name>,
+    expressions: Vec<Expression>,
+    /// For each bucket the newest expression's number, and 1 more, or 0.
+    buckets: Vec<usize>,
+    /// For each instruction so far its expression's number, and 1 more, or 0.
+    seen: Vec<usize>,
+    /// When memory was changed last, and since when names are good.
+    stored: usize,
+    begun: usize,
+}
+
+fn number_in(numbers: &[usize], index: usize) -> usize {
+    match numbers.get(index) {
+        Some(number) => *number,
+        None => 0,
+    }
+}
+
+fn flag_in(flags: &[bool], index: usize) -> bool {
+    match flags.get(index) {
+        Some(flag) => *flag,
+        None => true,
+    }
+}
+
+fn is_same(one: Value, other: Value) -> bool {
+    match one {
+        Value::Word { word } => match other {
+            Value::Word { word: second } => word == second,
+            _ => false,
+        },
+        Value::Slot { number } => match other {
+            Value::Slot { number: second } => number == second,
+            _ => false,
+        },
+        Value::Expression { number } => match other {
+            Value::Expression { number: second } => number == second,
+            _ => false,
+        },
+    }
+}
+
+fn is_same_shape(one: Shape, other: Shape) -> bool {
+    one.kind == other.kind && is_same(one.left, other.left) && is_same(one.right, other.right)
+}
+
+fn is_slot(value: Value, slot: usize) -> bool {
+    match value {
+        Value::Slot { number } => number == slot,
+        _ => false,
+    }
+}
+
+/// A number by which values are told apart.
+fn sum_of(value: Value) -> usize {
+    match value {
+        Value::Word { word } => (word as usize).wrapping_mul(3),
+        Value::Slot { number } => number.wrapping_mul(3).wrapping_add(1),
+        Value::Expression { number } => number.wrapping_mul(3).wrapping_add(2),
+    }
+}
+
+fn bucket_of(shape: Shape, count: usize) -> usize {
+    if count == 0 {
+        return 0;
+    }
+    let left = sum_of(shape.left).wrapping_mul(961);
+    let right = sum_of(shape.right).wrapping_mul(31);
+    left.wrapping_add(right).wrapping_add(shape.kind) % count
+}
+
+/// The number of an operator that has a twin.
+fn kind_of(operator: BinaryOperator) -> Option<usize> {
+    match operator {
+        BinaryOperator::Add => Some(0),
+        BinaryOperator::Subtract => Some(1),
+        BinaryOperator::Multiply => Some(2),
+        BinaryOperator::Divide | BinaryOperator::Remainder => None,
+        BinaryOperator::And => Some(5),
+        BinaryOperator::Or => Some(6),
+        BinaryOperator::Xor => Some(7),
+        BinaryOperator::ShiftLeft => Some(8),
+        BinaryOperator::ShiftRight => Some(9),
+        BinaryOperator::Equal => Some(10),
+        BinaryOperator::NotEqual => Some(11),
+        BinaryOperator::Less => Some(12),
+        BinaryOperator::LessOrEqual => Some(13),
+        BinaryOperator::Greater => Some(14),
+        BinaryOperator::GreaterOrEqual => Some(15),
+    }
+}
+
+fn slots_from(first: usize, count: usize) -> Slots {
+    Slots { first, count }
+}
+
+/// The slots that a request's answer comes to.
+fn answered(request: Request) -> Slots {
+    match request {
+        Request::OpenLexical { destination } => slots_from(destination, 2),
+        Request::OpenDynamic { destination } => slots_from(destination, 1),
+        Request::Allocate { destination, .. } => slots_from(destination, 1),
+        Request::CloseTo { .. } | Request::CloseDynamic { .. } | Request::Free { .. } => slots_from(
+            0, 0,
+        ),
+    }
+}
+
+/// The slots that an instruction writes.
+fn written_by(plain: &Plain, instruction: Instruction) -> Slots {
+    match instruction {
+        Instruction::Move { destination, .. }
+        | Instruction::Unary { destination, .. }
+        | Instruction::Binary { destination, .. }
+        | Instruction::ReadByte { destination }
+        | Instruction::AddressOf { destination, .. }
+        | Instruction::LoadGlobal { destination, .. }
+        | Instruction::Load { destination, .. }
+        | Instruction::LoadByte { destination, .. }
+        | Instruction::CountLexical { destination } => slots_from(destination, 1),
+        Instruction::MoveWords {
+            destination,
+            count,
+            ..
+        } => slots_from(destination, count),
+        Instruction::Call {
+            function,
+            result,
+            ..
+        } => match plain.functions().get(function) {
+            Some(callee) => slots_from(result, callee.results),
+            None => slots_from(result, 3),
+        },
+        Instruction::Try { first, .. } => slots_from(first, RECORD_WORDS),
+        Instruction::Ask { request } => answered(request),
+        _ => slots_from(0, 0),
+    }
+}
+
+/// Whether an instruction may change memory.
+fn stores(instruction: Instruction) -> bool {
+    match instruction {
+        Instruction::Store { .. }
+        | Instruction::StoreByte { .. }
+        | Instruction::StoreGlobal { .. }
+        | Instruction::Call { .. }
+        | Instruction::Ask { .. }
+        | Instruction::Try { .. } => true,
+        _ => false,
+    }
+}
+
+/// Whether the code jumps back to each place.
+fn heads_of(alloc: Global, code: &[Instruction]) -> Result<Vec<bool>, AllocError> {
+    let mut heads = vec![in alloc; false; code.len()]?;
+    for index in 0..code.len() {
+        match code[index] {
+            Instruction::Jump { target } | Instruction::Branch { target, .. } => {
+                if target <= index {
+                    if let Some(head) = heads.get_mut(target) {
+                        *head = true;
+                    }
+                }
+            }
+            _ => {}
+        }
+    }
+    Ok(heads)
+}
+
+/// Whether each slot has its address taken.
+fn pins_of(alloc: Global, function: &Function) -> Result<Vec<bool>, AllocError> {
+    let mut pinned = vec![in alloc; false; function.slots]?;
+    for index in 0..function.code.len() {
+        let taken = match function.code[index] {
+            Instruction::AddressOf { slot, count, .. } => slots_from(slot, count),
+            Instruction::Try { first, .. } => slots_from(first, RECORD_WORDS),
+            _ => slots_from(0, 0),
+        };
+        for word in 0..taken.count {
+            if let Some(pin) = pinned.get_mut(taken.first.wrapping_add(word)) {
+                *pin = true;
+            }
+        }
+    }
+    Ok(pinned)
+}
+
+impl Search {
+    fn new(alloc: Global, function: &Function) -> Result<Search, AllocError> {
+        let nothing = Name {
+            value: Value::Word { word: 0 },
+            since: 0,
+        };
+        Ok(Search {
+            pinned: pins_of(alloc, function)?,
+            heads: heads_of(alloc, &function.code)?,
+            written: vec![in alloc; 0; function.slots]?,
+            names: vec![in alloc; nothing; function.slots]?,
+            expressions: Vec::new(alloc),
+            buckets: vec![in alloc; 0; function.code.len()]?,
+            seen: Vec::with_capacity(alloc, function.code.len())?,
+            stored: 0,
+            begun: 1,
+        })
+    }
+
+    /// When what a value stands for was changed last.
+    fn changed(&self, value: Value) -> usize {
+        match value {
+            Value::Word { .. } => 0,
+            Value::Slot { number } => number_in(&self.written, number),
+            Value::Expression { number } => match self.expressions.get(number) {
+                Some(expression) => expression.since,
+                None => 0,
+            },
+        }
+    }
+
+    /// What a slot has: what it got last, if that is as it was, or else itself.
+    fn value_in(&self, slot: usize) -> Value {
+        if let Some(name) = self.names.get(slot) {
+            if name.since >= self.begun && self.changed(name.value) <= name.since {
+                return name.value;
+            }
+        }
+        Value::Slot { number: slot }
+    }
+
+    fn value_of(&self, operand: Operand) -> Value {
+        match operand {
+            Operand::Word { word } => Value::Word { word },
+            Operand::Slot { number } => self.value_in(number),
+        }
+    }
+
+    fn is_free(&self, operand: Operand) -> bool {
+        match operand {
+            Operand::Word { .. } => true,
+            Operand::Slot { number } => !flag_in(&self.pinned, number),
+        }
+    }
+
+    /// What an instruction computes or loads for a slot that nothing else reaches.
+    fn shape_of(&self, instruction: Instruction) -> Option<Shape> {
+        match instruction {
+            Instruction::Binary {
+                operator,
+                destination,
+                left,
+                right,
+            } => {
+                let kind = kind_of(operator)?;
+                let shape = Shape {
+                    kind,
+                    left: self.value_of(left),
+                    right: self.value_of(right),
+                };
+                let is_step = is_slot(shape.left, destination) || is_slot(shape.right, destination);
+                if is_step || !self.is_free(left) || !self.is_free(right) {
+                    None
+                } else {
+                    Some(shape)
+                }
+            }
+            Instruction::Load {
+                address,
+                offset,
+                ..
+            } => Some(Shape {
+                kind: LOAD,
+                left: self.value_of(address),
+                right: Value::Word { word: offset },
+            }),
+            Instruction::LoadGlobal { global, .. } => Some(Shape {
+                kind: LOAD_GLOBAL,
+                left: Value::Slot { number: global },
+                right: Value::Word { word: 0 },
+            }),
+            _ => None,
+        }
+    }
+
+    /// When what an expression is made of was changed last.
+    fn made(&self, shape: Shape) -> usize {
+        if shape.kind == LOAD_GLOBAL {
+            return self.stored;
+        }
+        let operands = later(self.changed(shape.left), self.changed(shape.right));
+        if shape.kind == LOAD {
+            later(operands, self.stored)
+        } else {
+            operands
+        }
+    }
+
+    /// The number of an expression that was seen, and 1 more, or 0.
+    fn find(&self, shape: Shape) -> usize {
+        let mut at = number_in(&self.buckets, bucket_of(shape, self.buckets.len()));
+        for _ in 0..MOST_COMPARED {
+            if at == 0 {
+                return 0;
+            }
+            match self.expressions.get(at - 1) {
+                Some(expression) => {
+                    if is_same_shape(expression.shape, shape) {
+                        return at;
+                    }
+                    at = expression.before;
+                }
+                None => {
+                    return 0;
+                }
+            }
+        }
+        0
+    }
+
+    /// An expression of this number is computed once more, for a slot.
+    fn see_again(&mut self, number: usize, made: usize, slot: usize, time: usize) {
+        let written = match self.expressions.get(number) {
+            Some(held) => number_in(&self.written, held.holder),
+            None => 0,
+        };
+        if let Some(expression) = self.expressions.get_mut(number) {
+            if expression.seen_at < made {
+                expression.since = time;
+            } else if written > expression.seen_at {
+                expression.is_needed = true;
+            }
+            expression.seen_at = time;
+            expression.holder = slot;
+        }
+    }
+
+    /// An expression is computed, for a slot. Answers its number, and 1 more.
+    fn see(&mut self, shape: Shape, slot: usize, time: usize) -> Result<usize, AllocError> {
+        let at = self.find(shape);
+        if at > 0 {
+            let made = self.made(shape);
+            self.see_again(at - 1, made, slot, time);
+            return Ok(at);
+        }
+        let bucket = bucket_of(shape, self.buckets.len());
+        self.expressions.push(Expression {
+            shape,
+            before: number_in(&self.buckets, bucket),
+            seen_at: time,
+            since: time,
+            holder: slot,
+            is_needed: false,
+            slot: 0,
+        })?;
+        let at = self.expressions.len();
+        if let Some(newest) = self.buckets.get_mut(bucket) {
+            *newest = at;
+        }
+        Ok(at)
+    }
+
+    /// A slot is written, and has this value then.
+    fn write(&mut self, slot: usize, value: Value, time: usize) {
+        if flag_in(&self.pinned, slot) {
+            self.stored = time;
+            return;
+        }
+        if let Some(written) = self.written.get_mut(slot) {
+            *written = time;
+        }
+        if let Some(name) = self.names.get_mut(slot) {
+            *name = Name { value, since: time };
+        }
+    }
+
+    /// The words of one slot after another come to others.
+    fn copy(&mut self, destination: usize, source: usize, count: usize, time: usize) {
+        for word in 0..count {
+            let from = source.wrapping_add(word);
+            let value = self.value_in(from);
+            let value = if flag_in(&self.pinned, from) {
+                Value::Slot {
+                    number: destination.wrapping_add(word),
+                }
+            } else {
+                value
+            };
+            self.write(destination.wrapping_add(word), value, time);
+        }
+    }
+
+    /// The slots that an instruction writes have something new.
+    fn renew(&mut self, slots: Slots, time: usize) {
+        for word in 0..slots.count {
+            let slot = slots.first.wrapping_add(word);
+            self.write(slot, Value::Slot { number: slot }, time);
+        }
+    }
+
+    /// One instruction more.
+    fn look(
+        &mut self,
+        plain: &Plain,
+        instruction: Instruction,
+        index: usize,
+    ) -> Result<(), AllocError> {
+        let time = index.wrapping_add(1);
+        if flag_in(&self.heads, index) {
+            self.begun = time;
+        }
+        let slots = written_by(plain, instruction);
+        let mut at = 0;
+        if let Some(shape) = self.shape_of(instruction) {
+            if !flag_in(&self.pinned, slots.first) {
+                at = self.see(shape, slots.first, time)?;
+            }
+        }
+        self.seen.push(at)?;
+        match instruction {
+            Instruction::Move {
+                destination,
+                source: Operand::Slot { number },
+            } => self.copy(destination, number, 1, time),
+            Instruction::MoveWords {
+                destination,
+                source,
+                count,
+            } => self.copy(destination, source, count, time),
+            _ => self.renew(slots, time),
+        }
+        if at > 0 {
+            self.write(slots.first, Value::Expression { number: at - 1 }, time);
+        }
+        if stores(instruction) {
+            self.stored = time;
+        }
+        Ok(())
+    }
+
+    /// Expressions that are needed get slots, while a frame has room. Answers how many slots there are then.
+    fn give_slots(&mut self, slots: usize) -> usize {
+        let mut next = slots;
+        for number in 0..self.expressions.len() {
+            if let Some(expression) = self.expressions.get_mut(number) {
+                if expression.is_needed && next < MOST_FRAME_WORDS - LAYOUT_WORDS {
+                    expression.slot = next;
+                    next += 1;
+                }
+            }
+        }
+        next
+    }
+
+    /// For each instruction the slot of its expression, or 0.
+    fn wanted(&self, alloc: Global) -> Result<Vec<usize>, AllocError> {
+        let mut wanted = Vec::with_capacity(alloc, self.seen.len())?;
+        for at in &self.seen {
+            let mut slot = 0;
+            if *at > 0 {
+                if let Some(expression) = self.expressions.get(*at - 1) {
+                    slot = expression.slot;
+                }
+            }
+            wanted.push(slot)?;
+        }
+        Ok(wanted)
+    }
+}
+
+fn later(one: usize, other: usize) -> usize {
+    if one < other { other } else { one }
+}
+
+/// Which expressions of a function get slots of their own, if some do.
+pub(crate) fn twins_of(
+    alloc: Global,
+    plain: &Plain,
+    function: &Function,
+) -> Result<Option<Twins>, AllocError> {
+    if function.frame_count > MOST_FRAME_WORDS {
+        return Ok(None);
+    }
+    let mut search = Search::new(alloc, function)?;
+    for index in 0..function.code.len() {
+        search.look(plain, function.code[index], index)?;
+    }
+    let slots = search.give_slots(function.slots);
+    if slots == function.slots {
+        return Ok(None);
+    }
+    let wanted = search.wanted(alloc)?;
+    Ok(Some(Twins { slots, wanted }))
+}
