@@ -1,10 +1,15 @@
 -- Which calls may be opened and which slots are for twins, and that the numbers of the code fit.
 use Rattle.std.proofs.Common.{◌≡◌, ℕ, zero, suc, ◌+◌, ◌^◌, ◌<◌, ◌≤◌, Bool, true, false, List, [], ◌∷◌, ◌++◌, length, Option, Some, None, refl, sym, ap, subst, ◌∙◌, arith, inl, inr}
-use Rattle.std.specs.Prelude.{◌⊎◌, ◌==◌, nat_lt, nat_le, if◌then◌else◌, sum_by}
+use Rattle.std.specs.Prelude.{◌⊎◌, ◌==◌, nat_lt, nat_le, if◌then◌else◌, not, ◌&&◌, filter, slice_get, sum_by}
+use Rattle.std.specs.List.{AllByRecursion}
+use Rattle.std.specs.declared.vec.Vec.{Vec}
+use Rattle.std.specs.declared.alloc.Global.{Global}
 use Rattle.std.proofs.lemmas.Bool.{false≢true, leb-true}
 use Rattle.std.proofs.lemmas.List.{length-append}
 use Rattle.std.proofs.lemmas.List.Elements.{recursion_from_All}
 use Rattle.std.proofs.lemmas.List.Sums.{sum_by-cons, get_or-le-sum_by}
+use Rattle.cyc_words.proofs.Booleans.{and_left, and_right}
+use Rattle.cyc_words.proofs.Lists.{all_append}
 use Rattle.cyc_words.proofs.Members.{All_at}
 use Rattle.cyc_words.proofs.Numbers.{nat_lt-true}
 use Rattle.cyc_plain.specs.declared.instruction.BinaryOperator.{BinaryOperator}
@@ -20,12 +25,13 @@ use Rattle.cyc_plain.specs.inside.Requests.{request_size}
 use Rattle.cyc_plain.specs.inside.Straight.{At}
 use Rattle.cyc_plain.specs.inside.WellFormed.{IsOperand, IsCallInRange, IsInRange, IsPlain}
 use Rattle.cyc_plain.proofs.Placed.{routine_in}
+use Rattle.cyc_inline.specs.declared.limits.TheConstants.{MOST_LEADS}
 use Rattle.cyc_inline.specs.declared.choice.Choice.{Choice}
 use Rattle.cyc_inline.specs.declared.choice.Need.{Need}
 use Rattle.cyc_inline.specs.declared.site.Call.{Call}
-use Rattle.cyc_inline.specs.inside.Opened.{may_have_twin, is_end}
+use Rattle.cyc_inline.specs.inside.Opened.{is_division, may_have_twin, twin, may_be_led, IsTwin, IsLead, is_end}
 use Rattle.cyc_inline.specs.inside.Sites.{chosen_call, place_in, site_size}
-use Rattle.cyc_inline.specs.inside.Emission.{IsFitOperand, IsFit, IsFitEnd, IsFitInside, IsFitSite, IsLeaf, AreLeafs, IsSmallCall, IsOpenable, IsNeed, IsChosenBy, AreChosen, call_size, twin_by, IsTwinSlot}
+use Rattle.cyc_inline.specs.inside.Emission.{IsFitOperand, IsFit, IsFitEnd, IsFitInside, IsFitSite, IsLeaf, AreLeafs, IsSmallCall, IsOpenable, IsNeed, IsChosenBy, AreChosen, call_size, twin_by, twin_in, is_further, fits_in, may_lead, leads_if, front_by, IsFront}
 
 -- ---- a call that is chosen
 
@@ -86,10 +92,17 @@ few_instructions program number plain is_function =
     let small = plain.small in
     omega (arith, code_few (routine_at program number).code, get_or-le-sum_by size program.functions number no_routine is_function, small)
 
--- ---- twins
+-- ---- what stands in front of an instruction
 
-pub twin_slots : (program : Program) (number : ℕ) (choice : Choice) (index : ℕ) (i : Instruction) (slot : ℕ) → twin_by program number choice index i ≡ Some slot
-    → IsTwinSlot (routine_at program number) choice.slots i slot
+-- what has a twin may have others in front of it
+twin_led : (i : Instruction) → may_have_twin i ≡ true → may_be_led i ≡ true
+twin_led (instructions.Binary operator destination left right) may = refl
+twin_led (instructions.LoadGlobal destination global) may = refl
+twin_led (instructions.Load destination address offset) may = refl
+twin_led i may = absurd (false≢true may)
+
+twin_slots : (program : Program) (number : ℕ) (choice : Choice) (index : ℕ) (i : Instruction) (slot : ℕ) → twin_by program number choice index i ≡ Some slot
+    → IsTwin (routine_at program number).slots choice.slots i (twin slot i)
 twin_slots program number choice index i slot is =
     go (may_have_twin i) (nat_le r.slots wanted) (nat_lt wanted choice.slots) refl refl refl is
   where
@@ -100,17 +113,103 @@ twin_slots program number choice index i slot is =
     wanted = place_in choice.twins.items index
 
     go : (may least below : Bool) → may_have_twin i ≡ may → nat_le r.slots wanted ≡ least → nat_lt wanted choice.slots ≡ below
-        → (if may then (if least then (if below then Some wanted else None) else None) else None) ≡ Some slot → IsTwinSlot r choice.slots i slot
+        → (if may then (if least then (if below then Some wanted else None) else None) else None) ≡ Some slot → IsTwin r.slots choice.slots i (twin slot i)
     go true true true may least below is =
         let same : wanted ≡ slot = cc in
         record {
+          slot = slot;
           further = subst (λ (n : ℕ). r.slots ≤ n) same (leb-true r.slots wanted least);
           room = subst (λ (n : ℕ). n < choice.slots) same (nat_lt-true wanted choice.slots below);
           may = may;
+          is = refl;
         }
     go true true false may least below is = absurd (let e : None ≡ Some slot = is in cc)
     go true false below may least is_below is = absurd (let e : None ≡ Some slot = is in cc)
     go false least below may is_least is_below is = absurd (let e : None ≡ Some slot = is in cc)
+
+pub no_division : (t : Bool) → not t ≡ true → t ≡ false
+no_division true may = absurd (false≢true may)
+no_division false may = refl
+
+further_least : (given slots slot : ℕ) → is_further given slots slot ≡ true → given ≤ slot
+further_least given slots slot is = leb-true given slot (and_left (nat_le given slot) (nat_lt slot slots) is)
+
+pub further_below : (given slots slot : ℕ) → is_further given slots slot ≡ true → slot < slots
+further_below given slots slot is = nat_lt-true slot slots (and_right (nat_le given slot) (nat_lt slot slots) is)
+
+-- what may be a lead is one
+pub is_lead : (globals given slots : ℕ) (x : Instruction) → may_lead globals given slots x ≡ true → IsLead given slots x
+is_lead globals given slots (instructions.Move destination source) may =
+    let further = and_left (is_further given slots destination) (fits_in slots source) may in
+    record { slot = destination; further = further_least given slots destination further; room = further_below given slots destination further; is = refl }
+is_lead globals given slots (instructions.Binary operator destination left right) may =
+    let more = is_further given slots destination && (fits_in slots left && fits_in slots right) in
+    let further = and_left (is_further given slots destination) (fits_in slots left && fits_in slots right) (and_right (not (is_division operator)) more may) in
+    let none = no_division (is_division operator) (and_left (not (is_division operator)) more may) in
+    record {
+      slot = destination;
+      further = further_least given slots destination further;
+      room = further_below given slots destination further;
+      is = ap (λ (t : Bool). if t then None else Some destination) none;
+    }
+is_lead globals given slots (instructions.LoadGlobal destination global) may =
+    let further = and_left (is_further given slots destination) (nat_lt global globals) may in
+    record { slot = destination; further = further_least given slots destination further; room = further_below given slots destination further; is = refl }
+is_lead globals given slots x may = absurd (false≢true may)
+
+module _ (program : Program) (r : Routine) (slots : ℕ) (i : Instruction) where
+  abbrev may : Instruction → Bool
+  may = may_lead (length program.globals) r.slots slots
+
+  abbrev Precedes : Instruction → Type 0
+  Precedes x = (may_lead (length program.globals) r.slots slots x ≡ true) ⊎ IsTwin r.slots slots i x
+
+  passed : (x : Instruction) (xs : List Instruction) (t : Bool) → may x ≡ t → AllByRecursion Precedes xs → AllByRecursion Precedes (if t then x ∷ xs else xs)
+  passed x xs true is rest = (inl is, rest)
+  passed x xs false is rest = rest
+
+  filtered : (xs : List Instruction) → AllByRecursion Precedes (filter may xs)
+  filtered [] = tt
+  filtered (x ∷ xs) = passed x (filter may xs) (may x) refl (filtered xs)
+
+  chosen_pass : (t : Bool) (wanted : List Instruction) → AllByRecursion Precedes (if t then filter may wanted else [])
+  chosen_pass true wanted = filtered wanted
+  chosen_pass false wanted = tt
+
+  leads_pass : (o : Option (Vec Instruction Global)) → AllByRecursion Precedes (leads_if (length program.globals) r.slots slots i o)
+  leads_pass (Some wanted) = chosen_pass (may_be_led i && nat_le (length wanted.items) MOST_LEADS) wanted.items
+  leads_pass None = tt
+
+  chosen_led : (led few : Bool) (wanted : List Instruction) → may_be_led i ≡ led → 0 < length (if led && few then filter may wanted else []) → may_be_led i ≡ true
+  chosen_led true few wanted is some = is
+  chosen_led false few wanted is some = absurd (omega (arith, some))
+
+  leads_led : (o : Option (Vec Instruction Global)) → 0 < length (leads_if (length program.globals) r.slots slots i o) → may_be_led i ≡ true
+  leads_led (Some wanted) some = chosen_led (may_be_led i) (nat_le (length wanted.items) MOST_LEADS) wanted.items refl some
+  leads_led None some = absurd (omega (arith, some))
+
+  module _ (further : Option ℕ) (is_twin : (slot : ℕ) → further ≡ Some slot → IsTwin r.slots slots i (twin slot i)) where
+    twin_passes : (o : Option ℕ) → further ≡ o → AllByRecursion Precedes (twin_in i o)
+    twin_passes (Some slot) is = (inr (is_twin slot is), tt)
+    twin_passes None is = tt
+
+    twin_is_led : (o : Option ℕ) → further ≡ o → 0 < length (twin_in i o) → may_be_led i ≡ true
+    twin_is_led (Some slot) is some = twin_led i (is_twin slot is).may
+    twin_is_led None is some = absurd (omega (arith, some))
+
+    either_led : (xs : List Instruction) → (0 < length xs → may_be_led i ≡ true) → 0 < length (xs ++ twin_in i further) → may_be_led i ≡ true
+    either_led [] first some = twin_is_led further refl some
+    either_led (x ∷ xs) first some = first (omega arith)
+
+    pub front_is : (o : Option (Vec Instruction Global)) → IsFront program r slots i (leads_if (length program.globals) r.slots slots i o ++ twin_in i further)
+    front_is o = record {
+      each = all_append Precedes (leads_if (length program.globals) r.slots slots i o) (twin_in i further) (leads_pass o) (twin_passes further refl);
+      some = either_led (leads_if (length program.globals) r.slots slots i o) (leads_led o);
+    }
+
+pub front_stands : (program : Program) (number : ℕ) (choice : Choice) (index : ℕ) (i : Instruction) → IsFront program (routine_at program number) choice.slots i (front_by program number choice index i)
+front_stands program number choice index i =
+    front_is program (routine_at program number) choice.slots i (twin_by program number choice index i) (twin_slots program number choice index i) (slice_get choice.leads.items index)
 
 -- ---- numbers that fit
 

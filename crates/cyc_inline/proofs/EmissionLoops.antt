@@ -1,5 +1,7 @@
 -- What is emitted in a loop, turn by turn: what is made so far, with what the rest becomes, is all of it.
-use Rattle.std.proofs.Common.{◌≡◌, ℕ, suc, ◌+◌, ◌-◌, ◌<◌, Bool, List, [], ◌∷◌, ◌++◌, Option, drop, sym, ap, ◌∙◌, arith}
+use Rattle.std.proofs.Common.{◌≡◌, ℕ, zero, suc, ◌+◌, ◌-◌, ◌<◌, Bool, List, [], ◌∷◌, ◌++◌, drop, length, replicate, refl, sym, ap, ◌∙◌, arith}
+use Rattle.std.specs.Prelude.{Result, Ok, Err, OnOk}
+use Rattle.std.specs.declared.alloc.AllocError.{AllocError}
 use Rattle.cyc_words.proofs.Lists.{drop_found, append_goes_on}
 use Rattle.cyc_plain.specs.declared.instruction.Instruction.{Instruction}
 use Rattle.cyc_plain.specs.declared.instruction.Instruction.TheVariants as instructions
@@ -29,54 +31,70 @@ passed_next destination source count word all old new below is before =
     before
 
 -- one instruction more has its place
-pub placed_next : (program : Program) (chosen : List ℕ) (twin_at : ℕ → Instruction → Option ℕ) (in_line : Bool) (code : List Instruction) (index here count : ℕ) (i : Instruction) (all old new : List ℕ) → At code index i
-    → new ≡ old ++ here ∷ [] → count ≡ part_count program in_line (chosen_call i (place_in chosen index)) (twin_at index i)
-    → old ++ opened_places program chosen twin_at in_line index here (drop index code) ≡ all
-    → new ++ opened_places program chosen twin_at in_line (index + 1) (here + count) (drop (index + 1) code) ≡ all
-placed_next program chosen twin_at in_line code index here count i all old new at is many before =
+pub placed_next : (program : Program) (chosen : List ℕ) (front_at : ℕ → Instruction → List Instruction) (in_line : Bool) (code : List Instruction) (index here count : ℕ) (i : Instruction) (all old new : List ℕ) → At code index i
+    → new ≡ old ++ here ∷ [] → count ≡ part_count program in_line (chosen_call i (place_in chosen index)) (length (front_at index i))
+    → old ++ opened_places program chosen front_at in_line index here (drop index code) ≡ all
+    → new ++ opened_places program chosen front_at in_line (index + 1) (here + count) (drop (index + 1) code) ≡ all
+placed_next program chosen front_at in_line code index here count i all old new at is many before =
     let next : suc index ≡ index + 1 = omega arith in
-    append_goes_on all old new (here ∷ []) (opened_places program chosen twin_at in_line (index + 1) (here + count) (drop (index + 1) code))
-    (opened_places program chosen twin_at in_line index here (drop index code)) is
-    (ap (opened_places program chosen twin_at in_line index here) (drop_found code index i at)
-    ∙ ap (λ (n : ℕ). here ∷ opened_places program chosen twin_at in_line n (here + part_count program in_line (chosen_call i (place_in chosen index)) (twin_at index i)) (drop (index + 1) code)) next
-    ∙ ap (λ (n : ℕ). here ∷ opened_places program chosen twin_at in_line (index + 1) (here + n) (drop (index + 1) code)) (sym many))
+    append_goes_on all old new (here ∷ []) (opened_places program chosen front_at in_line (index + 1) (here + count) (drop (index + 1) code))
+    (opened_places program chosen front_at in_line index here (drop index code)) is
+    (ap (opened_places program chosen front_at in_line index here) (drop_found code index i at)
+    ∙ ap (λ (n : ℕ). here ∷ opened_places program chosen front_at in_line n (here + part_count program in_line (chosen_call i (place_in chosen index)) (length (front_at index i))) (drop (index + 1) code)) next
+    ∙ ap (λ (n : ℕ). here ∷ opened_places program chosen front_at in_line (index + 1) (here + n) (drop (index + 1) code)) (sym many))
     before
 
 -- and the end stays where it is
-pub ended_next : (program : Program) (chosen : List ℕ) (twin_at : ℕ → Instruction → Option ℕ) (in_line : Bool) (code : List Instruction) (index here count all : ℕ) (i : Instruction) → At code index i
-    → count ≡ part_count program in_line (chosen_call i (place_in chosen index)) (twin_at index i) → opened_end program chosen twin_at in_line index here (drop index code) ≡ all
-    → opened_end program chosen twin_at in_line (index + 1) (here + count) (drop (index + 1) code) ≡ all
-ended_next program chosen twin_at in_line code index here count all i at many before =
+pub ended_next : (program : Program) (chosen : List ℕ) (front_at : ℕ → Instruction → List Instruction) (in_line : Bool) (code : List Instruction) (index here count all : ℕ) (i : Instruction) → At code index i
+    → count ≡ part_count program in_line (chosen_call i (place_in chosen index)) (length (front_at index i)) → opened_end program chosen front_at in_line index here (drop index code) ≡ all
+    → opened_end program chosen front_at in_line (index + 1) (here + count) (drop (index + 1) code) ≡ all
+ended_next program chosen front_at in_line code index here count all i at many before =
     let next : suc index ≡ index + 1 = omega arith in
-    sym (ap (opened_end program chosen twin_at in_line index here) (drop_found code index i at)
-    ∙ ap (λ (n : ℕ). opened_end program chosen twin_at in_line n (here + part_count program in_line (chosen_call i (place_in chosen index)) (twin_at index i)) (drop (index + 1) code)) next
-    ∙ ap (λ (n : ℕ). opened_end program chosen twin_at in_line (index + 1) (here + n) (drop (index + 1) code)) (sym many))
+    sym (ap (opened_end program chosen front_at in_line index here) (drop_found code index i at)
+    ∙ ap (λ (n : ℕ). opened_end program chosen front_at in_line n (here + part_count program in_line (chosen_call i (place_in chosen index)) (length (front_at index i))) (drop (index + 1) code)) next
+    ∙ ap (λ (n : ℕ). opened_end program chosen front_at in_line (index + 1) (here + n) (drop (index + 1) code)) (sym many))
     ∙ before
 
 -- what one instruction more becomes
-pub opened_next : (program : Program) (number : ℕ) (chosen : List ℕ) (twin_at : ℕ → Instruction → Option ℕ) (place rest : ℕ → ℕ) (in_line : Bool) (code : List Instruction) (index : ℕ) (i : Instruction) (all old new : List Instruction)
-    → At code index i → new ≡ old ++ part program number place rest in_line index i (chosen_call i (place_in chosen index)) (twin_at index i)
-    → old ++ opened_code program number chosen twin_at place rest in_line index (drop index code) ≡ all
-    → new ++ opened_code program number chosen twin_at place rest in_line (index + 1) (drop (index + 1) code) ≡ all
-opened_next program number chosen twin_at place rest in_line code index i all old new at is before =
+pub opened_next : (program : Program) (number : ℕ) (chosen : List ℕ) (front_at : ℕ → Instruction → List Instruction) (place rest : ℕ → ℕ) (in_line : Bool) (code : List Instruction) (index : ℕ) (i : Instruction) (all old new : List Instruction)
+    → At code index i → new ≡ old ++ part program number place rest in_line index i (chosen_call i (place_in chosen index)) (front_at index i)
+    → old ++ opened_code program number chosen front_at place rest in_line index (drop index code) ≡ all
+    → new ++ opened_code program number chosen front_at place rest in_line (index + 1) (drop (index + 1) code) ≡ all
+opened_next program number chosen front_at place rest in_line code index i all old new at is before =
     let next : suc index ≡ index + 1 = omega arith in
-    let here = part program number place rest in_line index i (chosen_call i (place_in chosen index)) (twin_at index i) in
-    append_goes_on all old new here (opened_code program number chosen twin_at place rest in_line (index + 1) (drop (index + 1) code))
-    (opened_code program number chosen twin_at place rest in_line index (drop index code)) is
-    (ap (opened_code program number chosen twin_at place rest in_line index) (drop_found code index i at)
-    ∙ ap (λ (n : ℕ). here ++ opened_code program number chosen twin_at place rest in_line n (drop (index + 1) code)) next)
+    let here = part program number place rest in_line index i (chosen_call i (place_in chosen index)) (front_at index i) in
+    append_goes_on all old new here (opened_code program number chosen front_at place rest in_line (index + 1) (drop (index + 1) code))
+    (opened_code program number chosen front_at place rest in_line index (drop index code)) is
+    (ap (opened_code program number chosen front_at place rest in_line index) (drop_found code index i at)
+    ∙ ap (λ (n : ℕ). here ++ opened_code program number chosen front_at place rest in_line n (drop (index + 1) code)) next)
     before
 
 -- and what that is made of
-pub opened_origins_next : (program : Program) (number : ℕ) (chosen : List ℕ) (twin_at : ℕ → Instruction → Option ℕ) (in_line : Bool) (code : List Instruction) (index : ℕ) (i : Instruction) (all old new : List Origin)
-    → At code index i → new ≡ old ++ part_origins program number in_line index (chosen_call i (place_in chosen index)) (twin_at index i)
-    → old ++ opened_origins program number chosen twin_at in_line index (drop index code) ≡ all
-    → new ++ opened_origins program number chosen twin_at in_line (index + 1) (drop (index + 1) code) ≡ all
-opened_origins_next program number chosen twin_at in_line code index i all old new at is before =
+pub opened_origins_next : (program : Program) (number : ℕ) (chosen : List ℕ) (front_at : ℕ → Instruction → List Instruction) (in_line : Bool) (code : List Instruction) (index : ℕ) (i : Instruction) (all old new : List Origin)
+    → At code index i → new ≡ old ++ part_origins program number in_line index (chosen_call i (place_in chosen index)) (length (front_at index i))
+    → old ++ opened_origins program number chosen front_at in_line index (drop index code) ≡ all
+    → new ++ opened_origins program number chosen front_at in_line (index + 1) (drop (index + 1) code) ≡ all
+opened_origins_next program number chosen front_at in_line code index i all old new at is before =
     let next : suc index ≡ index + 1 = omega arith in
-    let here = part_origins program number in_line index (chosen_call i (place_in chosen index)) (twin_at index i) in
-    append_goes_on all old new here (opened_origins program number chosen twin_at in_line (index + 1) (drop (index + 1) code))
-    (opened_origins program number chosen twin_at in_line index (drop index code)) is
-    (ap (opened_origins program number chosen twin_at in_line index) (drop_found code index i at)
-    ∙ ap (λ (n : ℕ). here ++ opened_origins program number chosen twin_at in_line n (drop (index + 1) code)) next)
+    let here = part_origins program number in_line index (chosen_call i (place_in chosen index)) (length (front_at index i)) in
+    append_goes_on all old new here (opened_origins program number chosen front_at in_line (index + 1) (drop (index + 1) code))
+    (opened_origins program number chosen front_at in_line index (drop index code)) is
+    (ap (opened_origins program number chosen front_at in_line index) (drop_found code index i at)
+    ∙ ap (λ (n : ℕ). here ++ opened_origins program number chosen front_at in_line n (drop (index + 1) code)) next)
     before
+
+-- ---- what stands in front of an instruction, and it itself
+
+replicate_last : (origin : Origin) (count : ℕ) → replicate count origin ++ origin ∷ [] ≡ replicate (suc count) origin
+replicate_last origin zero = refl
+replicate_last origin (suc count) = ap (λ (os : List Origin). origin ∷ os) (replicate_last origin count)
+
+pub front_origins : (origin : Origin) (leads twin : List Instruction)
+    → replicate (length leads) origin ++ (replicate (length twin) origin ++ origin ∷ []) ≡ replicate (suc (length (leads ++ twin))) origin
+front_origins origin [] twin = replicate_last origin (length twin)
+front_origins origin (x ∷ leads) twin = ap (λ (os : List Origin). origin ∷ os) (front_origins origin leads twin)
+
+-- what follows from what holds if all went well
+pub then_ok : {T : Type 0} {P Q : Type 0} (result : Result T AllocError) → OnOk result P → (P → Q) → OnOk result Q
+then_ok (Ok value) holds next = next holds
+then_ok (Err e) holds next = tt

@@ -1,6 +1,6 @@
 -- What holds of each instruction that is emitted: all that it names is there, its numbers are words, and it pins no other slot.
 use Rattle.std.proofs.Common.{◌≡◌, ℕ, zero, suc, ◌+◌, ◌<◌, ◌≤◌, Bool, true, false, List, [], ◌∷◌, length, Option, Some, None, refl, sym, ap, subst, ◌∙◌, arith, inl, inr, length-append}
-use Rattle.std.specs.Prelude.{All, ◌==◌, ◌||◌, nat_le, if◌then◌else◌}
+use Rattle.std.specs.Prelude.{All, ◌⊎◌, ◌==◌, ◌||◌, nat_le, if◌then◌else◌}
 use Rattle.std.specs.List.{AllByRecursion}
 use Rattle.std.proofs.lemmas.Bool.{cases_lt, eqb-true, le-leb, false≢true}
 use Rattle.std.proofs.lemmas.List.Elements.{All-from_recursion}
@@ -17,14 +17,14 @@ use Rattle.cyc_plain.proofs.Placed.{routine_in, goes_behind}
 use Rattle.cyc_inline.specs.declared.origin.Origin.{Origin}
 use Rattle.cyc_inline.specs.declared.site.Call.{Call}
 use Rattle.cyc_inline.specs.declared.site.Site.{Site}
-use Rattle.cyc_inline.specs.inside.Opened.{moved, twin, passing, is_end, is_of_leaf}
+use Rattle.cyc_inline.specs.inside.Opened.{moved, IsTwin, passing, is_end, is_of_leaf}
 use Rattle.cyc_inline.specs.inside.Sites.{chosen_call, place_in, stands_in, way_behind, way_count, inside_part, inside_count, inside_code, places_inside, site_code}
-use Rattle.cyc_inline.specs.inside.Emission.{IsOpenable, IsTwinSlot, own_part, part, part_count, call_size, site_of, opened_code, opened_end}
+use Rattle.cyc_inline.specs.inside.Emission.{IsOpenable, may_lead, own_part, part, part_count, call_size, site_of, opened_code, opened_end}
 use Rattle.cyc_inline.proofs.ChoosingCalls.{in_code, call_is, call_in_range}
 use Rattle.cyc_inline.proofs.EmissionPieces.{offset, all_pieces, offset_most, offset_below}
 use Rattle.cyc_inline.proofs.EmissionSites.{count_inside, size_is, line_place, rest_place, piece_inside, inside_code_is as inside_is}
 use Rattle.cyc_inline.proofs.EmissionPlaces.{count_at, end_is, place_next, piece_at, code_is, IsOf, begins_at, long_in}
-use Rattle.cyc_inline.proofs.RangesMoved.{moved_in, has_word, same_return_moved, same_pins, twin_in, twin_word, same_return_twin, same_pins_twin, leaf_pins_none, no_try, no_return}
+use Rattle.cyc_inline.proofs.RangesMoved.{moved_in, has_word, same_return_moved, same_pins, twin_in, twin_word, same_return_twin, same_pins_twin, lead_in, lead_word, no_return_lead, lead_pins_none, leaf_pins_none, no_try, no_return}
 
 -- ---- what holds of each instruction of a part
 
@@ -124,7 +124,7 @@ rest_below results line first (i ∷ code) (suc k) below past = omega (arith, re
 
 -- ---- a function whose calls are opened
 
-module _ (program : Program) (number : ℕ) (chosen : List ℕ) (twin_at : ℕ → Instruction → Option ℕ) (places rests : List ℕ) (s : Routine) (origins : List Origin) (is : IsOf program number chosen twin_at places rests s origins) where
+module _ (program : Program) (number : ℕ) (chosen : List ℕ) (front_at : ℕ → Instruction → List Instruction) (places rests : List ℕ) (s : Routine) (origins : List Origin) (is : IsOf program number chosen front_at places rests s origins) where
   abbrev r : Routine
   r = routine_at program number
 
@@ -151,74 +151,78 @@ module _ (program : Program) (number : ℕ) (chosen : List ℕ) (twin_at : ℕ �
   abbrev inner : ℕ → Call → ℕ → ℕ
   inner k call = places_inside (site_at k call) (place k) (routine_at program call.callee).code
 
-  some : (k : ℕ) (i : Instruction) → 1 ≤ count_at program chosen twin_at true k i
-  some k i = go (chosen_call i (place_in chosen k)) (twin_at k i)
+  some : (k : ℕ) (i : Instruction) → 1 ≤ count_at program chosen front_at true k i
+  some k i = go (chosen_call i (place_in chosen k)) (length (front_at k i))
     where
-      go : (call : Option Call) (further : Option ℕ) → 1 ≤ part_count program true call further
-      go (Some call) further = omega arith
-      go None (Some slot) = omega arith
-      go None None = omega arith
+      go : (call : Option Call) (front : ℕ) → 1 ≤ part_count program true call front
+      go (Some call) front = omega arith
+      go None front = omega arith
 
   abbrev total : (in_line : Bool) → ℕ
-  total in_line = offset (count_at program chosen twin_at in_line) 0 r.code (length r.code)
+  total in_line = offset (count_at program chosen front_at in_line) 0 r.code (length r.code)
 
   pub code_long : length s.code ≡ total true + total false
   code_long =
       ap (λ (code : List Instruction). length code) is.code
-      ∙ length-append (opened_code program number chosen twin_at place rest true 0 r.code) (opened_code program number chosen twin_at place rest false 0 r.code)
-      ∙ (let front = long_in program number chosen twin_at places rests s origins is true in
-      let back = long_in program number chosen twin_at places rests s origins is false in
+      ∙ length-append (opened_code program number chosen front_at place rest true 0 r.code) (opened_code program number chosen front_at place rest false 0 r.code)
+      ∙ (let front = long_in program number chosen front_at places rests s origins is true in
+      let back = long_in program number chosen front_at places rests s origins is false in
       omega (arith, front, back))
 
   pub placed : (k : ℕ) → k < length r.code → place k < length s.code
   placed k below =
-      let here = begins_at program number chosen twin_at places rests s origins is true k (omega (arith, below)) in
-      omega (arith, here, code_long, offset_below (count_at program chosen twin_at true) some 0 r.code k below)
+      let here = begins_at program number chosen front_at places rests s origins is true k (omega (arith, below)) in
+      omega (arith, here, code_long, offset_below (count_at program chosen front_at true) some 0 r.code k below)
 
   pub opened_at : (k : ℕ) (i : Instruction) (call : Call) → At r.code k i → chosen_call i (place_in chosen k) ≡ Some call → IsOpenedAt k call
   opened_at k i call at opened =
       let (same, line, some) = call_is i (place_in chosen k) call opened in
       let stays : leaves i ≡ false = ap leaves same in
       let more = goes_behind program r k i routine at stays in
-      let end = end_is program chosen twin_at true 0 0 r.code in
-      let behind = begins_at program number chosen twin_at places rests s origins is false (k + 1) (omega (arith, more)) in
-      let most = offset_most (count_at program chosen twin_at false) 0 r.code (k + 1) in
+      let end = end_is program chosen front_at true 0 0 r.code in
+      let behind = begins_at program number chosen front_at places rests s origins is false (k + 1) (omega (arith, more)) in
+      let most = offset_most (count_at program chosen front_at false) 0 r.code (k + 1) in
       let next : rest (k + 1) ≡ rest k + call_size program false call =
-      place_next program chosen twin_at false (opened_end program chosen twin_at true 0 0 r.code) r.code rests k i is.parts.resting at ∙ ap (λ (o : Option Call). rest k + part_count program false o (twin_at k i)) opened in
+      place_next program chosen front_at false (opened_end program chosen front_at true 0 0 r.code) r.code rests k i is.parts.resting at ∙ ap (λ (o : Option Call). rest k + part_count program false o (length (front_at k i))) opened in
       record {
         call_in_range = call_in_range program r i (place_in chosen k) call (in_code program number k i is.parts.plain is.parts.is_function at) opened;
         openable = is.parts.calls.each k i call at opened;
         further = more;
-        next = place_next program chosen twin_at true 0 r.code places k i is.parts.standing at ∙ ap (λ (o : Option Call). place k + part_count program true o (twin_at k i)) opened;
+        next = place_next program chosen front_at true 0 r.code places k i is.parts.standing at ∙ ap (λ (o : Option Call). place k + part_count program true o (length (front_at k i))) opened;
         fits = omega (arith, next, behind, end, most, code_long);
       }
 
   -- what holds of each instruction holds of the code
   module _ (P : Instruction → Type 0) (own : (k : ℕ) (i : Instruction) → At r.code k i → P (moved 0 place i))
-      (twins : (k : ℕ) (i : Instruction) (slot : ℕ) → At r.code k i → IsTwinSlot r s.slots i slot → P (twin slot i))
+      (leads : (x : Instruction) → may_lead (length program.globals) r.slots s.slots x ≡ true → P x)
+      (twins : (k : ℕ) (i x : Instruction) → At r.code k i → IsTwin r.slots s.slots i x → P x)
       (sites : (k : ℕ) (call : Call) → IsOpenedAt k call → HoldsIn P (site_at k call) (inner k call) (routine_at program call.callee)) where
-    own_holds : (in_line : Bool) (k : ℕ) (i : Instruction) (further : Option ℕ) → At r.code k i → twin_at k i ≡ further
-        → AllByRecursion P (if in_line then own_part place i further else [])
-    own_holds true k i (Some slot) at has = (twins k i slot at (is.parts.twins k i slot has), (own k i at, tt))
-    own_holds true k i None at has = (own k i at, tt)
-    own_holds false k i further at has = tt
+    front_holds : (k : ℕ) (i : Instruction) (front : List Instruction) → At r.code k i
+        → AllByRecursion (λ (x : Instruction). (may_lead (length program.globals) r.slots s.slots x ≡ true) ⊎ IsTwin r.slots s.slots i x) front → AllByRecursion P front
+    front_holds k i [] at each = tt
+    front_holds k i (x ∷ front) at (inl lead, each) = (leads x lead, front_holds k i front at each)
+    front_holds k i (x ∷ front) at (inr it, each) = (twins k i x at it, front_holds k i front at each)
+
+    own_holds : (in_line : Bool) (k : ℕ) (i : Instruction) → At r.code k i → AllByRecursion P (if in_line then own_part place i (front_at k i) else [])
+    own_holds true k i at = all_append P (front_at k i) (moved 0 place i ∷ []) (front_holds k i (front_at k i) at (is.parts.fronts k i).each) (own k i at, tt)
+    own_holds false k i at = tt
 
     part_holds : (in_line : Bool) (k : ℕ) (i : Instruction) (call : Option Call) → At r.code k i → chosen_call i (place_in chosen k) ≡ call
-        → AllByRecursion P (part program number place rest in_line k i call (twin_at k i))
+        → AllByRecursion P (part program number place rest in_line k i call (front_at k i))
     part_holds in_line k i (Some call) at opened = all_site P (site_at k call) in_line (place k) (routine_at program call.callee) (sites k call (opened_at k i call at opened))
-    part_holds in_line k i None at opened = own_holds in_line k i (twin_at k i) at refl
+    part_holds in_line k i None at opened = own_holds in_line k i at
 
-    all_in : (in_line : Bool) → AllByRecursion P (opened_code program number chosen twin_at place rest in_line 0 r.code)
+    all_in : (in_line : Bool) → AllByRecursion P (opened_code program number chosen front_at place rest in_line 0 r.code)
     all_in in_line =
-        subst (AllByRecursion P) (sym (code_is program number chosen twin_at place rest in_line 0 r.code))
-        (all_pieces P (piece_at program number chosen twin_at place rest in_line) 0 r.code (λ k i at.
+        subst (AllByRecursion P) (sym (code_is program number chosen front_at place rest in_line 0 r.code))
+        (all_pieces P (piece_at program number chosen front_at place rest in_line) 0 r.code (λ k i at.
         let same : k ≡ 0 + k = omega arith in
-        subst (λ (n : ℕ). AllByRecursion P (piece_at program number chosen twin_at place rest in_line n i)) same (part_holds in_line k i (chosen_call i (place_in chosen k)) at refl)))
+        subst (λ (n : ℕ). AllByRecursion P (piece_at program number chosen front_at place rest in_line n i)) same (part_holds in_line k i (chosen_call i (place_in chosen k)) at refl)))
 
     all_code : AllByRecursion P s.code
     all_code =
         subst (AllByRecursion P) (sym is.code)
-        (all_append P (opened_code program number chosen twin_at place rest true 0 r.code) (opened_code program number chosen twin_at place rest false 0 r.code) (all_in true) (all_in false))
+        (all_append P (opened_code program number chosen front_at place rest true 0 r.code) (opened_code program number chosen front_at place rest false 0 r.code) (all_in true) (all_in false))
 
   -- ---- numbers are words, nothing else returns, and no other slot is pinned
 
@@ -226,7 +230,7 @@ module _ (program : Program) (number : ℕ) (chosen : List ℕ) (twin_at : ℕ �
     pub words_of : All HasWord s.code
     words_of =
         All-from_recursion HasWord s.code
-        (all_code HasWord (λ k i at. has_word 0 place i (All_at HasWord r.code k i words at)) (λ k i slot at may. twin_word slot i (All_at HasWord r.code k i words at)) (λ k call opened. record {
+        (all_code HasWord (λ k i at. has_word 0 place i (All_at HasWord r.code k i words at)) (lead_word (length program.globals) r.slots s.slots) (λ k i x at it. subst HasWord (sym it.is) (twin_word it.slot i (All_at HasWord r.code k i words at))) (λ k call opened. record {
           passed = λ n below. tt;
           enters = tt;
           inside = λ j i at no_end.
@@ -240,7 +244,8 @@ module _ (program : Program) (number : ℕ) (chosen : List ℕ) (twin_at : ℕ �
   returns_no_more none =
       All-from_recursion (λ (i : Instruction). is_return i ≡ false) s.code
       (all_code (λ (i : Instruction). is_return i ≡ false) (λ k i at. same_return_moved 0 place i ∙ All_at (λ (j : Instruction). is_return j ≡ false) r.code k i none at)
-      (λ k i slot at may. same_return_twin slot i ∙ All_at (λ (j : Instruction). is_return j ≡ false) r.code k i none at)
+      (no_return_lead (length program.globals) r.slots s.slots)
+      (λ k i x at it. ap is_return it.is ∙ same_return_twin it.slot i ∙ All_at (λ (j : Instruction). is_return j ≡ false) r.code k i none at)
       (λ k call opened. record {
         passed = λ n below. refl;
         enters = refl;
@@ -262,7 +267,8 @@ module _ (program : Program) (number : ℕ) (chosen : List ℕ) (twin_at : ℕ �
       All_at PinsNoMore s.code p i
       (All-from_recursion PinsNoMore s.code
       (all_code PinsNoMore (λ k j there slot pinned. pinned_at r.code k j slot there (sym (same_pins 0 place j slot) ∙ pinned))
-      (λ k j further there may slot pinned. pinned_at r.code k j slot there (sym (same_pins_twin further j slot) ∙ pinned)) (λ k call opened. record {
+      (λ x lead slot pinned. absurd (false≢true (sym (lead_pins_none (length program.globals) r.slots s.slots x lead slot) ∙ pinned)))
+      (λ k j x there it slot pinned. pinned_at r.code k j slot there (sym (same_pins_twin it.slot j slot) ∙ (sym (ap (λ (y : Instruction). pins y slot) it.is) ∙ pinned))) (λ k call opened. record {
         passed = λ n below slot pinned. absurd (false≢true pinned);
         enters = λ slot pinned. absurd (false≢true pinned);
         inside = λ j x there no_end slot pinned.
@@ -317,8 +323,12 @@ module _ (program : Program) (number : ℕ) (chosen : List ℕ) (twin_at : ℕ �
         no_return = returns_no_more opens.no_return;
       }
 
-  twins_in : (k : ℕ) (i : Instruction) (slot : ℕ) → At r.code k i → IsTwinSlot r s.slots i slot → IsInRange program s (twin slot i)
-  twins_in k i slot at may = twin_in program r s slot i is.parts.calls.least may.room may.may (in_code program number k i is.parts.plain is.parts.is_function at)
+  leads_in : (x : Instruction) → may_lead (length program.globals) r.slots s.slots x ≡ true → IsInRange program s x
+  leads_in x lead = lead_in program s r.slots x lead
+
+  twins_in : (k : ℕ) (i x : Instruction) → At r.code k i → IsTwin r.slots s.slots i x → IsInRange program s x
+  twins_in k i x at it =
+      subst (IsInRange program s) (sym it.is) (twin_in program r s it.slot i is.parts.calls.least it.room it.may (in_code program number k i is.parts.plain is.parts.is_function at))
 
   sites_in : (k : ℕ) (call : Call) → IsOpenedAt k call → HoldsIn (IsInRange program s) (site_at k call) (inner k call) (routine_at program call.callee)
   sites_in k call opened =
@@ -348,4 +358,4 @@ module _ (program : Program) (number : ℕ) (chosen : List ℕ) (twin_at : ℕ �
       slot_given t j i value n end below in_range room = absurd (let e : None ≡ Some value = end in cc)
 
   pub in_range_of : All (IsInRange program s) s.code
-  in_range_of = All-from_recursion (IsInRange program s) s.code (all_code (IsInRange program s) own_in twins_in sites_in)
+  in_range_of = All-from_recursion (IsInRange program s) s.code (all_code (IsInRange program s) own_in leads_in twins_in sites_in)

@@ -14,7 +14,7 @@ use Rattle.cyc_inline.specs.inside.Opened.{moved, IsOpened}
 use Rattle.cyc_inline.specs.inside.Sites.{chosen_call, place_in, places_inside}
 use Rattle.cyc_inline.specs.inside.Emission.{IsMade, part, site_of, opened_code, opened_origins}
 use Rattle.cyc_inline.proofs.EmissionPieces.{offset}
-use Rattle.cyc_inline.proofs.EmissionPlaces.{count_at, piece_at, code_is, IsOf, begins_at, long_in, origins_long_in, has_no_twin, itself, stands}
+use Rattle.cyc_inline.proofs.EmissionPlaces.{count_at, piece_at, code_is, IsOf, begins_at, long_in, origins_long_in, has_no_front, itself, stands}
 use Rattle.cyc_inline.proofs.RangesMoved.{same_leaving, leaves_alone}
 use Rattle.cyc_inline.proofs.RangesCode.{code_long, placed, opened_at, words_of, pinned, in_range_of}
 use Rattle.cyc_inline.proofs.RangesEnds.{EndsWell, none_ends, ends_both, ends_pieces, rest_ends, function_ends, last_leaves}
@@ -38,7 +38,7 @@ none_before count (i ∷ code) = refl
 pub function_words : (program : Program) (number : ℕ) → IsPlain program → number < length program.functions → All HasWord (routine_at program number).code
 function_words program number plain is_function = plain.words.functions number no_routine is_function
 
-module _ (program : Program) (number : ℕ) (chosen : List ℕ) (twin_at : ℕ → Instruction → Option ℕ) (places rests : List ℕ) (s : Routine) (origins : List Origin) (is : IsOf program number chosen twin_at places rests s origins) where
+module _ (program : Program) (number : ℕ) (chosen : List ℕ) (front_at : ℕ → Instruction → List Instruction) (places rests : List ℕ) (s : Routine) (origins : List Origin) (is : IsOf program number chosen front_at places rests s origins) where
   abbrev r : Routine
   r = routine_at program number
 
@@ -67,27 +67,27 @@ module _ (program : Program) (number : ℕ) (chosen : List ℕ) (twin_at : ℕ �
   rest = place_in rests
 
   abbrev front : List Instruction
-  front = opened_code program number chosen twin_at place rest true 0 r.code
+  front = opened_code program number chosen front_at place rest true 0 r.code
 
   abbrev back : List Instruction
-  back = opened_code program number chosen twin_at place rest false 0 r.code
+  back = opened_code program number chosen front_at place rest false 0 r.code
 
   as_long : length origins ≡ length s.code
   as_long =
-      let first = origins_long_in program number chosen twin_at places rests s origins is true in
-      let second = origins_long_in program number chosen twin_at places rests s origins is false in
+      let first = origins_long_in program number chosen front_at places rests s origins is true in
+      let second = origins_long_in program number chosen front_at places rests s origins is false in
       let all = ap (λ (os : List Origin). length os) is.origins_are in
-      let both = length-append (opened_origins program number chosen twin_at true 0 r.code) (opened_origins program number chosen twin_at false 0 r.code) in
-      omega (arith, first, second, all, both, code_long program number chosen twin_at places rests s origins is)
+      let both = length-append (opened_origins program number chosen front_at true 0 r.code) (opened_origins program number chosen front_at false 0 r.code) in
+      omega (arith, first, second, all, both, code_long program number chosen front_at places rests s origins is)
 
   opened : IsOpened program number r s origins
   opened = record {
     like = like;
     as_many = as_long;
     place = place;
-    first = (let begun = begins_at program number chosen twin_at places rests s origins is true 0 (omega arith) in omega (arith, begun, none_before (count_at program chosen twin_at true) r.code));
-    stands = stands program number chosen twin_at places rests s origins is;
-    pinned = pinned program number chosen twin_at places rests s origins is;
+    first = (let begun = begins_at program number chosen front_at places rests s origins is true 0 (omega arith) in omega (arith, begun, none_before (count_at program chosen front_at true) r.code));
+    stands = stands program number chosen front_at places rests s origins is;
+    pinned = pinned program number chosen front_at places rests s origins is;
   }
 
   -- what stands in line ends with the last instruction itself
@@ -98,10 +98,10 @@ module _ (program : Program) (number : ℕ) (chosen : List ℕ) (twin_at : ℕ �
       let end : n + 1 ≡ length r.code = omega (arith, some) in
       let (j, there) = slice_get_below r.code n (omega (arith, some)) in
       let leaving = function_ends program r routine n j there end in
-      let (here, made, next) = itself program number chosen twin_at places rests s origins is n j there (stands_itself j (place_in chosen n) leaving)
-      (has_no_twin program number chosen twin_at places rests s origins is n j (leaves_alone j leaving)) in
-      let all = begins_at program number chosen twin_at places rests s origins is true (length r.code) (omega arith) in
-      let long = long_in program number chosen twin_at places rests s origins is true in
+      let (here, made, next) = itself program number chosen front_at places rests s origins is n j there (stands_itself j (place_in chosen n) leaving)
+      (has_no_front program number chosen front_at places rests s origins is n j (leaves_alone j leaving)) in
+      let all = begins_at program number chosen front_at places rests s origins is true (length r.code) (omega arith) in
+      let long = long_in program number chosen front_at places rests s origins is true in
       let behind : place (n + 1) ≡ place (length r.code) = ap place end in
       let same : place n ≡ k = omega (arith, next, behind, all, long, last) in
       let at_code : At s.code k i = subst (λ (code : List Instruction). At code k i) (sym is.code) (slice_get_front front back k i at) in
@@ -110,9 +110,9 @@ module _ (program : Program) (number : ℕ) (chosen : List ℕ) (twin_at : ℕ �
 
   -- and so does the rest of each call that is opened
   rest_part_ends : (k : ℕ) (i : Instruction) (call : Option Call) → At r.code k i → chosen_call i (place_in chosen k) ≡ call
-      → EndsWell (part program number place rest false k i call (twin_at k i))
+      → EndsWell (part program number place rest false k i call (front_at k i))
   rest_part_ends k i (Some call) at chosen_is =
-      let opened = opened_at program number chosen twin_at places rests s origins is k i call at chosen_is in
+      let opened = opened_at program number chosen front_at places rests s origins is k i call at chosen_is in
       let t = routine_at program call.callee in
       let site = site_of program r call (place (k + 1)) (rest k) in
       rest_ends site (places_inside site (place k) t.code) 0 t.code
@@ -121,10 +121,10 @@ module _ (program : Program) (number : ℕ) (chosen : List ℕ) (twin_at : ℕ �
 
   back_ends : EndsWell back
   back_ends =
-      subst EndsWell (sym (code_is program number chosen twin_at place rest false 0 r.code))
-      (ends_pieces (piece_at program number chosen twin_at place rest false) 0 r.code (λ k i at.
+      subst EndsWell (sym (code_is program number chosen front_at place rest false 0 r.code))
+      (ends_pieces (piece_at program number chosen front_at place rest false) 0 r.code (λ k i at.
       let same : k ≡ 0 + k = omega arith in
-      subst (λ (n : ℕ). EndsWell (piece_at program number chosen twin_at place rest false n i)) same (rest_part_ends k i (chosen_call i (place_in chosen k)) at refl)))
+      subst (λ (n : ℕ). EndsWell (piece_at program number chosen front_at place rest false n i)) same (rest_part_ends k i (chosen_call i (place_in chosen k)) at refl)))
 
   code_ends : EndsWell s.code
   code_ends = subst EndsWell (sym is.code) (ends_both front back front_ends back_ends)
@@ -134,8 +134,8 @@ module _ (program : Program) (number : ℕ) (chosen : List ℕ) (twin_at : ℕ �
     parameters = (let a = routine.parameters in let b = is.parameters in let c = is.parts.calls.least in omega (arith, a, b, c));
     results = (let a = routine.results in let b = is.results in omega (arith, a, b));
     frame = is.room;
-    instructions = in_range_of program number chosen twin_at places rests s origins is;
-    last = last_leaves s.code (let below = placed program number chosen twin_at places rests s origins is 0 (has_code program r routine) in omega (arith, below)) code_ends;
+    instructions = in_range_of program number chosen front_at places rests s origins is;
+    last = last_leaves s.code (let below = placed program number chosen front_at places rests s origins is 0 (has_code program r routine) in omega (arith, below)) code_ends;
   }
 
   -- A function that is made of these parts stands for the one given.
@@ -143,6 +143,6 @@ module _ (program : Program) (number : ℕ) (chosen : List ℕ) (twin_at : ℕ �
   is_made = record {
     opened = opened;
     routine = is_routine;
-    words = words_of program number chosen twin_at places rests s origins is (function_words program number is.parts.plain is.parts.is_function)
+    words = words_of program number chosen front_at places rests s origins is (function_words program number is.parts.plain is.parts.is_function)
         (λ f is_function. function_words program f is.parts.plain is_function);
   }

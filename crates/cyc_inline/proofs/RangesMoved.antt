@@ -1,6 +1,9 @@
 -- An instruction with other slots and other places names what is there, if it did before.
-use Rattle.std.proofs.Common.{◌≡◌, ℕ, ◌+◌, ◌<◌, ◌≤◌, true, false, length, Option, Some, None, refl, sym, ap, ◌∙◌, arith}
+use Rattle.std.proofs.Common.{◌≡◌, ℕ, ◌+◌, ◌^◌, ◌<◌, ◌≤◌, true, false, length, Option, Some, None, refl, sym, ap, ◌∙◌, arith}
+use Rattle.std.specs.Prelude.{not, ◌&&◌, nat_lt}
 use Rattle.std.proofs.lemmas.Bool.{false≢true}
+use Rattle.cyc_words.proofs.Booleans.{and_left, and_right}
+use Rattle.cyc_words.proofs.Numbers.{nat_lt-true}
 use Rattle.cyc_plain.specs.declared.instruction.Instruction.{Instruction}
 use Rattle.cyc_plain.specs.declared.instruction.Instruction.TheVariants as instructions
 use Rattle.cyc_plain.specs.declared.instruction.Operand.{Operand}
@@ -10,7 +13,9 @@ use Rattle.cyc_plain.specs.inside.Memory.{pins}
 use Rattle.cyc_plain.specs.inside.Requests.{first_operand, second_operand, answer_count, destination_of}
 use Rattle.cyc_plain.specs.inside.Program.{Routine, Program, routine_at}
 use Rattle.cyc_plain.specs.inside.WellFormed.{HasSlots, IsOperand, IsArgument, IsInRange, IsOfWord, HasWord, is_return, leaves}
-use Rattle.cyc_inline.specs.inside.Opened.{shifted_operand, moved, may_have_twin, twin, is_end, is_of_leaf}
+use Rattle.cyc_inline.specs.inside.Opened.{shifted_operand, moved, is_division, may_have_twin, twin, may_be_led, is_end, is_of_leaf}
+use Rattle.cyc_inline.specs.inside.Emission.{is_further, fits_in, may_lead}
+use Rattle.cyc_inline.proofs.ChoosingCalls.{further_below}
 
 -- ---- what it names
 
@@ -145,11 +150,74 @@ pub same_pins_twin : (further : ℕ) (i : Instruction) (slot : ℕ) → pins (tw
 same_pins_twin further (instructions.Load destination address offset) slot = refl
 same_pins_twin further i slot = refl
 
+-- ---- a lead
+
+-- all that it names is there
+operand_fits : (s : Routine) (operand : Operand) → fits_in s.slots operand ≡ true → IsOperand s operand
+operand_fits s (operands.Slot number) fits = nat_lt-true number s.slots fits
+operand_fits s (operands.Word word) fits = tt
+
+pub lead_in : (program : Program) (s : Routine) (given : ℕ) (x : Instruction) → may_lead (length program.globals) given s.slots x ≡ true → IsInRange program s x
+lead_in program s given (instructions.Move destination source) may =
+    let further = is_further given s.slots destination in
+    let fits = fits_in s.slots source in
+    (further_below given s.slots destination (and_left further fits may), operand_fits s source (and_right further fits may))
+lead_in program s given (instructions.Binary operator destination left right) may =
+    let further = is_further given s.slots destination in
+    let first = fits_in s.slots left in
+    let second = fits_in s.slots right in
+    let more : (further && (first && second)) ≡ true = and_right (not (is_division operator)) (further && (first && second)) may in
+    let both : (first && second) ≡ true = and_right further (first && second) more in (
+      further_below given s.slots destination (and_left further (first && second) more),
+      operand_fits s left (and_left first second both),
+      operand_fits s right (and_right first second both),
+    )
+lead_in program s given (instructions.LoadGlobal destination global) may =
+    let further = is_further given s.slots destination in
+    let there = nat_lt global (length program.globals) in
+    (further_below given s.slots destination (and_left further there may), nat_lt-true global (length program.globals) (and_right further there may))
+lead_in program s given x may = absurd (false≢true may)
+
+word_fits : (slots : ℕ) (operand : Operand) → fits_in slots operand ≡ true → IsOfWord operand
+word_fits slots (operands.Slot number) fits = tt
+word_fits slots (operands.Word word) fits = nat_lt-true word (2 ^ 32) fits
+
+pub lead_word : (globals given slots : ℕ) (x : Instruction) → may_lead globals given slots x ≡ true → HasWord x
+lead_word globals given slots (instructions.Move destination source) may =
+    word_fits slots source (and_right (is_further given slots destination) (fits_in slots source) may)
+lead_word globals given slots (instructions.Binary operator destination left right) may =
+    let further = is_further given slots destination in
+    let first = fits_in slots left in
+    let second = fits_in slots right in
+    let more : (further && (first && second)) ≡ true = and_right (not (is_division operator)) (further && (first && second)) may in
+    let both : (first && second) ≡ true = and_right further (first && second) more in
+    (word_fits slots left (and_left first second both), word_fits slots right (and_right first second both))
+lead_word globals given slots (instructions.LoadGlobal destination global) may = tt
+lead_word globals given slots x may = absurd (false≢true may)
+
+pub no_return_lead : (globals given slots : ℕ) (x : Instruction) → may_lead globals given slots x ≡ true → is_return x ≡ false
+no_return_lead globals given slots (instructions.Return value) may = absurd (false≢true may)
+no_return_lead globals given slots x may = refl
+
+pub lead_pins_none : (globals given slots : ℕ) (x : Instruction) → may_lead globals given slots x ≡ true → (slot : ℕ) → pins x slot ≡ false
+lead_pins_none globals given slots (instructions.AddressOf destination first count) may slot = absurd (false≢true may)
+lead_pins_none globals given slots x may slot = refl
+
 -- what leads nowhere has none
-pub leaves_alone : (i : Instruction) → leaves i ≡ true → may_have_twin i ≡ false
+pub leaves_alone : (i : Instruction) → leaves i ≡ true → may_be_led i ≡ false
+leaves_alone (instructions.Move destination source) leaving = absurd (false≢true leaving)
+leaves_alone (instructions.MoveWords destination source count) leaving = absurd (false≢true leaving)
+leaves_alone (instructions.Unary operator destination operand) leaving = absurd (false≢true leaving)
 leaves_alone (instructions.Binary operator destination left right) leaving = absurd (false≢true leaving)
+leaves_alone (instructions.Branch comparison left right target) leaving = absurd (false≢true leaving)
+leaves_alone (instructions.ReadByte destination) leaving = absurd (false≢true leaving)
+leaves_alone (instructions.WriteByte source) leaving = absurd (false≢true leaving)
 leaves_alone (instructions.LoadGlobal destination global) leaving = absurd (false≢true leaving)
+leaves_alone (instructions.StoreGlobal global source) leaving = absurd (false≢true leaving)
 leaves_alone (instructions.Load destination address offset) leaving = absurd (false≢true leaving)
+leaves_alone (instructions.Store address offset source) leaving = absurd (false≢true leaving)
+leaves_alone (instructions.LoadByte destination address offset) leaving = absurd (false≢true leaving)
+leaves_alone (instructions.StoreByte address offset source) leaving = absurd (false≢true leaving)
 leaves_alone i leaving = refl
 
 -- ---- a leaf's

@@ -30,7 +30,7 @@ use Rattle.cyc_inline.proofs.Matched.{IsInside, Alike, Matches, matching}
 use Rattle.cyc_inline.proofs.Steps.{either_stands, steps_itself}
 use Rattle.cyc_inline.proofs.Entering.{steps_opened}
 use Rattle.cyc_inline.proofs.Inside.{steps_ordinary}
-use Rattle.cyc_inline.proofs.Twins.{steps_twinned}
+use Rattle.cyc_inline.proofs.Twins.{steps_led}
 use Rattle.cyc_inline.proofs.Returning.{steps_returned, steps_thrown}
 
 module _ (program inlined : Program) (origins : List (List Origin)) (are : AreOpened program inlined origins) (plain : IsPlain program) (fine : IsPlain inlined) (pages calls : ℕ) where
@@ -74,7 +74,7 @@ module _ (program inlined : Program) (origins : List (List Origin)) (are : AreOp
                 let call : Instruction = instructions.Call opened.callee opened.arguments opened.count opened.result in
                 steps_opened program inlined origins are plain fine pages calls c o.active o.frames o.calls o.waiting both opened.callee opened.arguments opened.count opened.result
                 (h.at ∙ ap (λ (i : Instruction). Some i) opened.is) (subst (IsInRange program (routine_at program c.active.function)) opened.is h.range) opened.site
-            | inr (inr twinned) ↦ steps_twinned program inlined origins are plain fine pages calls c o.active o.frames o.calls o.waiting both never h.i h.at h.range twinned
+            | inr (inr led) ↦ steps_led program inlined origins are plain fine pages calls c o.active o.frames o.calls o.waiting both never h.i h.at h.range led
           ]
 
   -- ---- inside

@@ -12,7 +12,7 @@ use Rattle.cyc_plain.specs.inside.Step.{Choice, IsAllowed, MayLie, MayServe, cal
 use Rattle.cyc_plain.specs.inside.Straight.{At}
 use Rattle.cyc_plain.specs.inside.WellFormed.{IsInRange, IsPlain, leaves}
 use Rattle.cyc_inline.specs.declared.origin.Origin.{Origin}
-use Rattle.cyc_inline.specs.inside.Opened.{moved, origin_at, origins_of, AreMadeOf, IsSite, IsTwinned, StandsFor, AreOpened}
+use Rattle.cyc_inline.specs.inside.Opened.{moved, origin_at, origins_of, AreMadeOf, IsSite, IsLed, StandsFor, AreOpened}
 use Rattle.cyc_inline.proofs.Waiting.{each_opened, place_in, slots_of, AreCalls, AreWaiting, beside}
 use Rattle.cyc_inline.proofs.Outside.{call_same, performs_outside}
 use Rattle.cyc_inline.proofs.Matched.{step_is, made_first, Alike, limited_outside, finds, owns, Matches, matching, kept, words_kept}
@@ -28,7 +28,7 @@ limit_same_moved shift place calls (instructions.Enter function) = refl
 limit_same_moved shift place calls i = refl
 
 module _ (program inlined : Program) (origins : List (List Origin)) (are : AreOpened program inlined origins) where
-  -- an instruction that stands for itself, a call that was opened, and an instruction with its twin in front of it
+  -- an instruction that stands for itself, a call that was opened, and an instruction with others in front of it
   pub record IsItself (function index : ℕ) (i : Instruction) : Type 0 where
     pub at : At (routine_at inlined function).code (place_in program inlined origins are function index) (moved 0 (place_in program inlined origins are function) i)
     pub made : AreMadeOf (origins_of origins function) (place_in program inlined origins are function index) 1 (origin_at function index)
@@ -43,23 +43,23 @@ module _ (program inlined : Program) (origins : List (List Origin)) (are : AreOp
     pub site : IsSite program (routine_at inlined function) (origins_of origins function) (slots_of program inlined origins are function) function index
         (place_in program inlined origins are function index) (place_in program inlined origins are function (index + 1)) callee arguments count result
 
-  abbrev pub IsTwinnedHere : (function index : ℕ) → Instruction → Type 0
-  IsTwinnedHere function index i =
-      IsTwinned (routine_at program function) (routine_at inlined function) (origins_of origins function) function (place_in program inlined origins are function) index i
+  abbrev pub IsLedHere : (function index : ℕ) → Instruction → Type 0
+  IsLedHere function index i =
+      IsLed (routine_at program function) (routine_at inlined function) (origins_of origins function) function (place_in program inlined origins are function) index i
 
   itself_or_not : (function index : ℕ) (i : Instruction) → StandsFor program (routine_at program function) (routine_at inlined function) (origins_of origins function) function (place_in program inlined origins are function) index i
-      → IsItself function index i ⊎ (IsOpenedCall function index i ⊎ IsTwinnedHere function index i)
+      → IsItself function index i ⊎ (IsOpenedCall function index i ⊎ IsLedHere function index i)
   itself_or_not function index (instructions.Call callee arguments count result) stands = elim stands [
     | inl itself ↦ inl (record { at = itself.0; made = itself.1; falls = λ stays. itself.2 })
     | inr site ↦ inr (inl (record { callee = callee; arguments = arguments; count = count; result = result; is = refl; site = site }))
   ]
   itself_or_not function index i stands = elim stands [
     | inl itself ↦ inl (record { at = itself.0; made = itself.1; falls = itself.2 })
-    | inr twinned ↦ inr (inr twinned)
+    | inr led ↦ inr (inr led)
   ]
 
   pub either_stands : (function index : ℕ) (i : Instruction) → At (routine_at program function).code index i
-      → IsItself function index i ⊎ (IsOpenedCall function index i ⊎ IsTwinnedHere function index i)
+      → IsItself function index i ⊎ (IsOpenedCall function index i ⊎ IsLedHere function index i)
   either_stands function index i at = itself_or_not function index i ((each_opened program inlined origins are function).stands index i at)
 
   module _ (plain : IsPlain program) (fine : IsPlain inlined) (pages calls : ℕ) (c : Configuration) (b : Activation) (gs : List Frame)

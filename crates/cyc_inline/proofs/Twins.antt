@@ -1,10 +1,11 @@
--- The steps of an instruction with its twin in front of it, where no inlined call is under way: two below for one above. What the twin finds comes to
--- a slot that the call above does not have, and then the instruction does the same above and below.
-use Rattle.std.proofs.Common.{◌≡◌, ℕ, zero, suc, ◌+◌, Bool, true, false, not, ◌&&◌, List, [], ◌∷◌, Option, Some, None, refl, sym, ap, subst, ◌∙◌, arith, inl, inr}
-use Rattle.std.specs.Prelude.{◌⊎◌, nat_le, Contains, if◌then◌else◌}
+-- The steps of an instruction with leads and its twin in front of it, where no inlined call is under way: several below for one above. What these find
+-- comes to slots that the call above does not have, and then the instruction does the same above and below.
+use Rattle.std.proofs.Common.{◌≡◌, ℕ, suc, ◌+◌, ◌<◌, ◌≤◌, Bool, true, false, ◌&&◌, List, [], ◌∷◌, ◌++◌, length, Option, Some, None, refl, sym, ap, subst, ◌∙◌, arith, inl, inr, length-append}
+use Rattle.std.specs.Prelude.{nat_le, Contains, if◌then◌else◌}
+use Rattle.std.specs.List.{AllByRecursion}
 use Rattle.cyc_words.specs.Simulation as simulation
 use Rattle.cyc_words.specs.Word.{add_of}
-use Rattle.cyc_words.specs.inside.Following.{IsOnTheWay, IsMatchedStep, IsStepped}
+use Rattle.cyc_words.specs.inside.Following.{Comes, IsOnTheWay, IsMatchedStep, IsStepped}
 use Rattle.cyc_words.proofs.Matching.{way_before}
 use Rattle.cyc_store.specs.State as stores
 use Rattle.cyc_plain.specs.declared.instruction.BinaryOperator.{BinaryOperator}
@@ -17,40 +18,52 @@ use Rattle.cyc_plain.specs.inside.Operators.{binary_result, has_no_result}
 use Rattle.cyc_plain.specs.inside.Program.{Routine, Program, CodePlace, routine_at}
 use Rattle.cyc_plain.specs.inside.State.{put, Activation, Frame, Configuration, State, Running, Stuck, status_of, place_of, HoldsWords}
 use Rattle.cyc_plain.specs.inside.Step.{Choice, gives, operand_word, loads, performed, instruction_at, is_within, limit_of, limited, limited_step, Step, machine}
-use Rattle.cyc_plain.specs.inside.Straight.{At}
+use Rattle.cyc_plain.specs.inside.Straight.{At, HasAt, places_behind}
 use Rattle.cyc_plain.specs.inside.WellFormed.{IsInRange, IsPlain}
 use Rattle.cyc_plain.proofs.RunLaws.{zeros, zeros_at, limit_free, stuck_within}
 use Rattle.cyc_plain.proofs.SlotLaws.{put-other}
 use Rattle.cyc_plain.proofs.Steps.{step_performs}
 use Rattle.cyc_plain.proofs.Straight.{behind-distinct}
 use Rattle.cyc_inline.specs.declared.origin.Origin.{Origin}
-use Rattle.cyc_inline.specs.inside.Opened.{moved, is_division, may_have_twin, twin, origin_at, origins_of, AreOpened}
-use Rattle.cyc_inline.proofs.Costs.{place_at, own}
+use Rattle.cyc_inline.specs.inside.Opened.{moved, is_division, may_have_twin, twin, may_be_led, IsLead, MayPrecede, AreOpened}
+use Rattle.cyc_inline.proofs.Costs.{place_at, own, own_has}
 use Rattle.cyc_inline.proofs.Agreeing.{agree_from}
 use Rattle.cyc_inline.proofs.Waiting.{place_in, AreSlotted, AreCalls, AreWaiting, as_deep, beside, Outside}
 use Rattle.cyc_inline.proofs.Memory.{memory_outside}
 use Rattle.cyc_inline.proofs.Performing.{is_ordinary, performs}
 use Rattle.cyc_inline.proofs.Outside.{bears, operand_same}
-use Rattle.cyc_inline.proofs.Matched.{step_is, made_first, Alike, limited_outside, finds, owns, Matches, matching, kept, words_kept}
-use Rattle.cyc_inline.proofs.Steps.{IsTwinnedHere}
+use Rattle.cyc_inline.proofs.Matched.{step_is, Alike, limited_outside, finds, Matches, matching, kept, words_kept}
+use Rattle.cyc_inline.proofs.Steps.{IsLedHere}
+use Rattle.cyc_inline.proofs.ChoosingCalls.{no_division}
+use Rattle.cyc_inline.proofs.Passing.{behind_inside, has_each}
 use Rattle.cyc_inline.proofs.Inside.{ordinary_calls, ordinary_limit, step_so}
 
--- what has a twin is of one call alone, and so is its twin
-twin_ordinary : (i : Instruction) → may_have_twin i ≡ true → is_ordinary i ≡ true
-twin_ordinary (instructions.Binary operator destination left right) may = refl
-twin_ordinary (instructions.LoadGlobal destination global) may = refl
-twin_ordinary (instructions.Load destination address offset) may = refl
-twin_ordinary i may = absurd (let e : false ≡ true = may in cc)
-
-twin_limit : (slot calls : ℕ) (i : Instruction) → may_have_twin i ≡ true → limit_of (Some (twin slot i)) calls ≡ calls
-twin_limit slot calls (instructions.Enter function) may = absurd (let e : false ≡ true = may in cc)
-twin_limit slot calls i may = refl
+-- what is led is of one call alone, and the code goes on behind it
+led_ordinary : (i : Instruction) → may_be_led i ≡ true → is_ordinary i ≡ true
+led_ordinary (instructions.Move destination source) may = refl
+led_ordinary (instructions.MoveWords destination source count) may = refl
+led_ordinary (instructions.Unary operator destination operand) may = refl
+led_ordinary (instructions.Binary operator destination left right) may = refl
+led_ordinary (instructions.Branch comparison left right target) may = refl
+led_ordinary (instructions.ReadByte destination) may = refl
+led_ordinary (instructions.WriteByte source) may = refl
+led_ordinary (instructions.LoadGlobal destination global) may = refl
+led_ordinary (instructions.StoreGlobal global source) may = refl
+led_ordinary (instructions.Load destination address offset) may = refl
+led_ordinary (instructions.Store address offset source) may = refl
+led_ordinary (instructions.LoadByte destination address offset) may = refl
+led_ordinary (instructions.StoreByte address offset source) may = refl
+led_ordinary i may = absurd (let e : false ≡ true = may in cc)
 
 -- all but a division has a result
-has_result : (operator : BinaryOperator) (b : ℕ) → not (is_division operator) ≡ true → has_no_result operator b ≡ false
-has_result binary.Divide b may = absurd (let e : false ≡ true = may in cc)
-has_result binary.Remainder b may = absurd (let e : false ≡ true = may in cc)
-has_result operator b may = refl
+has_result : (operator : BinaryOperator) (b : ℕ) → is_division operator ≡ false → has_no_result operator b ≡ false
+has_result binary.Divide b none = absurd (let e : true ≡ false = none in cc)
+has_result binary.Remainder b none = absurd (let e : true ≡ false = none in cc)
+has_result operator b none = refl
+
+led_no_division : (t : Bool) (destination slot : ℕ) → (if t then None else Some destination) ≡ Some slot → (t ≡ false) × (destination ≡ slot)
+led_no_division true destination slot is = absurd (let e : None ≡ Some slot = is in cc)
+led_no_division false destination slot is = (refl, let e : Some destination ≡ Some slot = is in cc)
 
 module _ (program inlined : Program) (origins : List (List Origin)) (are : AreOpened program inlined origins) (plain : IsPlain program) (fine : IsPlain inlined) (pages calls : ℕ)
     (c : Configuration) (b : Activation) (gs : List Frame)
@@ -58,164 +71,221 @@ module _ (program inlined : Program) (origins : List (List Origin)) (are : AreOp
     (matches : Matches program inlined origins are plain fine pages calls (Running c) (Running (beside program inlined origins are c b gs)))
     (never : (next : State) → Step program pages calls (Running c) next → status_of next ≡ simulation.Failed → ⊥)
     (i : Instruction) (at : At (routine_at program c.active.function).code c.active.next i) (range : IsInRange program (routine_at program c.active.function) i)
-    (twinned : IsTwinnedHere program inlined origins are c.active.function c.active.next i) where
+    (led : IsLedHere program inlined origins are c.active.function c.active.next i) where
   abbrev d : Configuration
   d = beside program inlined origins are c b gs
 
   abbrev r : Routine
   r = routine_at program c.active.function
 
+  abbrev s : Routine
+  s = routine_at inlined c.active.function
+
   abbrev place : ℕ → ℕ
   place = place_in program inlined origins are c.active.function
 
-  abbrev slot : ℕ
-  slot = twinned.slot
+  -- the instruction itself, below
+  abbrev j : Instruction
+  j = moved 0 place i
 
-  abbrev IsStep : Type 0
-  IsStep = IsStepped (machine program pages calls) (machine inlined pages calls) (matching program inlined origins are plain fine pages calls) (Running c) (Running d)
+  abbrev Precedes : Instruction → Type 0
+  Precedes = MayPrecede r.slots s.slots i
 
   ordinary : is_ordinary i ≡ true
-  ordinary = twin_ordinary i twinned.may
+  ordinary = led_ordinary i led.may
 
-  -- ---- what the twin finds
+  abbrev count : ℕ
+  count = suc (length led.front)
 
-  -- it is a word, or the program given cannot go on
-  abbrev Finds : Instruction → Type 0
-  Finds j = ((word : ℕ) × ((choice : Choice) → performed inlined choice d (twin slot j) ≡ gives d slot word)) ⊎ (performed program zeros c j ≡ Stuck c.output c.input)
+  abbrev places : List CodePlace
+  places = places_behind b.function b.next count
 
-  found_in : (destination offset : ℕ) (address : Operand) (o : Option ℕ) → memory_at program c (add_of (operand_word c.active.slots address) offset) ≡ o
-      → memory_at inlined d (add_of (operand_word b.slots address) offset) ≡ o → Finds (instructions.Load destination address offset)
-  found_in destination offset address (Some word) above below = inl (word, λ choice. ap (loads d slot) below)
-  found_in destination offset address None above below = inr (ap (loads c destination) above)
+  abbrev Way : State → Type 0
+  Way = IsOnTheWay (machine program pages calls) (machine inlined pages calls) (Running c)
 
-  found : (j : Instruction) → may_have_twin j ≡ true → IsInRange program r j → Finds j
-  found (instructions.Binary operator destination left right) may inside =
-      let word : ℕ = binary_result operator (operand_word b.slots left) (operand_word b.slots right) in
-      inl (word, λ choice. ap (λ (fails : Bool). if fails then Stuck c.output c.input else gives d slot word) (has_result operator (operand_word b.slots right) may))
-  found (instructions.LoadGlobal destination global) may inside = inl (c.globals global, λ choice. refl)
-  found (instructions.Load destination address offset) may (inside, first) =
-      found_in destination offset address (memory_at program c (add_of (operand_word c.active.slots address) offset)) refl
-      (ap (λ (a : ℕ). memory_at inlined d (add_of a offset)) (operand_same program inlined origins are plain.well_formed c b gs same.slotted waiting address first)
-      ∙ memory_outside program inlined origins are plain.well_formed c b gs same.slotted waiting (add_of (operand_word c.active.slots address) offset))
-  found j may inside = absurd (let e : false ≡ true = may in cc)
+  abbrev Goal : State → Type 0
+  Goal = IsMatchedStep (machine program pages calls) (machine inlined pages calls) (matching program inlined origins are plain fine pages calls) (Running c) places
 
-  -- ---- the two steps
+  -- ---- what stands in front finds a word
 
-  module _ (word : ℕ) (does : (choice : Choice) → performed inlined choice (beside program inlined origins are c b gs) (twin twinned.slot i) ≡ gives (beside program inlined origins are c b gs) twinned.slot word) where
-    -- behind the twin
-    abbrev knower : Activation
-    knower = record b { slots = put b.slots slot word; next = b.next + 1 }
+  module _ (knower : Activation) (slotted : AreSlotted program inlined origins are c.active knower) where
+    abbrev here : Configuration
+    here = beside program inlined origins are c knower gs
 
-    abbrev e : Configuration
-    e = beside program inlined origins are c knower gs
+    pub record FindsWord (x : Instruction) : Type 0 where
+      pub slot : ℕ
+      pub word : ℕ
+      pub further : r.slots ≤ slot
+      pub limit : limit_of (Some x) calls ≡ calls
+      pub does : (choice : Choice) → performed inlined choice (beside program inlined origins are c knower gs) x ≡ gives (beside program inlined origins are c knower gs) slot word
 
-    abbrev j : Instruction
-    j = moved 0 place i
+    divides_not : (operator : BinaryOperator) (destination : ℕ) (left right : Operand) (choice : Choice) → is_division operator ≡ false
+        → performed inlined choice here (instructions.Binary operator destination left right) ≡ gives here destination (binary_result operator (operand_word knower.slots left) (operand_word knower.slots right))
+    divides_not operator destination left right choice none =
+        ap (λ (fails : Bool). if fails then Stuck c.output c.input else gives here destination (binary_result operator (operand_word knower.slots left) (operand_word knower.slots right)))
+        (has_result operator (operand_word knower.slots right) none)
 
-    slotted : AreSlotted program inlined origins are c.active knower
-    slotted = record {
-      function = same.slotted.function;
-      base = same.slotted.base;
-      handlers = same.slotted.handlers;
-      records = same.slotted.records;
-      slots = λ k below.
-          put-other b.slots slot k word (λ equal. let further = twinned.further in omega (arith, equal, below, further))
-          ∙ same.slotted.slots k below;
+    -- a lead does
+    by_lead : (x : Instruction) → IsLead r.slots s.slots x → FindsWord x
+    by_lead (instructions.Move destination source) lead = record {
+      slot = destination;
+      word = operand_word knower.slots source;
+      further = (let e : Some destination ≡ Some lead.slot = lead.is in let is : destination ≡ lead.slot = cc in let further = lead.further in omega (arith, is, further));
+      limit = refl;
+      does = λ choice. refl;
     }
-
-    behind : knower.next ≡ place c.active.next + 1
-    behind = ap (λ (n : ℕ). n + 1) same.next
-
-    falls : knower.next + 1 ≡ place (c.active.next + 1)
-    falls = let here = same.next in let next = twinned.next in omega (arith, here, next)
-
-    twin_at : instruction_at inlined (place_of (Running d)) ≡ Some (twin slot i)
-    twin_at = finds program inlined origins are c.active b (place c.active.next) (twin slot i) same.slotted same.next twinned.at
-
-    itself_at : instruction_at inlined (place_of (Running e)) ≡ Some j
-    itself_at = finds program inlined origins are c.active knower (place c.active.next + 1) j slotted behind twinned.itself
-
-    abbrev places : List CodePlace
-    places = place_at b.function b.next ∷ place_at b.function (b.next + 1) ∷ []
-
-    twin_owned : Contains (own inlined origins (place_at c.active.function c.active.next)) (place_at b.function b.next)
-    twin_owned =
-        owns program inlined origins are c.active b (place c.active.next) c.active.function c.active.next (twin slot i) same.slotted same.next twinned.at
-        (made_first (origins_of origins c.active.function) (place c.active.next) 2 (origin_at c.active.function c.active.next) (omega arith) twinned.made)
-
-    itself_owned : Contains (own inlined origins (place_at c.active.function c.active.next)) (place_at b.function (b.next + 1))
-    itself_owned =
-        owns program inlined origins are c.active knower (place c.active.next + 1) c.active.function c.active.next j slotted behind twinned.itself
-        (twinned.made 1 (omega arith))
-
-    within : is_within pages calls (Running d) ≡ true
-    within =
-        ap (λ (n : ℕ). nat_le (stores.demand c.store) pages && nat_le (suc n) calls) (as_deep program inlined origins are c.active.function c.frames gs waiting)
-        ∙ matches.within
-
-    comes_to : (u : State) → Step inlined pages calls (Running d) u → u ≡ Running e
-    comes_to u step =
-        let (choice, allowed, is) =
-        step_performs inlined pages calls d (twin slot i) u twin_at
-        (λ choice. ap (λ (n : ℕ). is_within pages n (performed inlined choice d (twin slot i))) (twin_limit slot calls i twinned.may) ∙ (ap (is_within pages calls) (does choice) ∙ within)) step in
-        is ∙ does choice
-
-    -- the instruction itself does the same
-    goes : (v : State) → HoldsWords (Running e) → Step inlined pages calls (Running e) v
-        → IsMatchedStep (machine program pages calls) (machine inlined pages calls) (matching program inlined origins are plain fine pages calls) (Running c) places v
-    goes v words (choice, allowed, is) =
-        let next : State = limited_step program pages calls zeros (Running c) in
-        let step : Step program pages calls (Running c) next = (zeros, zeros_at program c i at (ordinary_calls i ordinary), refl) in
+    by_lead (instructions.Binary operator destination left right) lead =
+        let (none, is) = led_no_division (is_division operator) destination lead.slot lead.is in
         record {
-          next = next;
-          step = step;
-          matches = kept program inlined origins are plain fine pages calls (Running c) (Running d) next v matches step alike
-              (words_kept program inlined origins are plain fine pages calls (Running e) v words (choice, allowed, is));
-          lighter = λ none. absurd (omega (arith, none));
+          slot = destination;
+          word = binary_result operator (operand_word knower.slots left) (operand_word knower.slots right);
+          further = (let further = lead.further in omega (arith, is, further));
+          limit = refl;
+          does = λ choice. divides_not operator destination left right choice none;
         }
-      where
-        above_is : limited_step program pages calls zeros (Running c) ≡ limited pages calls (Running c) (performed program zeros c i)
-        above_is =
-            step_is program pages calls zeros c i at
-            ∙ ap (λ (n : ℕ). limited pages n (Running c) (performed program zeros c i)) (limit_free i calls (ordinary_calls i ordinary))
-
-        below_is : v ≡ limited pages calls (Running e) (performed inlined choice e j)
-        below_is =
-            is ∙ (step_is inlined pages calls choice e j itself_at
-            ∙ ap (λ (n : ℕ). limited pages n (Running e) (performed inlined choice e j)) (ordinary_limit 0 place calls i ordinary))
-
-        alike : Alike program inlined origins are (limited_step program pages calls zeros (Running c)) v
-        alike =
-            subst (λ (t : State). Alike program inlined origins are t v) (sym above_is)
-            (subst (Alike program inlined origins are (limited pages calls (Running c) (performed program zeros c i))) (sym below_is)
-            (limited_outside program inlined origins are pages calls c knower gs (performed program zeros c i) (performed inlined choice e j)
-            (performs program inlined r 0 place c knower gs (knower.next + 1 ≡ place (c.active.next + 1)) zeros choice
-            (agree_from r.slots c.active.slots knower.slots slotted.slots) (Outside program inlined origins are)
-            (bears program inlined origins are plain.well_formed c knower gs slotted waiting) i ordinary range (λ stays. falls))))
-
-    -- nothing is seen on the way
-    both : IsStep
-    both = record {
-      places = places;
-      distinct = behind-distinct b.function b.next (suc (suc zero));
-      inside = (twin_owned, (itself_owned, tt));
-      comes = (
-        refl,
-        way_before (machine program pages calls) (machine inlined pages calls) (matching program inlined origins are plain fine pages calls) (Running c) (Running d) refl refl,
-        λ u step.
-            subst (λ (s : State). (place_of s ≡ place_at b.function (b.next + 1)) × IsOnTheWay (machine program pages calls) (machine inlined pages calls) (Running c) s
-            × ((v : State) → Step inlined pages calls s v → IsMatchedStep (machine program pages calls) (machine inlined pages calls) (matching program inlined origins are plain fine pages calls) (Running c) places v))
-            (sym (comes_to u step)) (
-              refl,
-              way_before (machine program pages calls) (machine inlined pages calls) (matching program inlined origins are plain fine pages calls) (Running c) (Running e) refl refl,
-              λ v more. goes v (subst HoldsWords (comes_to u step) (words_kept program inlined origins are plain fine pages calls (Running d) u matches.words step)) more,
-            ),
-      );
+    by_lead (instructions.LoadGlobal destination global) lead = record {
+      slot = destination;
+      word = c.globals global;
+      further = (let e : Some destination ≡ Some lead.slot = lead.is in let is : destination ≡ lead.slot = cc in let further = lead.further in omega (arith, is, further));
+      limit = refl;
+      does = λ choice. refl;
     }
+    by_lead x lead = absurd (let e : None ≡ Some lead.slot = lead.is in cc)
 
-  pub steps_twinned : IsStepped (machine program pages calls) (machine inlined pages calls) (matching program inlined origins are plain fine pages calls) (Running c) (Running (beside program inlined origins are c b gs))
-  steps_twinned = elim (found i twinned.may range) [
-    | inl (word, does) ↦ both word does
-    | inr stuck ↦
-        absurd (never (Stuck c.output c.input) (step_so program pages calls c i (Stuck c.output c.input) at (ordinary_calls i ordinary) stuck (stuck_within pages calls c.output c.input)) refl)
-  ]
+    -- the twin does, or the program given cannot go on
+    loaded : (destination offset slot : ℕ) (address : Operand) (o : Option ℕ) → r.slots ≤ slot → i ≡ instructions.Load destination address offset
+        → memory_at program c (add_of (operand_word c.active.slots address) offset) ≡ o
+        → memory_at inlined here (add_of (operand_word knower.slots address) offset) ≡ o → FindsWord (instructions.Load slot address offset)
+    loaded destination offset slot address (Some word) further is above below =
+        record { slot = slot; word = word; further = further; limit = refl; does = λ choice. ap (loads here slot) below }
+    loaded destination offset slot address None further is above below =
+        absurd (never (Stuck c.output c.input)
+        (step_so program pages calls c i (Stuck c.output c.input) at (ordinary_calls i ordinary) (ap (performed program zeros c) is ∙ ap (loads c destination) above) (stuck_within pages calls c.output c.input))
+        refl)
+
+    by_twin : (y : Instruction) (slot : ℕ) → r.slots ≤ slot → may_have_twin y ≡ true → i ≡ y → IsInRange program r y → FindsWord (twin slot y)
+    by_twin (instructions.Binary operator destination left right) slot further may is inside = record {
+      slot = slot;
+      word = binary_result operator (operand_word knower.slots left) (operand_word knower.slots right);
+      further = further;
+      limit = refl;
+      does = λ choice. divides_not operator slot left right choice (no_division (is_division operator) may);
+    }
+    by_twin (instructions.LoadGlobal destination global) slot further may is inside =
+        record { slot = slot; word = c.globals global; further = further; limit = refl; does = λ choice. refl }
+    by_twin (instructions.Load destination address offset) slot further may is (inside, first) =
+        loaded destination offset slot address (memory_at program c (add_of (operand_word c.active.slots address) offset)) further is refl
+        (ap (λ (a : ℕ). memory_at inlined here (add_of a offset)) (operand_same program inlined origins are plain.well_formed c knower gs slotted waiting address first)
+        ∙ memory_outside program inlined origins are plain.well_formed c knower gs slotted waiting (add_of (operand_word c.active.slots address) offset))
+    by_twin y slot further may is inside = absurd (let e : false ≡ true = may in cc)
+
+    pub finds_word : (x : Instruction) → Precedes x → FindsWord x
+    finds_word x (inl lead) = by_lead x lead
+    finds_word x (inr it) = subst FindsWord (sym it.is) (by_twin i it.slot it.further it.may refl range)
+
+    -- ---- the instruction itself does the same
+
+    module _ (itself : At s.code knower.next j) (falls : knower.next + 1 ≡ place (c.active.next + 1)) where
+      itself_at : instruction_at inlined (place_of (Running here)) ≡ Some j
+      itself_at = finds program inlined origins are c.active knower knower.next j slotted refl itself
+
+      pub goes : (v : State) → HoldsWords (Running (beside program inlined origins are c knower gs)) → Step inlined pages calls (Running (beside program inlined origins are c knower gs)) v
+          → IsMatchedStep (machine program pages calls) (machine inlined pages calls) (matching program inlined origins are plain fine pages calls) (Running c)
+          (places_behind b.function b.next (suc (length led.front))) v
+      goes v words (choice, allowed, is) =
+          let next : State = limited_step program pages calls zeros (Running c) in
+          let step : Step program pages calls (Running c) next = (zeros, zeros_at program c i at (ordinary_calls i ordinary), refl) in
+          record {
+            next = next;
+            step = step;
+            matches = kept program inlined origins are plain fine pages calls (Running c) (Running d) next v matches step alike
+                (words_kept program inlined origins are plain fine pages calls (Running here) v words (choice, allowed, is));
+            lighter = λ none. absurd (omega (arith, none));
+          }
+        where
+          above_is : limited_step program pages calls zeros (Running c) ≡ limited pages calls (Running c) (performed program zeros c i)
+          above_is =
+              step_is program pages calls zeros c i at
+              ∙ ap (λ (n : ℕ). limited pages n (Running c) (performed program zeros c i)) (limit_free i calls (ordinary_calls i ordinary))
+
+          below_is : v ≡ limited pages calls (Running here) (performed inlined choice here j)
+          below_is =
+              is ∙ (step_is inlined pages calls choice here j itself_at
+              ∙ ap (λ (n : ℕ). limited pages n (Running here) (performed inlined choice here j)) (ordinary_limit 0 place calls i ordinary))
+
+          alike : Alike program inlined origins are (limited_step program pages calls zeros (Running c)) v
+          alike =
+              subst (λ (t : State). Alike program inlined origins are t v) (sym above_is)
+              (subst (Alike program inlined origins are (limited pages calls (Running c) (performed program zeros c i))) (sym below_is)
+              (limited_outside program inlined origins are pages calls c knower gs (performed program zeros c i) (performed inlined choice here j)
+              (performs program inlined r 0 place c knower gs (knower.next + 1 ≡ place (c.active.next + 1)) zeros choice
+              (agree_from r.slots c.active.slots knower.slots slotted.slots) (Outside program inlined origins are)
+              (bears program inlined origins are plain.well_formed c knower gs slotted waiting) i ordinary range (λ stays. falls))))
+
+  -- ---- the steps
+
+  -- nothing is seen on the way
+  way : (knower : Activation) → Way (Running (beside program inlined origins are c knower gs))
+  way knower =
+      way_before (machine program pages calls) (machine inlined pages calls) (matching program inlined origins are plain fine pages calls) (Running c)
+      (Running (beside program inlined origins are c knower gs)) refl refl
+
+  within : is_within pages calls (Running d) ≡ true
+  within =
+      ap (λ (n : ℕ). nat_le (stores.demand c.store) pages && nat_le (suc n) calls) (as_deep program inlined origins are c.active.function c.frames gs waiting)
+      ∙ matches.within
+
+  -- behind one that stands in front
+  abbrev knowing : Activation → (slot word : ℕ) → Activation
+  knowing knower slot word = record knower { slots = put knower.slots slot word; next = knower.next + 1 }
+
+  still : (knower : Activation) (slot word : ℕ) → r.slots ≤ slot → AreSlotted program inlined origins are c.active knower → AreSlotted program inlined origins are c.active (knowing knower slot word)
+  still knower slot word further slotted = record {
+    function = slotted.function;
+    base = slotted.base;
+    handlers = slotted.handlers;
+    records = slotted.records;
+    slots = λ k below. put-other knower.slots slot k word (λ equal. omega (arith, equal, below, further)) ∙ slotted.slots k below;
+  }
+
+  through : (front : List Instruction) (knower : Activation) → AreSlotted program inlined origins are c.active knower → HoldsWords (Running (beside program inlined origins are c knower gs))
+      → HasAt s.code knower.next (front ++ j ∷ []) → AllByRecursion Precedes front → knower.next + suc (length front) ≡ place (c.active.next + 1)
+      → Comes (machine inlined pages calls) Way Goal (places_behind knower.function knower.next (suc (length front))) (Running (beside program inlined origins are c knower gs))
+  through [] knower slotted words (itself, nothing) each falls = (refl, way knower, λ v step. goes knower slotted itself falls v words step)
+  through (x ∷ front) knower slotted words (first, rest) (may, each) falls =
+      let found : FindsWord knower slotted x = finds_word knower slotted x may in
+      let behind : Activation = knowing knower found.slot found.word in (
+        refl,
+        way knower,
+        λ u step.
+            let comes_to : u ≡ Running (beside program inlined origins are c behind gs) = arrives knower slotted x found first u step in
+            subst (Comes (machine inlined pages calls) Way Goal (places_behind knower.function (knower.next + 1) (suc (length front)))) (sym comes_to)
+            (through front behind (still knower found.slot found.word found.further slotted)
+            (subst HoldsWords comes_to (words_kept program inlined origins are plain fine pages calls (Running (beside program inlined origins are c knower gs)) u words step))
+            rest each (omega (arith, falls))),
+      )
+    where
+      arrives : (knower : Activation) (slotted : AreSlotted program inlined origins are c.active knower) (x : Instruction) (found : FindsWord knower slotted x) → At s.code knower.next x
+          → (u : State) → Step inlined pages calls (Running (beside program inlined origins are c knower gs)) u
+          → u ≡ Running (beside program inlined origins are c (knowing knower found.slot found.word) gs)
+      arrives knower slotted x found first u step =
+          let (choice, allowed, is) =
+          step_performs inlined pages calls (beside program inlined origins are c knower gs) x u (finds program inlined origins are c.active knower knower.next x slotted refl first)
+          (λ choice. ap (λ (n : ℕ). is_within pages n (performed inlined choice (beside program inlined origins are c knower gs) x)) found.limit ∙ (ap (is_within pages calls) (found.does choice) ∙ within)) step in
+          is ∙ found.does choice
+
+  own_at : (k : ℕ) → k < count → Contains (own inlined origins (place_at c.active.function c.active.next)) (place_at b.function (b.next + k))
+  own_at k below =
+      let long = length-append led.front (j ∷ []) in
+      let (x, there) = has_each s.code (place c.active.next) (led.front ++ j ∷ []) k led.at (omega (arith, below, long)) in
+      subst (Contains (own inlined origins (place_at c.active.function c.active.next))) (λ n. place_at (sym same.slotted.function n) (sym same.next n + k))
+      (own_has inlined origins c.active.function (place c.active.next + k) c.active.function c.active.next x there (led.made k below))
+
+  pub steps_led : IsStepped (machine program pages calls) (machine inlined pages calls) (matching program inlined origins are plain fine pages calls) (Running c) (Running (beside program inlined origins are c b gs))
+  steps_led = record {
+    places = places;
+    distinct = behind-distinct b.function b.next count;
+    inside = behind_inside (own inlined origins (place_at c.active.function c.active.next)) b.function b.next count own_at;
+    comes = through led.front b same.slotted matches.words (subst (λ (n : ℕ). HasAt s.code n (led.front ++ j ∷ [])) (sym same.next) led.at) led.each
+        (let here = same.next in let next = led.next in omega (arith, here, next));
+  }

@@ -1,21 +1,22 @@
 //! The code of a function, some of whose calls are opened, and some of whose instructions have a twin.
-ghost use Rattle.std.specs.Prelude.{◌≡◌, ◌+◌, ◌*◌, ◌<◌, ◌≤◌, length, replicate, IfOk, IfSome};
+ghost use Rattle.std.specs.Prelude.{◌≡◌, ◌+◌, ◌*◌, ◌<◌, ◌≤◌, filter, length, replicate, IfOk, IfSome};
 ghost use Rattle.cyc_plain.specs.inside.Program.{routine_at};
 ghost use Rattle.cyc_plain.specs.inside.Straight.{At};
 ghost use Rattle.cyc_plain.specs.inside.WellFormed.{IsPlain};
 ghost use Rattle.cyc_plain.specs.declared.limits.TheConstants.{MOST_SIZE};
-ghost use Rattle.cyc_inline.specs.declared.limits.TheConstants.{MOST_GROWTH};
-ghost use Rattle.cyc_inline.specs.inside.Emission.{AddsCode, AddsOrigins, AreChosen, IsFit, IsKnown, IsSmallCall, twin_by};
+ghost use Rattle.cyc_inline.specs.declared.limits.TheConstants.{MOST_GROWTH, MOST_LEADS};
+ghost use Rattle.cyc_inline.specs.inside.Emission.{AddsCode, AddsOrigins, AreChosen, IsFit, IsKnown, IsSmallCall, front_by, leads_by};
 ghost use Rattle.cyc_inline.specs.inside.Emission as emission;
 ghost use Rattle.cyc_inline.specs.inside.Sites.{chosen_call, place_in};
 
 use crate::choice::{Choice, call_size, instruction_at};
 use crate::emission::Emission;
+use crate::limits::MOST_LEADS;
 use crate::moving::moved;
 use crate::origin::Origin;
 use crate::site::{Call, Site, chosen_call};
 use crate::tables::place_in;
-use crate::twinning::twin;
+use crate::twinning::{may_be_led, may_lead, twin};
 use cyc_plain::{Instruction, Plain};
 use std::alloc::{AllocError, Global};
 
@@ -39,26 +40,18 @@ pub(crate) struct Places {
     pub(crate) end: usize,
 }
 
-/// How many instructions stand for one that is no call which is opened: itself, and its twin if it has one.
-fn own_count(further: Option<usize>) -> usize
-    ensures { result ≡ emission.own_count further }
-{
-    match further {
-        Some(_) => 2,
-        None => 1,
-    }
-}
-
-/// How many instructions stand for one: itself, with its twin, or those of a call that is opened, or the rest of these.
-fn part_count(plain: &Plain, in_line: bool, call: Option<Call>, further: Option<usize>) -> usize
+/// How many instructions stand for one: itself, with those in front of it, or those of a call that is opened, or the rest
+/// of these.
+fn part_count(plain: &Plain, in_line: bool, call: Option<Call>, front: usize) -> usize
     requires plain { IsPlain plain.now }
     requires call { IfSome call (λ it. IsSmallCall plain.now it) }
-    ensures value { result ≡ emission.part_count plain.now in_line call further }
+    requires front { front ≤ MOST_LEADS + 1 }
+    ensures value { result ≡ emission.part_count plain.now in_line call front }
     ensures small { result ≤ 2 * MOST_GROWTH }
 {
     match call {
         Some(call) => call_size(plain, in_line, call),
-        None => { if in_line { own_count(further) } else { 0 } }
+        None => { if in_line { front + 1 } else { 0 } }
     }
 }
 
@@ -75,8 +68,8 @@ pub(crate) fn opened_places(
     requires number { number < length plain.now.functions }
     requires chosen { AreChosen plain.now (routine_at plain.now number) choice.now.chosen.items choice.now.slots }
     requires first { first ≤ MOST_SIZE * (2 * MOST_GROWTH) }
-    ensures places { IfOk result (λ table. table.places.items ≡ emission.opened_places plain.now choice.now.chosen.items (twin_by plain.now number choice.now) in_line 0 first (routine_at plain.now number).code) }
-    ensures end { IfOk result (λ table. table.end ≡ emission.opened_end plain.now choice.now.chosen.items (twin_by plain.now number choice.now) in_line 0 first (routine_at plain.now number).code) }
+    ensures places { IfOk result (λ table. table.places.items ≡ emission.opened_places plain.now choice.now.chosen.items (front_by plain.now number choice.now) in_line 0 first (routine_at plain.now number).code) }
+    ensures end { IfOk result (λ table. table.end ≡ emission.opened_end plain.now choice.now.chosen.items (front_by plain.now number choice.now) in_line 0 first (routine_at plain.now number).code) }
     ensures few { IfOk result (λ table. table.end ≤ first + MOST_SIZE * (2 * MOST_GROWTH)) }
 {
     let function = plain.function(number);
@@ -86,31 +79,126 @@ pub(crate) fn opened_places(
         let instruction = instruction_at(function, index);
         places.push(here)?;
         let call = chosen_call(instruction, place_in(&choice.chosen, index));
-        let further = choice.twin_at(plain, number, index, instruction);
-        here += part_count(plain, in_line, call, further);
+        let front = choice.front_at(plain, number, index, instruction);
+        here += part_count(plain, in_line, call, front);
     }
     places.push(here)?;
     Ok(Places { places, end: here })
 }
 
 impl Emission {
-    /// What an instruction becomes that is no call which is opened: itself with other places, and its twin in front of it, if
-    /// it has one.
-    fn push_itself(
+    /// The leads of an instruction, of those that are wanted.
+    fn push_leads(
         &mut self,
-        places: &[usize],
+        globals: usize,
+        given_slots: usize,
+        slots: usize,
+        wanted: &[Instruction],
+        origin: Origin,
+    ) -> Result<(), AllocError>
+        ensures code { AddsCode result self.old self.new (filter (emission.may_lead globals given_slots slots) wanted.now) }
+        ensures origins { AddsOrigins result self.old self.new (replicate (length (filter (emission.may_lead globals given_slots slots) wanted.now)) origin) }
+    {
+        for lead in wanted {
+            if may_lead(globals, given_slots, slots, *lead) {
+                self.push(*lead, origin)?;
+            }
+        }
+        Ok(())
+    }
+
+    /// The same, if it may have them and few are wanted.
+    fn push_leads_of(
+        &mut self,
+        globals: usize,
+        given_slots: usize,
+        slots: usize,
+        instruction: Instruction,
+        wanted: &[Instruction],
+        origin: Origin,
+    ) -> Result<(), AllocError>
+        ensures code { AddsCode result self.old self.new (emission.leads_of globals given_slots slots instruction wanted.now) }
+        ensures origins { AddsOrigins result self.old self.new (replicate (length (emission.leads_of globals given_slots slots instruction wanted.now)) origin) }
+    {
+        if !may_be_led(instruction) || wanted.len() > MOST_LEADS {
+            return Ok(());
+        }
+        self.push_leads(globals, given_slots, slots, wanted, origin)
+    }
+
+    /// The same, by the table of what is wanted.
+    fn push_wanted(
+        &mut self,
+        plain: &Plain,
+        number: usize,
+        choice: &Choice,
+        index: usize,
+        instruction: Instruction,
+        origin: Origin,
+    ) -> Result<(), AllocError>
+        requires { number < length plain.now.functions }
+        ensures code { AddsCode result self.old self.new (leads_by plain.now number choice.now index instruction) }
+        ensures origins { AddsOrigins result self.old self.new (replicate (length (leads_by plain.now number choice.now index instruction)) origin) }
+    {
+        let globals = plain.globals().len();
+        let given_slots = plain.function(number).slots;
+        match choice.leads.get(index) {
+            Some(wanted) => {
+                self.push_leads_of(
+                    globals,
+                    given_slots,
+                    choice.slots,
+                    instruction,
+                    wanted,
+                    origin,
+                )
+            }
+            None => Ok(()),
+        }
+    }
+
+    /// The twin of an instruction, if it has one.
+    fn push_twin(
+        &mut self,
         instruction: Instruction,
         further: Option<usize>,
         origin: Origin,
     ) -> Result<(), AllocError>
-        requires { IsFit 0 instruction }
-        ensures code { AddsCode result self.old self.new (emission.own_part (place_in places.now) instruction further) }
-        ensures origins { AddsOrigins result self.old self.new (replicate (emission.own_count further) origin) }
+        ensures code { AddsCode result self.old self.new (emission.twin_in instruction further) }
+        ensures origins { AddsOrigins result self.old self.new (replicate (length (emission.twin_in instruction further)) origin) }
     {
-        if let Some(slot) = further {
-            self.push(twin(slot, instruction), origin)?;
+        match further {
+            Some(slot) => self.push(twin(slot, instruction), origin),
+            None => Ok(()),
         }
-        self.push(moved(0, places, instruction), origin)
+    }
+
+    /// What an instruction becomes that is no call which is opened: itself with other places, and what stands in front of it.
+    fn push_itself(
+        &mut self,
+        caller: &Caller,
+        index: usize,
+        instruction: Instruction,
+        origin: Origin,
+    ) -> Result<(), AllocError>
+        requires known { IsKnown caller.now }
+        requires fits { IsFit 0 instruction }
+        ensures code { AddsCode result self.old self.new (emission.own_part (place_in caller.now.places.now) instruction (front_by caller.now.plain.now caller.now.number caller.now.choice.now index instruction)) }
+        ensures origins { AddsOrigins result self.old self.new (replicate (emission.own_count (length (front_by caller.now.plain.now caller.now.number caller.now.choice.now index instruction))) origin) }
+    {
+        self.push_wanted(
+            caller.plain,
+            caller.number,
+            caller.choice,
+            index,
+            instruction,
+            origin,
+        )?;
+        let further = caller
+            .choice
+            .twin_at(caller.plain, caller.number, index, instruction);
+        self.push_twin(instruction, further, origin)?;
+        self.push(moved(0, caller.places, instruction), origin)
     }
 
     /// What an instruction becomes: the code of a call that is opened, or itself with other places. Or the rest of that code.
@@ -124,8 +212,8 @@ impl Emission {
     ) -> Result<(), AllocError>
         requires known { IsKnown caller.now }
         requires at { At (routine_at caller.now.plain.now caller.now.number).code index instruction }
-        ensures code { AddsCode result self.old self.new (emission.part caller.now.plain.now caller.now.number (place_in caller.now.places.now) (place_in caller.now.rests.now) in_line index instruction (chosen_call instruction (place_in caller.now.choice.now.chosen.items index)) (twin_by caller.now.plain.now caller.now.number caller.now.choice.now index instruction)) }
-        ensures origins { AddsOrigins result self.old self.new (emission.part_origins caller.now.plain.now caller.now.number in_line index (chosen_call instruction (place_in caller.now.choice.now.chosen.items index)) (twin_by caller.now.plain.now caller.now.number caller.now.choice.now index instruction)) }
+        ensures code { AddsCode result self.old self.new (emission.part caller.now.plain.now caller.now.number (place_in caller.now.places.now) (place_in caller.now.rests.now) in_line index instruction (chosen_call instruction (place_in caller.now.choice.now.chosen.items index)) (front_by caller.now.plain.now caller.now.number caller.now.choice.now index instruction)) }
+        ensures origins { AddsOrigins result self.old self.new (emission.part_origins caller.now.plain.now caller.now.number in_line index (chosen_call instruction (place_in caller.now.choice.now.chosen.items index)) (length (front_by caller.now.plain.now caller.now.number caller.now.choice.now index instruction))) }
     {
         let function = caller.number;
         let origin = Origin { function, index };
@@ -142,12 +230,7 @@ impl Emission {
                 let here = place_in(caller.places, index);
                 self.push_site(alloc, &site, in_line, here, &callee.code, origin)
             }
-            None if in_line => {
-                let further = caller
-                    .choice
-                    .twin_at(caller.plain, function, index, instruction);
-                self.push_itself(caller.places, instruction, further, origin)
-            }
+            None if in_line => self.push_itself(caller, index, instruction, origin),
             None => Ok(()),
         }
     }
@@ -160,8 +243,8 @@ impl Emission {
         in_line: bool,
     ) -> Result<(), AllocError>
         requires { IsKnown caller.now }
-        ensures code { AddsCode result self.old self.new (emission.opened_code caller.now.plain.now caller.now.number caller.now.choice.now.chosen.items (twin_by caller.now.plain.now caller.now.number caller.now.choice.now) (place_in caller.now.places.now) (place_in caller.now.rests.now) in_line 0 (routine_at caller.now.plain.now caller.now.number).code) }
-        ensures origins { AddsOrigins result self.old self.new (emission.opened_origins caller.now.plain.now caller.now.number caller.now.choice.now.chosen.items (twin_by caller.now.plain.now caller.now.number caller.now.choice.now) in_line 0 (routine_at caller.now.plain.now caller.now.number).code) }
+        ensures code { AddsCode result self.old self.new (emission.opened_code caller.now.plain.now caller.now.number caller.now.choice.now.chosen.items (front_by caller.now.plain.now caller.now.number caller.now.choice.now) (place_in caller.now.places.now) (place_in caller.now.rests.now) in_line 0 (routine_at caller.now.plain.now caller.now.number).code) }
+        ensures origins { AddsOrigins result self.old self.new (emission.opened_origins caller.now.plain.now caller.now.number caller.now.choice.now.chosen.items (front_by caller.now.plain.now caller.now.number caller.now.choice.now) in_line 0 (routine_at caller.now.plain.now caller.now.number).code) }
     {
         let function = caller.plain.function(caller.number);
         for index in 0..function.code.len() {

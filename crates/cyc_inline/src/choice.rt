@@ -7,13 +7,13 @@ ghost use Rattle.cyc_plain.specs.declared.limits.TheConstants as plain_limits;
 ghost use Rattle.cyc_inline.specs.declared.limits.TheConstants as limits;
 ghost use Rattle.cyc_inline.specs.declared.site.Call.{Call};
 ghost use Rattle.cyc_inline.specs.inside.Sites.{chosen_call, place_in};
-ghost use Rattle.cyc_inline.specs.inside.Emission.{AreChosen, AreLeafs, IsChosenBy, IsNeed, IsSmallCall, call_size, twin_by};
+ghost use Rattle.cyc_inline.specs.inside.Emission.{AreChosen, AreLeafs, IsChosenBy, IsNeed, IsSmallCall, call_size, front_by, leads_by, twin_by};
 
 use crate::limits::MOST_GROWTH;
 use crate::naming::Twins;
 use crate::site::{Call, chosen_call, inside_size};
 use crate::tables::place_in;
-use crate::twinning::twin_slot;
+use crate::twinning::{lead_count, twin_slot};
 use cyc_plain::{Function, Instruction, LAYOUT_WORDS, MOST_FRAME_WORDS, Plain};
 use std::alloc::{AllocError, Global};
 
@@ -35,6 +35,8 @@ pub(crate) struct Choice {
     pub(crate) chosen: Vec<usize>,
     /// For each of them the slot that is wanted for its twin. It has one where that is a further slot, and a twin may stand.
     pub(crate) twins: Vec<usize>,
+    /// For each of them what is wanted in front of it.
+    pub(crate) leads: Vec<Vec<Instruction>>,
     /// How many slots it has with those of the functions that are called there, and those of the twins.
     pub(crate) slots: usize,
     /// How many instructions stand for these calls.
@@ -100,6 +102,7 @@ impl Choice {
         Choice {
             chosen: Vec::new(alloc),
             twins: Vec::new(alloc),
+            leads: Vec::new(alloc),
             slots,
             growth: 0,
         }
@@ -140,6 +143,45 @@ impl Choice {
             instruction,
             place_in(&self.twins, index),
         )
+    }
+
+    /// How many leads an instruction has.
+    fn leads_at(
+        &self,
+        plain: &Plain,
+        number: usize,
+        index: usize,
+        instruction: Instruction,
+    ) -> usize
+        requires { number < length plain.now.functions }
+        ensures value { result ≡ length (leads_by plain.now number self.now index instruction) }
+        ensures few { result ≤ limits.MOST_LEADS }
+    {
+        let globals = plain.globals().len();
+        let given_slots = plain.function(number).slots;
+        match self.leads.get(index) {
+            Some(wanted) => lead_count(globals, given_slots, self.slots, instruction, wanted),
+            None => 0,
+        }
+    }
+
+    /// How many instructions stand in front of one.
+    pub(crate) fn front_at(
+        &self,
+        plain: &Plain,
+        number: usize,
+        index: usize,
+        instruction: Instruction,
+    ) -> usize
+        requires { number < length plain.now.functions }
+        ensures value { result ≡ length (front_by plain.now number self.now index instruction) }
+        ensures few { result ≤ limits.MOST_LEADS + 1 }
+    {
+        let leads = self.leads_at(plain, number, index, instruction);
+        match self.twin_at(plain, number, index, instruction) {
+            Some(_) => leads + 1,
+            None => leads,
+        }
     }
 }
 
@@ -204,6 +246,7 @@ pub(crate) fn choose_twins(
     Some(Choice {
         chosen: Vec::new(alloc),
         twins: twins.wanted,
+        leads: twins.leads,
         slots,
         growth: 0,
     })

@@ -7,6 +7,7 @@ mod emission;
 mod emptying;
 mod expressions;
 mod inlining;
+mod leading;
 mod leaf;
 mod limits;
 mod making;

@@ -1,5 +1,7 @@
 //! Which expressions of a function get slots of their own: those that are computed again behind a place where the slot that
-//! had them got another word. Nothing is promised of it: what is wanted is checked where it is used.
+//! had them got another word, and those that a loop does not change, which are computed in front of it too. Nothing is
+//! promised of it: what is wanted is checked where it is used.
+use crate::leading::{Candidate, ends_of};
 use cyc_plain::{
     BinaryOperator, Function, Instruction, LAYOUT_WORDS, MOST_FRAME_WORDS, Operand, Plain,
     RECORD_WORDS, Request,
@@ -9,22 +11,26 @@ use std::alloc::{AllocError, Global};
 /// So many expressions of one bucket are compared at most.
 const MOST_COMPARED: usize = 8;
 
+/// A function of so many instructions at most is small: what it computes may be worth a slot outside of loops too.
+const MOST_SMALL: usize = 256;
+
 /// What the kinds of loads are numbered by, behind the operators.
-const LOAD: usize = 16;
+pub(crate) const LOAD: usize = 16;
 
-const LOAD_GLOBAL: usize = 17;
+pub(crate) const LOAD_GLOBAL: usize = 17;
 
-/// How many slots a function has with those that its expressions get, and for each of its instructions which of them its
-/// twin is for, or 0.
+/// How many slots a function has with those that its expressions get, for each of its instructions which of them its twin
+/// is for, or 0, and its leads.
 #[derive(Drop)]
 pub(crate) struct Twins {
     pub(crate) slots: usize,
     pub(crate) wanted: Vec<usize>,
+    pub(crate) leads: Vec<Vec<Instruction>>,
 }
 
 /// What an operand stands for, as far as it is known: a word, a slot, or an expression.
 #[derive(Clone, Copy)]
-enum Value {
+pub(crate) enum Value {
     Word { word: u32 },
     Slot { number: usize },
     Expression { number: usize },
@@ -32,27 +38,29 @@ enum Value {
 
 /// What an instruction computes or loads, and of what.
 #[derive(Clone, Copy)]
-struct Shape {
-    kind: usize,
-    left: Value,
-    right: Value,
+pub(crate) struct Shape {
+    pub(crate) kind: usize,
+    pub(crate) left: Value,
+    pub(crate) right: Value,
 }
 
 /// An expression. Times are numbers of instructions, from 1 on.
 #[derive(Clone, Copy)]
-struct Expression {
-    shape: Shape,
+pub(crate) struct Expression {
+    pub(crate) shape: Shape,
+    /// What its shape is of: a binary operator or a global.
+    pub(crate) instruction: Instruction,
     /// The number of the one before it in its bucket, and 1 more, or 0.
-    before: usize,
+    pub(crate) before: usize,
     /// When it was computed last, and since when it has this value.
-    seen_at: usize,
-    since: usize,
+    pub(crate) seen_at: usize,
+    pub(crate) since: usize,
     /// The slot that got it last.
-    holder: usize,
+    pub(crate) holder: usize,
     /// Whether it was computed again where the holder had another word.
-    is_needed: bool,
+    pub(crate) is_needed: bool,
     /// The slot of its own, or 0.
-    slot: usize,
+    pub(crate) slot: usize,
 }
 
 /// What a slot has had since a time.
@@ -70,25 +78,30 @@ struct Slots {
 }
 
 #[derive(Drop)]
-struct Search {
+pub(crate) struct Search {
     /// Whether each slot has its address taken.
     pinned: Vec<bool>,
-    /// Whether the code jumps back to each place.
-    heads: Vec<bool>,
+    /// The last instruction that jumps back to each place, and 1 more, or 0.
+    pub(crate) ends: Vec<usize>,
     /// When each slot was written last, and what it has had since.
-    written: Vec<usize>,
+    pub(crate) written: Vec<usize>,
     names: Vec<Name>,
-    expressions: Vec<Expression>,
+    pub(crate) expressions: Vec<Expression>,
     /// For each bucket the newest expression's number, and 1 more, or 0.
     buckets: Vec<usize>,
     /// For each instruction so far its expression's number, and 1 more, or 0.
-    seen: Vec<usize>,
+    pub(crate) seen: Vec<usize>,
+    /// What may be computed in front of a loop that is not over, and what is computed in front of one.
+    pub(crate) candidates: Vec<Candidate>,
+    pub(crate) leads: Vec<Candidate>,
     /// When memory was changed last, and since when names are good.
-    stored: usize,
+    pub(crate) stored: usize,
     begun: usize,
+    /// Up to which instruction an expression is worth a slot: the last one of the loops so far, or of a small function.
+    worth: usize,
 }
 
-fn number_in(numbers: &[usize], index: usize) -> usize {
+pub(crate) fn number_in(numbers: &[usize], index: usize) -> usize {
     match numbers.get(index) {
         Some(number) => *number,
         None => 0,
@@ -229,24 +242,6 @@ fn stores(instruction: Instruction) -> bool {
     }
 }
 
-/// Whether the code jumps back to each place.
-fn heads_of(alloc: Global, code: &[Instruction]) -> Result<Vec<bool>, AllocError> {
-    let mut heads = vec![in alloc; false; code.len()]?;
-    for index in 0..code.len() {
-        match code[index] {
-            Instruction::Jump { target } | Instruction::Branch { target, .. } => {
-                if target <= index {
-                    if let Some(head) = heads.get_mut(target) {
-                        *head = true;
-                    }
-                }
-            }
-            _ => {}
-        }
-    }
-    Ok(heads)
-}
-
 /// Whether each slot has its address taken.
 fn pins_of(alloc: Global, function: &Function) -> Result<Vec<bool>, AllocError> {
     let mut pinned = vec![in alloc; false; function.slots]?;
@@ -265,6 +260,25 @@ fn pins_of(alloc: Global, function: &Function) -> Result<Vec<bool>, AllocError> 
     Ok(pinned)
 }
 
+fn is_small(function: &Function) -> bool {
+    function.code.len() <= MOST_SMALL
+}
+
+/// Whether code jumps back.
+fn has_loop(code: &[Instruction]) -> bool {
+    for index in 0..code.len() {
+        match code[index] {
+            Instruction::Jump { target } | Instruction::Branch { target, .. } => {
+                if target <= index {
+                    return true;
+                }
+            }
+            _ => {}
+        }
+    }
+    false
+}
+
 impl Search {
     fn new(alloc: Global, function: &Function) -> Result<Search, AllocError> {
         let nothing = Name {
@@ -273,14 +287,21 @@ impl Search {
         };
         Ok(Search {
             pinned: pins_of(alloc, function)?,
-            heads: heads_of(alloc, &function.code)?,
+            ends: ends_of(alloc, &function.code)?,
             written: vec![in alloc; 0; function.slots]?,
             names: vec![in alloc; nothing; function.slots]?,
             expressions: Vec::new(alloc),
             buckets: vec![in alloc; 0; function.code.len()]?,
             seen: Vec::with_capacity(alloc, function.code.len())?,
+            candidates: Vec::new(alloc),
+            leads: Vec::new(alloc),
             stored: 0,
             begun: 1,
+            worth: if is_small(function) {
+                function.code.len()
+            } else {
+                0
+            },
         })
     }
 
@@ -401,10 +422,11 @@ impl Search {
             Some(held) => number_in(&self.written, held.holder),
             None => 0,
         };
+        let is_worth = time <= self.worth;
         if let Some(expression) = self.expressions.get_mut(number) {
             if expression.seen_at < made {
                 expression.since = time;
-            } else if written > expression.seen_at {
+            } else if is_worth && written > expression.seen_at {
                 expression.is_needed = true;
             }
             expression.seen_at = time;
@@ -413,7 +435,13 @@ impl Search {
     }
 
     /// An expression is computed, for a slot. Answers its number, and 1 more.
-    fn see(&mut self, shape: Shape, slot: usize, time: usize) -> Result<usize, AllocError> {
+    fn see(
+        &mut self,
+        shape: Shape,
+        instruction: Instruction,
+        slot: usize,
+        time: usize,
+    ) -> Result<usize, AllocError> {
         let at = self.find(shape);
         if at > 0 {
             let made = self.made(shape);
@@ -423,6 +451,7 @@ impl Search {
         let bucket = bucket_of(shape, self.buckets.len());
         self.expressions.push(Expression {
             shape,
+            instruction,
             before: number_in(&self.buckets, bucket),
             seen_at: time,
             since: time,
@@ -483,17 +512,26 @@ impl Search {
         index: usize,
     ) -> Result<(), AllocError> {
         let time = index.wrapping_add(1);
-        if flag_in(&self.heads, index) {
+        let end = number_in(&self.ends, index);
+        if end > 0 {
             self.begun = time;
+            self.worth = later(self.worth, end);
         }
         let slots = written_by(plain, instruction);
         let mut at = 0;
         if let Some(shape) = self.shape_of(instruction) {
             if !flag_in(&self.pinned, slots.first) {
-                at = self.see(shape, slots.first, time)?;
+                at = self.see(shape, instruction, slots.first, time)?;
             }
         }
         self.seen.push(at)?;
+        if at > 0 {
+            self.candidates.push(Candidate {
+                number: at - 1,
+                index,
+                front: None,
+            })?;
+        }
         match instruction {
             Instruction::Move {
                 destination,
@@ -558,14 +596,24 @@ pub(crate) fn twins_of(
     if function.frame_count > MOST_FRAME_WORDS {
         return Ok(None);
     }
+    if !is_small(function) && !has_loop(&function.code) {
+        return Ok(None);
+    }
     let mut search = Search::new(alloc, function)?;
     for index in 0..function.code.len() {
         search.look(plain, function.code[index], index)?;
+        search.close(alloc, &function.code, function.code[index], index)?;
     }
+    search.settle_all()?;
     let slots = search.give_slots(function.slots);
     if slots == function.slots {
         return Ok(None);
     }
     let wanted = search.wanted(alloc)?;
-    Ok(Some(Twins { slots, wanted }))
+    let leads = search.led(alloc)?;
+    Ok(Some(Twins {
+        slots,
+        wanted,
+        leads,
+    }))
 }

@@ -1,6 +1,8 @@
 -- The code of a function, some of whose calls are opened, as the crate makes it, and which may be.
-use Rattle.std.specs.Prelude.{◌≡◌, All, ℕ, suc, ◌+◌, ◌<◌, ◌≤◌, ◌^◌, ◌⊎◌, nat_lt, nat_le, Bool, true, false, List, [], ◌∷◌, ◌++◌, length, replicate, Result, OnOk, Option, Some, None, slice_get, slice_index_or, if◌then◌else◌}
+use Rattle.std.specs.Prelude.{◌≡◌, All, ℕ, suc, ◌+◌, ◌<◌, ◌≤◌, ◌^◌, ◌⊎◌, nat_lt, nat_le, Bool, true, false, not, ◌&&◌, List, [], ◌∷◌, ◌++◌, filter, length, replicate, Result, OnOk, Option, Some, None, slice_get, slice_index_or, if◌then◌else◌}
 use Rattle.std.specs.List.{AllByRecursion}
+use Rattle.std.specs.declared.vec.Vec.{Vec}
+use Rattle.std.specs.declared.alloc.Global.{Global}
 use Rattle.std.specs.declared.alloc.AllocError.{AllocError}
 use Rattle.cyc_plain.specs.declared.instruction.Instruction.{Instruction}
 use Rattle.cyc_plain.specs.declared.instruction.Instruction.TheVariants as instructions
@@ -14,11 +16,11 @@ use Rattle.cyc_inline.specs.declared.caller.Caller.{Caller}
 use Rattle.cyc_inline.specs.declared.choice.Choice.{Choice}
 use Rattle.cyc_inline.specs.declared.choice.Need.{Need}
 use Rattle.cyc_inline.specs.declared.emission.Emission.{Emission}
-use Rattle.cyc_inline.specs.declared.limits.TheConstants.{MOST_LEAF_CODE, MOST_GROWTH}
+use Rattle.cyc_inline.specs.declared.limits.TheConstants.{MOST_LEAF_CODE, MOST_GROWTH, MOST_LEADS}
 use Rattle.cyc_inline.specs.declared.origin.Origin.{Origin}
 use Rattle.cyc_inline.specs.declared.site.Call.{Call}
 use Rattle.cyc_inline.specs.declared.site.Site.{Site}
-use Rattle.cyc_inline.specs.inside.Opened.{moved, may_have_twin, twin, is_of_leaf, is_end, origin_at, origins_of, IsOpened}
+use Rattle.cyc_inline.specs.inside.Opened.{moved, is_division, may_have_twin, twin, may_be_led, IsTwin, is_of_leaf, is_end, origin_at, origins_of, IsOpened}
 use Rattle.cyc_inline.specs.inside.Sites.{chosen_call, place_in, site_code, site_origins, site_size}
 
 -- ---- what the methods that emit add
@@ -133,6 +135,44 @@ twin_slot given slots i wanted = if may_have_twin i then (if nat_le given wanted
 abbrev pub twin_by : Program → (number : ℕ) → Choice → (index : ℕ) → Instruction → Option ℕ
 twin_by program number choice index i = twin_slot (routine_at program number).slots choice.slots i (place_in choice.twins.items index)
 
+abbrev pub twin_in : Instruction → Option ℕ → List Instruction
+twin_in i (Some slot) = twin slot i ∷ []
+twin_in i None = []
+
+-- ---- which leads they have
+
+abbrev pub is_further : (given slots slot : ℕ) → Bool
+is_further given slots slot = nat_le given slot && nat_lt slot slots
+
+abbrev pub fits_in : (slots : ℕ) → Operand → Bool
+fits_in slots (operands.Slot number) = nat_lt number slots
+fits_in slots (operands.Word word) = nat_lt word (2 ^ 32)
+
+-- a lead of a function that then has so many slots: all that it names is there
+abbrev pub may_lead : (globals given slots : ℕ) → Instruction → Bool
+may_lead globals given slots (instructions.Move destination source) = is_further given slots destination && fits_in slots source
+may_lead globals given slots (instructions.Binary operator destination left right) =
+    not (is_division operator) && (is_further given slots destination && (fits_in slots left && fits_in slots right))
+may_lead globals given slots (instructions.LoadGlobal destination global) = is_further given slots destination && nat_lt global globals
+may_lead globals given slots instruction = false
+
+-- of those that are wanted, which are few
+abbrev pub leads_of : (globals given slots : ℕ) → Instruction → (wanted : List Instruction) → List Instruction
+leads_of globals given slots i wanted = if may_be_led i && nat_le (length wanted) MOST_LEADS then filter (may_lead globals given slots) wanted else []
+
+abbrev pub leads_if : (globals given slots : ℕ) → Instruction → (wanted : Option (Vec Instruction Global)) → List Instruction
+leads_if globals given slots i (Some wanted) = leads_of globals given slots i wanted.items
+leads_if globals given slots i None = []
+
+-- by the table of what is wanted
+abbrev pub leads_by : Program → (number : ℕ) → Choice → (index : ℕ) → Instruction → List Instruction
+leads_by program number choice index i =
+    leads_if (length program.globals) (routine_at program number).slots choice.slots i (slice_get choice.leads.items index)
+
+-- what stands in front of an instruction
+abbrev pub front_by : Program → (number : ℕ) → Choice → (index : ℕ) → Instruction → List Instruction
+front_by program number choice index i = leads_by program number choice index i ++ twin_in i (twin_by program number choice index i)
+
 -- ---- the code of a function: in line, and the rest behind it
 
 abbrev pub site_of : Program → Routine → Call → (behind rest : ℕ) → Site
@@ -144,75 +184,72 @@ site_of program r call behind rest = record {
   rest = rest;
 }
 
--- what an instruction becomes that is no such call: itself with other places, and its twin in front of it, if that has a slot
-abbrev pub own_part : (place : ℕ → ℕ) → Instruction → (further : Option ℕ) → List Instruction
-own_part place i (Some slot) = twin slot i ∷ moved 0 place i ∷ []
-own_part place i None = moved 0 place i ∷ []
+-- what an instruction becomes that is no such call: itself with other places, and what stands in front of it
+abbrev pub own_part : (place : ℕ → ℕ) → Instruction → (front : List Instruction) → List Instruction
+own_part place i front = front ++ moved 0 place i ∷ []
 
-abbrev pub own_count : (further : Option ℕ) → ℕ
-own_count (Some slot) = 2
-own_count None = 1
+abbrev pub own_count : (front : ℕ) → ℕ
+own_count front = suc front
 
 -- what an instruction becomes: the code of a call that is opened, or itself
-abbrev pub part : Program → (number : ℕ) → (place rest : ℕ → ℕ) → (in_line : Bool) → (index : ℕ) → Instruction → Option Call → (further : Option ℕ) → List Instruction
-part program number place rest in_line index i (Some call) further =
+abbrev pub part : Program → (number : ℕ) → (place rest : ℕ → ℕ) → (in_line : Bool) → (index : ℕ) → Instruction → Option Call → (front : List Instruction) → List Instruction
+part program number place rest in_line index i (Some call) front =
     site_code (site_of program (routine_at program number) call (place (index + 1)) (rest index)) in_line (place index) (routine_at program call.callee).code
-part program number place rest in_line index i None further = if in_line then own_part place i further else []
+part program number place rest in_line index i None front = if in_line then own_part place i front else []
 
-abbrev pub part_origins : Program → (number : ℕ) → (in_line : Bool) → (index : ℕ) → Option Call → (further : Option ℕ) → List Origin
-part_origins program number in_line index (Some call) further =
+abbrev pub part_origins : Program → (number : ℕ) → (in_line : Bool) → (index : ℕ) → Option Call → (front : ℕ) → List Origin
+part_origins program number in_line index (Some call) front =
     site_origins call (routine_at program call.callee).results in_line (origin_at number index) (routine_at program call.callee).code
-part_origins program number in_line index None further = if in_line then replicate (own_count further) (origin_at number index) else []
+part_origins program number in_line index None front = if in_line then replicate (own_count front) (origin_at number index) else []
 
-abbrev pub part_count : Program → (in_line : Bool) → Option Call → (further : Option ℕ) → ℕ
-part_count program in_line (Some call) further = call_size program in_line call
-part_count program in_line None further = if in_line then own_count further else 0
+abbrev pub part_count : Program → (in_line : Bool) → Option Call → (front : ℕ) → ℕ
+part_count program in_line (Some call) front = call_size program in_line call
+part_count program in_line None front = if in_line then own_count front else 0
 
--- the same of all instructions from an index on, each with the slot of its twin, if it has one
-abbrev pub opened_code : Program → (number : ℕ) → List ℕ → (twin_at : ℕ → Instruction → Option ℕ) → (place rest : ℕ → ℕ) → (in_line : Bool) → (index : ℕ) → List Instruction → List Instruction
-opened_code program number chosen twin_at place rest in_line index [] = []
-opened_code program number chosen twin_at place rest in_line index (i ∷ code) =
-    part program number place rest in_line index i (chosen_call i (place_in chosen index)) (twin_at index i)
-    ++ opened_code program number chosen twin_at place rest in_line (suc index) code
+-- the same of all instructions from an index on, each with what stands in front of it
+abbrev pub opened_code : Program → (number : ℕ) → List ℕ → (front_at : ℕ → Instruction → List Instruction) → (place rest : ℕ → ℕ) → (in_line : Bool) → (index : ℕ) → List Instruction → List Instruction
+opened_code program number chosen front_at place rest in_line index [] = []
+opened_code program number chosen front_at place rest in_line index (i ∷ code) =
+    part program number place rest in_line index i (chosen_call i (place_in chosen index)) (front_at index i)
+    ++ opened_code program number chosen front_at place rest in_line (suc index) code
 
-abbrev pub opened_origins : Program → (number : ℕ) → List ℕ → (twin_at : ℕ → Instruction → Option ℕ) → (in_line : Bool) → (index : ℕ) → List Instruction → List Origin
-opened_origins program number chosen twin_at in_line index [] = []
-opened_origins program number chosen twin_at in_line index (i ∷ code) =
-    part_origins program number in_line index (chosen_call i (place_in chosen index)) (twin_at index i)
-    ++ opened_origins program number chosen twin_at in_line (suc index) code
+abbrev pub opened_origins : Program → (number : ℕ) → List ℕ → (front_at : ℕ → Instruction → List Instruction) → (in_line : Bool) → (index : ℕ) → List Instruction → List Origin
+opened_origins program number chosen front_at in_line index [] = []
+opened_origins program number chosen front_at in_line index (i ∷ code) =
+    part_origins program number in_line index (chosen_call i (place_in chosen index)) (length (front_at index i))
+    ++ opened_origins program number chosen front_at in_line (suc index) code
 
 -- where each of them stands, if the first stands here, and what stands behind the last
-abbrev pub opened_places : Program → List ℕ → (twin_at : ℕ → Instruction → Option ℕ) → (in_line : Bool) → (index here : ℕ) → List Instruction → List ℕ
-opened_places program chosen twin_at in_line index here [] = here ∷ []
-opened_places program chosen twin_at in_line index here (i ∷ code) =
-    here ∷ opened_places program chosen twin_at in_line (suc index) (here + part_count program in_line (chosen_call i (place_in chosen index)) (twin_at index i)) code
+abbrev pub opened_places : Program → List ℕ → (front_at : ℕ → Instruction → List Instruction) → (in_line : Bool) → (index here : ℕ) → List Instruction → List ℕ
+opened_places program chosen front_at in_line index here [] = here ∷ []
+opened_places program chosen front_at in_line index here (i ∷ code) =
+    here ∷ opened_places program chosen front_at in_line (suc index) (here + part_count program in_line (chosen_call i (place_in chosen index)) (length (front_at index i))) code
 
-abbrev pub opened_end : Program → List ℕ → (twin_at : ℕ → Instruction → Option ℕ) → (in_line : Bool) → (index here : ℕ) → List Instruction → ℕ
-opened_end program chosen twin_at in_line index here [] = here
-opened_end program chosen twin_at in_line index here (i ∷ code) =
-    opened_end program chosen twin_at in_line (suc index) (here + part_count program in_line (chosen_call i (place_in chosen index)) (twin_at index i)) code
+abbrev pub opened_end : Program → List ℕ → (front_at : ℕ → Instruction → List Instruction) → (in_line : Bool) → (index here : ℕ) → List Instruction → ℕ
+opened_end program chosen front_at in_line index here [] = here
+opened_end program chosen front_at in_line index here (i ∷ code) =
+    opened_end program chosen front_at in_line (suc index) (here + part_count program in_line (chosen_call i (place_in chosen index)) (length (front_at index i))) code
 
--- A slot that the twin of an instruction may have: one that the function has further than the one given.
-pub record IsTwinSlot (r : Routine) (slots : ℕ) (i : Instruction) (slot : ℕ) : Type 0 where
-  pub further : r.slots ≤ slot
-  pub room : slot < slots
-  pub may : may_have_twin i ≡ true
+-- What stands in front of an instruction may stand there, and all that it names is there.
+pub record IsFront (program : Program) (r : Routine) (slots : ℕ) (i : Instruction) (front : List Instruction) : Type 0 where
+  pub each : AllByRecursion (λ (x : Instruction). (may_lead (length program.globals) r.slots slots x ≡ true) ⊎ IsTwin r.slots slots i x) front
+  pub some : 0 < length front → may_be_led i ≡ true
 
--- What the code of a function is made from: the calls that are chosen, the slots of twins, where each of its instructions stands, and where
+-- What the code of a function is made from: the calls that are chosen, what stands in front of each instruction, where each of its instructions stands, and where
 -- the rest of what stands for it.
-pub record AreParts (program : Program) (number : ℕ) (chosen : List ℕ) (twin_at : ℕ → Instruction → Option ℕ) (places rests : List ℕ) (slots : ℕ) : Type 0 where
+pub record AreParts (program : Program) (number : ℕ) (chosen : List ℕ) (front_at : ℕ → Instruction → List Instruction) (places rests : List ℕ) (slots : ℕ) : Type 0 where
   pub plain : IsPlain program
   pub is_function : number < length program.functions
   pub calls : AreChosen program (routine_at program number) chosen slots
-  pub twins : (k : ℕ) (i : Instruction) (slot : ℕ) → twin_at k i ≡ Some slot → IsTwinSlot (routine_at program number) slots i slot
+  pub fronts : (k : ℕ) (i : Instruction) → IsFront program (routine_at program number) slots i (front_at k i)
   pub few : slots < 2 ^ 64
-  pub standing : places ≡ opened_places program chosen twin_at true 0 0 (routine_at program number).code
-  pub resting : rests ≡ opened_places program chosen twin_at false 0 (opened_end program chosen twin_at true 0 0 (routine_at program number).code) (routine_at program number).code
+  pub standing : places ≡ opened_places program chosen front_at true 0 0 (routine_at program number).code
+  pub resting : rests ≡ opened_places program chosen front_at false 0 (opened_end program chosen front_at true 0 0 (routine_at program number).code) (routine_at program number).code
   pub fit : (k : ℕ) → place_in rests k < 2 ^ 64
 
 abbrev pub IsKnown : Caller → Type 0
 IsKnown caller =
-    AreParts caller.plain.now caller.number caller.choice.now.chosen.items (twin_by caller.plain.now caller.number caller.choice.now) caller.places.now caller.rests.now
+    AreParts caller.plain.now caller.number caller.choice.now.chosen.items (front_by caller.plain.now caller.number caller.choice.now) caller.places.now caller.rests.now
     caller.choice.now.slots
 
 -- ---- functions that are made

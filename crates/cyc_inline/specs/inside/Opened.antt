@@ -1,5 +1,5 @@
 -- The code of a function some of whose calls are inlined.
-use Rattle.std.specs.Prelude.{◌≡◌, ℕ, zero, suc, ◌+◌, ◌<◌, ◌≤◌, ◌⊎◌, Bool, true, false, not, List, [], ◌∷◌, ◌++◌, length, Option, Some, None, slice_get, slice_index_or}
+use Rattle.std.specs.Prelude.{◌≡◌, ℕ, zero, suc, ◌+◌, ◌<◌, ◌≤◌, ◌⊎◌, Bool, true, false, not, if◌then◌else◌, List, [], ◌∷◌, ◌++◌, length, Option, Some, None, slice_get, slice_index_or}
 use Rattle.std.specs.List.{AllByRecursion}
 use Rattle.cyc_plain.specs.declared.instruction.Instruction.{Instruction}
 use Rattle.cyc_plain.specs.declared.instruction.Instruction.TheVariants as instructions
@@ -122,18 +122,61 @@ twin slot (instructions.LoadGlobal destination global) = instructions.LoadGlobal
 twin slot (instructions.Load destination address offset) = instructions.Load slot address offset
 twin slot instruction = instruction
 
--- Its twin stands in front of an instruction, for a slot that the function given does not have.
-pub record IsTwinned (r s : Routine) (origins : List Origin) (function : ℕ) (place : ℕ → ℕ) (index : ℕ) (i : Instruction) : Type 0 where
+-- It is for a slot that the function given does not have.
+pub record IsTwin (given slots : ℕ) (i j : Instruction) : Type 0 where
   pub slot : ℕ
-  pub further : r.slots ≤ slot
-  pub room : slot < s.slots
+  pub further : given ≤ slot
+  pub room : slot < slots
   pub may : may_have_twin i ≡ true
-  pub at : At s.code (place index) (twin slot i)
-  pub itself : At s.code (place index + 1) (moved 0 place i)
-  pub made : AreMadeOf origins (place index) 2 (origin_at function index)
-  pub next : place (index + 1) ≡ place index + 2
+  pub is : j ≡ twin slot i
 
--- What stands for an instruction of the caller: itself, perhaps with its twin in front of it, or where it is a call, perhaps the callee's code.
+-- ---- leads
+
+-- An instruction of one call alone may have others in front of it, leads, if the code goes on behind it, or may.
+abbrev pub may_be_led : Instruction → Bool
+may_be_led (instructions.Move destination source) = true
+may_be_led (instructions.MoveWords destination source count) = true
+may_be_led (instructions.Unary operator destination operand) = true
+may_be_led (instructions.Binary operator destination left right) = true
+may_be_led (instructions.Branch comparison left right target) = true
+may_be_led (instructions.ReadByte destination) = true
+may_be_led (instructions.WriteByte source) = true
+may_be_led (instructions.LoadGlobal destination global) = true
+may_be_led (instructions.StoreGlobal global source) = true
+may_be_led (instructions.Load destination address offset) = true
+may_be_led (instructions.Store address offset source) = true
+may_be_led (instructions.LoadByte destination address offset) = true
+may_be_led (instructions.StoreByte address offset source) = true
+may_be_led instruction = false
+
+-- A lead gives a slot a word, and cannot fail at that.
+abbrev pub led_slot : Instruction → Option ℕ
+led_slot (instructions.Move destination source) = Some destination
+led_slot (instructions.Binary operator destination left right) = if is_division operator then None else Some destination
+led_slot (instructions.LoadGlobal destination global) = Some destination
+led_slot instruction = None
+
+-- It is for a slot that the function given does not have.
+pub record IsLead (given slots : ℕ) (j : Instruction) : Type 0 where
+  pub slot : ℕ
+  pub further : given ≤ slot
+  pub room : slot < slots
+  pub is : led_slot j ≡ Some slot
+
+-- what may stand in front of an instruction
+abbrev pub MayPrecede : (given slots : ℕ) → (i j : Instruction) → Type 0
+MayPrecede given slots i j = IsLead given slots j ⊎ IsTwin given slots i j
+
+-- Leads and perhaps its twin stand in front of an instruction.
+pub record IsLed (r s : Routine) (origins : List Origin) (function : ℕ) (place : ℕ → ℕ) (index : ℕ) (i : Instruction) : Type 0 where
+  pub front : List Instruction
+  pub each : AllByRecursion (MayPrecede r.slots s.slots i) front
+  pub may : may_be_led i ≡ true
+  pub at : HasAt s.code (place index) (front ++ moved 0 place i ∷ [])
+  pub made : AreMadeOf origins (place index) (suc (length front)) (origin_at function index)
+  pub next : place (index + 1) ≡ place index + suc (length front)
+
+-- What stands for an instruction of the caller: itself, perhaps with others in front of it, or where it is a call, perhaps the callee's code.
 abbrev pub StandsFor : Program → (r s : Routine) → List Origin → (function : ℕ) → (place : ℕ → ℕ) → (index : ℕ) → Instruction → Type 0
 StandsFor program r s origins function place index (instructions.Call callee arguments count result) =
     (At s.code (place index) (instructions.Call callee arguments count result) × AreMadeOf origins (place index) 1 (origin_at function index)
@@ -142,7 +185,7 @@ StandsFor program r s origins function place index (instructions.Call callee arg
 StandsFor program r s origins function place index i =
     (At s.code (place index) (moved 0 place i) × AreMadeOf origins (place index) 1 (origin_at function index)
     × (leaves i ≡ false → place (index + 1) ≡ place index + 1))
-    ⊎ IsTwinned r s origins function place index i
+    ⊎ IsLed r s origins function place index i
 
 -- A function with some of its calls inlined. Each instruction of its code is made of one of the program: of its own code, or of a leaf's.
 pub record IsOpened (program : Program) (function : ℕ) (r s : Routine) (origins : List Origin) : Type 0 where

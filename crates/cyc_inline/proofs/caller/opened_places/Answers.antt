@@ -3,7 +3,7 @@ use Rattle.cyc_plain.specs.declared.limits.TheConstants.{MOST_SIZE}
 use Rattle.cyc_plain.specs.declared.instruction.Instruction.{Instruction}
 use Rattle.cyc_plain.specs.inside.Program.{Routine}
 use Rattle.cyc_inline.specs.declared.site.Call.{Call}
-use Rattle.cyc_inline.specs.inside.Emission.{twin_by, part_count, opened_places, opened_end}
+use Rattle.cyc_inline.specs.inside.Emission.{front_by, part_count, opened_places, opened_end}
 use Rattle.cyc_inline.specs.inside.Sites.{chosen_call, place_in}
 use Rattle.cyc_inline.proofs.ChoosingCalls.{few_instructions}
 use Rattle.cyc_inline.proofs.EmissionLoops.{placed_next, ended_next}
@@ -29,15 +29,15 @@ loop-index-preserved c =
     let i = c.instruction_at-instruction.result in
     let room = c.loop-index.invariant.room in
     let small = c.part_count-here.ensures.small in
-    let twin_at : ℕ → Instruction → Option ℕ = twin_by program c.args.number c.args.choice.now in
+    let front_at : ℕ → Instruction → List Instruction = front_by program c.args.number c.args.choice.now in
     let line : c.place_in.result ≡ place_in chosen index = c.place_in.ensures ∙ ap (λ (lines : List ℕ). place_in lines index) c.deref.ensures.value in
-    let many : c.part_count-here.result ≡ part_count program in_line (chosen_call i (place_in chosen index)) (twin_at index i) =
-    c.part_count-here.ensures.value ∙ ap (λ (call : Option Call). part_count program in_line call c.twin_at-further.result) (c.chosen_call-call.ensures ∙ ap (chosen_call i) line)
-    ∙ ap (part_count program in_line (chosen_call i (place_in chosen index))) c.twin_at-further.ensures in
+    let many : c.part_count-here.result ≡ part_count program in_line (chosen_call i (place_in chosen index)) (length (front_at index i)) =
+    c.part_count-here.ensures.value ∙ ap (λ (call : Option Call). part_count program in_line call c.front_at-front.result) (c.chosen_call-call.ensures ∙ ap (chosen_call i) line)
+    ∙ ap (part_count program in_line (chosen_call i (place_in chosen index))) c.front_at-front.ensures.value in
     record {
-      value = placed_next program chosen twin_at in_line code index c.loop-index.here c.part_count-here.result i (opened_places program chosen twin_at in_line 0 c.args.first code)
+      value = placed_next program chosen front_at in_line code index c.loop-index.here c.part_count-here.result i (opened_places program chosen front_at in_line 0 c.args.first code)
           c.loop-index.places.items c.push.new.self.items c.instruction_at-instruction.ensures c.in_ok-push.ensures.items many c.loop-index.invariant.value;
-      end = ended_next program chosen twin_at in_line code index c.loop-index.here c.part_count-here.result (opened_end program chosen twin_at in_line 0 c.args.first code) i
+      end = ended_next program chosen front_at in_line code index c.loop-index.here c.part_count-here.result (opened_end program chosen front_at in_line 0 c.args.first code) i
           c.instruction_at-instruction.ensures many c.loop-index.invariant.end;
       room = omega (arith, room, small);
     }

@@ -1,8 +1,8 @@
-use Rattle.std.proofs.Common.{◌≡◌, ◌∙◌, ℕ, ◌++◌, List, Option, true, false, ap, arith, inl, inr}
+use Rattle.std.proofs.Common.{◌≡◌, ◌∙◌, ℕ, ◌++◌, List, true, false, ap, arith, inl, inr}
 use Rattle.cyc_plain.specs.declared.instruction.Instruction.{Instruction}
 use Rattle.cyc_plain.specs.inside.Program.{Routine, routine_at}
 use Rattle.cyc_inline.specs.declared.origin.Origin.{Origin}
-use Rattle.cyc_inline.specs.inside.Emission.{twin_by, opened_code, opened_origins}
+use Rattle.cyc_inline.specs.inside.Emission.{front_by, opened_code, opened_origins}
 use Rattle.cyc_inline.specs.inside.Sites.{place_in}
 use Rattle.cyc_inline.proofs.EmissionPlaces.{parts_are}
 use Rattle.cyc_inline.proofs.RangesFunction.{is_made}
@@ -32,7 +32,7 @@ returns c =
     let number = c.args.number in
     let r = routine_at program number in
     let chosen = c.args.choice.now.chosen.items in
-    let twin_at : ℕ → Instruction → Option ℕ = twin_by program number c.args.choice.now in
+    let front_at : ℕ → Instruction → List Instruction = front_by program number c.args.choice.now in
     let places = c.deref.result.now in
     let rests = c.deref-2.result.now in
     let f = c.function-function.result.now in
@@ -51,11 +51,11 @@ returns c =
     let rest = c.in_ok-rest.ensures in
     let first = table.few in
     let last = rest.few in
-    let front : List Instruction = opened_code program number chosen twin_at (place_in places) (place_in rests) true 0 r.code in
-    let back : List Instruction = opened_code program number chosen twin_at (place_in places) (place_in rests) false 0 r.code in
-    let front_origins : List Origin = opened_origins program number chosen twin_at true 0 r.code in
-    let back_origins : List Origin = opened_origins program number chosen twin_at false 0 r.code in
-    is_made program number chosen twin_at places rests made c.push_parts-2.new.self.origins.items (record {
+    let front : List Instruction = opened_code program number chosen front_at (place_in places) (place_in rests) true 0 r.code in
+    let back : List Instruction = opened_code program number chosen front_at (place_in places) (place_in rests) false 0 r.code in
+    let front_origins : List Origin = opened_origins program number chosen front_at true 0 r.code in
+    let back_origins : List Origin = opened_origins program number chosen front_at false 0 r.code in
+    is_made program number chosen front_at places rests made c.push_parts-2.new.self.origins.items (record {
       parts = parts_are program number c.args.choice.now places rests c.in_ok-table.table c.in_ok-rest.rest c.requires.plain c.requires.number c.requires.chosen
           (omega arith) c.deref.ensures.value table.places table.end c.deref-2.ensures.value rest.places rest.end (omega (arith, first, last));
       name = ap (λ (x : Routine). x.name) same;
