@@ -1,4 +1,4 @@
-//! Which calls of a function are opened, and which of its instructions have a twin.
+//! Which calls of a function are opened, and which of its instructions have a twin or leads.
 ghost use Rattle.std.specs.Prelude.{◌≡◌, ◌+◌, ◌*◌, ◌<◌, ◌≤◌, ◌⊎◌, Some, [], length, IfOk, IfSome, OnOk};
 ghost use Rattle.cyc_plain.specs.inside.Program.{routine_at, routine_of};
 ghost use Rattle.cyc_plain.specs.inside.Straight.{At};
@@ -28,7 +28,7 @@ pub(crate) struct Need {
     pub(crate) line: usize,
 }
 
-/// The calls of a function that are opened, and its instructions that have a twin.
+/// The calls of a function that are opened, and its instructions that have a twin or leads.
 #[derive(Drop)]
 pub(crate) struct Choice {
     /// For each of its instructions how many of the callee's stand in line, if it is such a call, and else 0.
@@ -225,7 +225,7 @@ pub(crate) fn choose(
     Ok(choice)
 }
 
-/// No call of a function, but twins, if its frame stays small with their slots.
+/// No call of a function, but twins and leads, if its frame stays small with their slots.
 pub(crate) fn choose_twins(
     alloc: Global,
     plain: &Plain,

@@ -1,7 +1,8 @@
 //! Which expressions of a function are computed in front of a loop: those that the loop does not change. Nothing is promised
 //! of it: what is wanted is checked where it is used.
 use crate::limits::MOST_LEADS;
-use crate::naming::{LOAD_GLOBAL, Search, Value, number_in};
+use crate::naming::{LOAD_GLOBAL, Search, Value};
+use crate::tables::place_in;
 use crate::twinning::may_be_led;
 use cyc_plain::{Instruction, Operand};
 use std::alloc::{AllocError, Global};
@@ -18,7 +19,7 @@ pub(crate) struct Candidate {
     pub(crate) front: Option<usize>,
 }
 
-fn is_number_in(number: usize, candidates: &[Candidate]) -> bool {
+fn is_place_in(number: usize, candidates: &[Candidate]) -> bool {
     for candidate in candidates {
         if candidate.number == number {
             return true;
@@ -28,7 +29,7 @@ fn is_number_in(number: usize, candidates: &[Candidate]) -> bool {
 }
 
 /// Where an instruction jumps back to.
-fn head_of(instruction: Instruction, index: usize) -> Option<usize> {
+pub(crate) fn head_of(instruction: Instruction, index: usize) -> Option<usize> {
     match instruction {
         Instruction::Jump { target } | Instruction::Branch { target, .. } => {
             if target <= index { Some(target) } else { None }
@@ -69,8 +70,8 @@ impl Search {
     fn is_same_from(&self, value: Value, front: usize, kept: &[Candidate]) -> bool {
         match value {
             Value::Word { .. } => true,
-            Value::Slot { number } => number_in(&self.written, number) <= front,
-            Value::Expression { number } => is_number_in(number, kept),
+            Value::Slot { number } => place_in(&self.written, number) <= front,
+            Value::Expression { number } => is_place_in(number, kept),
         }
     }
 
@@ -110,7 +111,7 @@ impl Search {
         index: usize,
     ) -> Result<(), AllocError> {
         if let Some(head) = head_of(instruction, index) {
-            if number_in(&self.ends, head) == index.wrapping_add(1) {
+            if place_in(&self.ends, head) == index.wrapping_add(1) {
                 return self.close_loop(alloc, code, head);
             }
         }
@@ -153,7 +154,7 @@ impl Search {
         if !self.stays_from(candidate.number, first, kept) {
             return self.settle(candidate);
         }
-        if front.is_some() && is_number_in(candidate.number, kept) {
+        if front.is_some() && is_place_in(candidate.number, kept) {
             return Ok(());
         }
         if kept.len() >= MOST_LEADS {

@@ -1,7 +1,8 @@
 //! Which expressions of a function get slots of their own: those that are computed again behind a place where the slot that
 //! had them got another word, and those that a loop does not change, which are computed in front of it too. Nothing is
 //! promised of it: what is wanted is checked where it is used.
-use crate::leading::{Candidate, ends_of};
+use crate::leading::{Candidate, ends_of, head_of};
+use crate::tables::place_in;
 use cyc_plain::{
     BinaryOperator, Function, Instruction, LAYOUT_WORDS, MOST_FRAME_WORDS, Operand, Plain,
     RECORD_WORDS, Request,
@@ -99,13 +100,6 @@ pub(crate) struct Search {
     begun: usize,
     /// Up to which instruction an expression is worth a slot: the last one of the loops so far, or of a small function.
     worth: usize,
-}
-
-pub(crate) fn number_in(numbers: &[usize], index: usize) -> usize {
-    match numbers.get(index) {
-        Some(number) => *number,
-        None => 0,
-    }
 }
 
 fn flag_in(flags: &[bool], index: usize) -> bool {
@@ -267,13 +261,8 @@ fn is_small(function: &Function) -> bool {
 /// Whether code jumps back.
 fn has_loop(code: &[Instruction]) -> bool {
     for index in 0..code.len() {
-        match code[index] {
-            Instruction::Jump { target } | Instruction::Branch { target, .. } => {
-                if target <= index {
-                    return true;
-                }
-            }
-            _ => {}
+        if head_of(code[index], index).is_some() {
+            return true;
         }
     }
     false
@@ -309,7 +298,7 @@ impl Search {
     fn changed(&self, value: Value) -> usize {
         match value {
             Value::Word { .. } => 0,
-            Value::Slot { number } => number_in(&self.written, number),
+            Value::Slot { number } => place_in(&self.written, number),
             Value::Expression { number } => match self.expressions.get(number) {
                 Some(expression) => expression.since,
                 None => 0,
@@ -396,7 +385,7 @@ impl Search {
 
     /// The number of an expression that was seen, and 1 more, or 0.
     fn find(&self, shape: Shape) -> usize {
-        let mut at = number_in(&self.buckets, bucket_of(shape, self.buckets.len()));
+        let mut at = place_in(&self.buckets, bucket_of(shape, self.buckets.len()));
         for _ in 0..MOST_COMPARED {
             if at == 0 {
                 return 0;
@@ -419,7 +408,7 @@ impl Search {
     /// An expression of this number is computed once more, for a slot.
     fn see_again(&mut self, number: usize, made: usize, slot: usize, time: usize) {
         let written = match self.expressions.get(number) {
-            Some(held) => number_in(&self.written, held.holder),
+            Some(held) => place_in(&self.written, held.holder),
             None => 0,
         };
         let is_worth = time <= self.worth;
@@ -452,7 +441,7 @@ impl Search {
         self.expressions.push(Expression {
             shape,
             instruction,
-            before: number_in(&self.buckets, bucket),
+            before: place_in(&self.buckets, bucket),
             seen_at: time,
             since: time,
             holder: slot,
@@ -512,7 +501,7 @@ impl Search {
         index: usize,
     ) -> Result<(), AllocError> {
         let time = index.wrapping_add(1);
-        let end = number_in(&self.ends, index);
+        let end = place_in(&self.ends, index);
         if end > 0 {
             self.begun = time;
             self.worth = later(self.worth, end);
