@@ -8,7 +8,8 @@ import functools
 import os
 import re
 
-import suite
+import suite  # first: it says where the tools are
+from sources import stands_on
 
 LONG_FILE, LONG_IMPORT = 600, 300
 CRATES = os.path.join(suite.ROOT, "crates")
@@ -48,6 +49,9 @@ def lemmas():
         if path.endswith("Answers.antt"):
             continue
         for match in SIGNATURE.finditer(without_comments(text)):
+            # What a module has as a parameter is declared, and has no equation.
+            if not re.search(rf"^{match[1]}{re.escape(match[3])}(?![\w'-])(?! :)", text[match.start():], re.M):
+                continue
             lines = match[4].split("\n")
             # The equations of what was just declared, and whatever comes behind an empty line, are no part of it.
             kept = [lines[0]]
@@ -84,8 +88,9 @@ def imports_of(path):
 
 
 def lemmas_of_std():
-    """Lemmas of std alone that do not stand in the lowest crate."""
-    return [lemma for lemma in lemmas() if lemma.crate != "cyc_words" and of_std(lemma)]
+    """Lemmas of std alone that do not stand in the lowest crate, of those that stand on it."""
+    graph = stands_on(suite.ROOT)
+    return [lemma for lemma in lemmas() if "cyc_words" in graph[lemma.crate] and of_std(lemma)]
 
 
 @functools.cache
@@ -99,23 +104,25 @@ def asked_for():
             alias = re.search(rf"use Rattle\.{re.escape(module)} as (\w+)$", text, re.M)[1]
             found.update((module, name) for name in re.findall(rf"\b{alias}\.([A-Za-z_][\w'-]*)", text))
     for path, text in sources("src", ".rt").items():
-        crate = path.split(os.sep)[1]
-        for names in re.findall(r"(?:crate|cyc_\w+)::proofs::([\w:'-]+)", text):
+        for crate, names in re.findall(r"\b(crate|cyc_\w+)::proofs::([\w:'-]+)", text):
             *module, name = names.split("::")
-            found.add((".".join([crate, "proofs", *module]), name))
+            found.add((".".join([path.split(os.sep)[1] if crate == "crate" else crate, "proofs", *module]), name))
     return found
 
 
-def blocks(text):
-    """The parts of a file, each with the name that it declares or defines."""
-    name, lines = "", []
+def without_lemma(text, name):
+    """A file without a lemma's statement and equations: these go on in lines that are set further in, or begin with the name again."""
+    kept, inside, margin = [], False, 0
     for line in without_comments(text).split("\n"):
-        head = re.match(r"^ *(?:pub )?([A-Za-z_][\w'-]*)(?= :| .*(?<![<>=]) = | =$)", line)
-        if head and head[1] != name:
-            yield name, "\n".join(lines)
-            name, lines = head[1], []
-        lines.append(line)
-    yield name, "\n".join(lines)
+        head = re.match(rf"^( {{0,2}})(?:pub )?{re.escape(name)} : ", line)
+        indent = len(line) - len(line.lstrip())
+        if head:
+            inside, margin = True, len(head[1])
+        elif inside and line.strip() and indent <= margin:
+            inside = indent == margin and bool(re.match(rf"(?:{re.escape(name)}(?![\w'-])|unfolding\b|[\])}}])", line.lstrip()))
+        if not inside:
+            kept.append(line)
+    return "\n".join(kept)
 
 
 # Files that are read for themselves: programs that are worked through, and what laws rest on by name.
@@ -130,9 +137,8 @@ def lemmas_that_nothing_names():
             continue
         module = path.removesuffix(".antt").removeprefix("crates/").replace("/", ".")
         own = [lemma.name for lemma in lemmas() if lemma.path == path]
-        parts = [(name, set(WORD.findall(part))) for name, part in blocks(text)]
         found += [f"{path} {name}" for name in own
-                  if (module, name) not in asked_for() and not any(name in words for other, words in parts if other != name)]
+                  if (module, name) not in asked_for() and name not in WORD.findall(without_lemma(text, name))]
     return found
 
 

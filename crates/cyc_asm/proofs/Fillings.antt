@@ -1,15 +1,13 @@
 -- Laws of the slots that are filled.
-use Rattle.std.proofs.Common.{◌≡◌, ◌≢◌, ℕ, zero, suc, ◌+◌, ◌<◌, List, length, get_or, take, Bool, true, false, cond, nat_eq, Option, None, Some, refl, sym, ap, subst, ◌∙◌, arith, inl, inr, eq-eqb}
-use Rattle.std.specs.Prelude.{◌⊎◌, ◌||◌, slice_get, slice_set}
-use Rattle.std.proofs.lemmas.Bool.{cases_eq, ne_eqb}
-use Rattle.std.proofs.lemmas.List.{get_or-set_same, get_or-set_other, length-set}
-use Rattle.std.proofs.lemmas.List.Folds.{list_any_at, list_any_more}
+use Rattle.std.proofs.Common.{◌≡◌, ℕ, zero, suc, List, Bool, true, false, cond, Option, None, Some, refl, sym, ap, subst, ◌∙◌, eq-eqb}
+use Rattle.std.specs.Prelude.{slice_get}
+use Rattle.std.proofs.lemmas.List.Folds.{list_any_at}
 use Rattle.std.proofs.lemmas.Option.{slice_get_within, get_or_from_slice_get}
 use Rattle.cyc_words.proofs.Booleans.{and_left}
 use Rattle.cyc_isa.specs.declared.instr.Instr.{Instr}
 use Rattle.cyc_select.specs.declared.code.Line.{Line}
 use Rattle.cyc_select.specs.declared.code.Line.TheVariants as lines
-use Rattle.cyc_asm.specs.inside.Slots.{is_movable, moves, label_of, is_label, is_named, moved, filling, AreNamed}
+use Rattle.cyc_asm.specs.inside.Slots.{is_movable, moves, label_of, is_label, is_named, moved, filling}
 
 -- a line that is a branch or a jump
 abbrev pub is_jump : Line → Bool
@@ -109,53 +107,3 @@ ordinary_empty code number i at = by (filling code number) refl
         let one : Some f.line ≡ Some (lines.Ordinary i) = sym f.at ∙ at in
         let same : f.line ≡ lines.Ordinary i = cc in
         absurd (let e : false ≡ true = ap (moves j) (sym same) ∙ f.moves in cc)
-
--- ---- the table of labels
-
--- nobody goes anywhere yet
-pub named_none : (code : List Line) (count : ℕ) (named : List Bool) → length named ≡ count → ((number : ℕ) → number < count → get_or named number false ≡ false) → AreNamed (take 0 code) count named
-named_none code count named long each = record { long = long; each = each }
-
--- one more line, which goes nowhere
-pub named_past : (code : List Line) (index count : ℕ) (named : List Bool) (d line : Line) → index < length code → get_or code index d ≡ line → label_of line ≡ None
-    → AreNamed (take index code) count named → AreNamed (take (index + 1) code) count named
-named_past code index count named d line below here nowhere so_far = record {
-  long = so_far.long;
-  each = λ number inside.
-      so_far.each number inside
-      ∙ sym (list_any_more (λ (l : Line). is_label number (label_of l)) code index d below
-      ∙ ap (λ b. is_named (take index code) number || b) (ap (λ (l : Line). is_label number (label_of l)) here ∙ ap (is_label number) nowhere)
-      ∙ or_false (is_named (take index code) number));
-}
-  where
-    or_false : (b : Bool) → (b || false) ≡ b
-    or_false true = refl
-    or_false false = refl
-
--- one more line, which goes there
-pub named_more : (code : List Line) (index count : ℕ) (named : List Bool) (d line : Line) (label : ℕ) → index < length code → get_or code index d ≡ line → label_of line ≡ Some label → label < count
-    → AreNamed (take index code) count named → AreNamed (take (index + 1) code) count (slice_set named label true)
-named_more code index count named d line label below here goes known so_far = record {
-  long = length-set named label true ∙ so_far.long;
-  each = λ number inside.
-      by number (cases_eq number label) inside
-      ∙ sym (list_any_more (λ (l : Line). is_label number (label_of l)) code index d below
-      ∙ ap (λ b. is_named (take index code) number || b) (ap (λ (l : Line). is_label number (label_of l)) here ∙ ap (is_label number) goes));
-}
-  where
-    or_false : (b : Bool) → b ≡ (b || false)
-    or_false true = refl
-    or_false false = refl
-
-    or_true : (b : Bool) → true ≡ (b || true)
-    or_true true = refl
-    or_true false = refl
-
-    by : (number : ℕ) → (number ≡ label) ⊎ (number ≢ label) → number < count → get_or (slice_set named label true) number false ≡ (is_named (take index code) number || nat_eq label number)
-    by number (inl same) inside =
-        ap (λ (n : ℕ). get_or (slice_set named label true) n false) same
-        ∙ get_or-set_same named label true false (let l = so_far.long in omega (arith, l, known))
-        ∙ or_true (is_named (take index code) number) ∙ ap (λ b. is_named (take index code) number || b) (sym (eq-eqb label number (sym same)))
-    by number (inr other) inside =
-        get_or-set_other named label number true false other ∙ so_far.each number inside
-        ∙ or_false (is_named (take index code) number) ∙ ap (λ b. is_named (take index code) number || b) (sym (ne_eqb label number (λ e. other (sym e))))

@@ -132,12 +132,6 @@ module _ (program : Program) where
       counted (measures.Uniques class) there = let k = h.1.1 class (omega (arith, there)) in (of_uniques b class _ k.0, k.1)
       counted measures.Lasting there = are measures.Lasting there tt
 
-  -- what is told in the place of a number
-  pub no_regions : (b : Bool) (bound : PageBound) → GivesBack program b → ((count : ℕ) → bound ≡ bounds.Pages count → ⊥) → IsRegionAnswer program b bound → IsPageAnswer program bound
-  no_regions b (bounds.Pages count) gives other h = absurd (other count refl)
-  no_regions b bounds.TooMany gives other (m, there, is) = (b, gives, m, there, is)
-  no_regions b bounds.Circle gives other (m, there, is) = (b, gives, m, there, is)
-
   pub no_uniques : (b : Bool) (bound : PageBound) → GivesBack program b → ((count : ℕ) → bound ≡ bounds.Pages count → ⊥) → IsUniqueAnswer program bound → IsPageAnswer program bound
   no_uniques b (bounds.Pages count) gives other h = absurd (other count refl)
   no_uniques b bounds.TooMany gives other (class, below, is) = (b, gives, measures.Uniques class, below, of_uniques b class too_many is)

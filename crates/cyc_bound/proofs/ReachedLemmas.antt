@@ -1,39 +1,16 @@
 -- A walk over the functions that `main` leads to: each of those that were found is led to, and what the walk is through with calls nothing
 -- that was not found.
-use Rattle.std.proofs.Common.{◌≡◌, ℕ, suc, ◌+◌, ◌<◌, ◌≤◌, ◌⊎◌, Bool, true, false, List, [], ◌∷◌, ◌++◌, length, get_or, refl, sym, ap, subst, ◌∙◌, inl, inr, arith}
-use Rattle.std.specs.Prelude.{set, slice_get, Contains}
-use Rattle.std.proofs.lemmas.Bool.{cases_eq, cases_lt, false≢true}
-use Rattle.std.proofs.lemmas.List.{get_or_default, get_or-set_other, length-append}
-use Rattle.std.proofs.lemmas.List.Elements.{Contains-append_left, Contains-push, Contains-push_cases, Contains-get_or}
+use Rattle.std.proofs.Common.{◌≡◌, ℕ, suc, ◌+◌, ◌<◌, ◌≤◌, ◌⊎◌, Bool, List, [], ◌∷◌, ◌++◌, length, get_or, sym, ap, subst, ◌∙◌, inl, inr, arith}
+use Rattle.std.specs.Prelude.{slice_get, Contains}
+use Rattle.std.proofs.lemmas.Bool.{cases_lt}
+use Rattle.std.proofs.lemmas.List.{get_or_default, length-append}
+use Rattle.std.proofs.lemmas.List.Elements.{Contains-append_left, Contains-push_cases, Contains-get_or}
 use Rattle.cyc_words.proofs.Items.{get_or_before}
 use Rattle.cyc_types.specs.TypedTrees.{Program}
 use Rattle.cyc_bound.specs.Bound.{callees_of, Calls, Row, Alone, Before}
 use Rattle.cyc_bound.specs.inside.Reached.{AreMarked, IsNoted, AreLedTo, AreReached}
 use Rattle.cyc_bound.proofs.CallLemmas.{behind}
 use Rattle.cyc_bound.proofs.WalkLemmas.{calls_at}
-
--- a function that is marked is there already
-pub noted_before : (marks : List Bool) (found : List ℕ) (f : ℕ) → AreMarked marks found → get_or marks f false ≡ true → IsNoted found f marks found
-noted_before marks found f are is = record {
-  marked = are;
-  there = are f is;
-  alike = inl refl;
-}
-
--- one that is not is added
-pub is_noted_now : (marks : List Bool) (found : List ℕ) (f : ℕ) → AreMarked marks found → IsNoted found f (set marks f true) (found ++ f ∷ [])
-is_noted_now marks found f are = record {
-  marked = λ g is. elim (cases_eq g f) [
-    | inl same ↦ subst (λ (n : ℕ). Contains (found ++ f ∷ []) n) (sym same) (Contains-push found f)
-    | inr other ↦ Contains-append_left found (f ∷ []) g (are g (sym (get_or-set_other marks f g true false other) ∙ is))
-  ];
-  there = Contains-push found f;
-  alike = inr refl;
-}
-
--- nothing is marked
-pub none_marked : (marks : List Bool) (found : List ℕ) → ((f : ℕ) → get_or marks f false ≡ false) → AreMarked marks found
-none_marked marks found none f is = absurd (false≢true (sym (none f) ∙ is))
 
 module _ (program : Program) where
   -- what is known when the walk is through with the functions before this place
@@ -94,16 +71,6 @@ module _ (program : Program) where
     pub here : get_or found place 0 ≡ function
     pub are : callees ≡ callees_of (slice_get program.functions function)
     pub there : (k : ℕ) → k < i → Contains found (get_or callees k 0)
-
-  pub place_begins : (function : ℕ) (callees : List ℕ) (marks : List Bool) (found : List ℕ) (place : ℕ) → IsWalked marks found place → place < length found → get_or found place 0 ≡ function
-      → callees ≡ callees_of (slice_get program.functions function) → IsAtPlace function callees 0 marks found place
-  place_begins function callees marks found place w less here are = record {
-    walked = w;
-    less = less;
-    here = here;
-    are = are;
-    there = λ k none. absurd (omega (arith, none));
-  }
 
   pub place_next : (function : ℕ) (callees : List ℕ) (i callee : ℕ) (marks marked : List Bool) (found after : List ℕ) (place : ℕ) → IsAtPlace function callees i marks found place
       → i < length callees → callee ≡ get_or callees i callee → IsNoted found callee marked after → IsAtPlace function callees (i + 1) marked after place

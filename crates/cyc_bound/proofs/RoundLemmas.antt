@@ -1,12 +1,11 @@
 -- What rounds make of costs: they stay below all that are enough, and come to at least as many calls, one behind the other, as there were
 -- rounds.
-use Rattle.std.proofs.Common.{◌≡◌, ℕ, suc, ◌+◌, ◌<◌, ◌≤◌, min, max, List, length, get_or, refl, sym, ap, subst, ◌∙◌, inl, inr, arith}
+use Rattle.std.proofs.Common.{◌≡◌, ℕ, suc, ◌+◌, ◌<◌, ◌≤◌, max, List, length, get_or, sym, ap, subst, ◌∙◌, inl, inr, arith}
 use Rattle.std.proofs.lemmas.Bool.{cases_eq, cases_lt}
 use Rattle.std.proofs.lemmas.List.{length-set, get_or-set_same, get_or-set_other, set_past}
-use Rattle.cyc_words.proofs.Items.{get_or-map_beyond}
-use Rattle.cyc_types.specs.TypedTrees.{Function, Program}
+use Rattle.cyc_types.specs.TypedTrees.{Program}
 use Rattle.cyc_bound.specs.declared.costs.Measure.{Measure}
-use Rattle.cyc_bound.specs.Costs.{too_many, function_cost, next_costs, Below, IsClosed, AreCosts, IsRunCost, costs_after, most_rounds, StillGrow}
+use Rattle.cyc_bound.specs.Costs.{next_costs, Below, IsClosed, IsRunCost, costs_after, most_rounds, StillGrow}
 use Rattle.cyc_bound.specs.inside.Rounds.{raised, AreRaised}
 use Rattle.cyc_bound.proofs.MoreLemmas.{next_more}
 
@@ -58,14 +57,6 @@ module _ (program : Program) (m : Measure) where
     pub next : (f : ℕ) → f < i → N before f ≤ get_or after f 0
     pub least : (others : List ℕ) → IsClosed program m others → Below before others → Below after others
 
-  pub to_none : (before : List ℕ) → AreRaisedTo before 0 before
-  to_none before = record {
-    all = refl;
-    more = λ f. omega arith;
-    next = λ f less. absurd (omega (arith, less));
-    least = λ others closed below. below;
-  }
-
   -- any function may be made costlier at any time
   pub to_same : (before : List ℕ) (i : ℕ) (after : List ℕ) (f : ℕ) → AreRaisedTo before i after → AreRaisedTo before i (raised program m after f)
   to_same before i after f h = record {
@@ -91,17 +82,6 @@ module _ (program : Program) (m : Measure) where
         least = s.least;
       }
 
-  pub to_all : (before : List ℕ) (i : ℕ) (after : List ℕ) → length program.functions ≤ i → AreRaisedTo before i after → AreRaised program m before after
-  to_all before i after whole h = record {
-    all = h.all;
-    more = h.more;
-    next = λ f. elim (cases_lt f i) [
-      | inl earlier ↦ h.next f earlier
-      | inr past ↦ omega (arith, get_or-map_beyond (λ (g : Function). min too_many (function_cost m before g)) program.functions f (omega (arith, whole, past)))
-    ];
-    least = h.least;
-  }
-
   -- ---- all rounds
 
   pub record AreAfter (rounds : ℕ) (costs : List ℕ) : Type 0 where
@@ -109,14 +89,6 @@ module _ (program : Program) (m : Measure) where
     pub least : (others : List ℕ) → IsClosed program m others → Below costs others
     pub more : Below (costs_after program m rounds) costs
     pub grow : 0 < rounds → IsClosed program m (costs_after program m rounds) → ⊥
-
-  pub after_none : (costs : List ℕ) → length costs ≡ length program.functions → ((f : ℕ) → get_or costs f 0 ≡ 0) → AreAfter 0 costs
-  after_none costs all none = record {
-    all = all;
-    least = λ others closed f. omega (arith, none f);
-    more = λ f. omega arith;
-    grow = λ some closed. absurd (omega (arith, some));
-  }
 
   pub after_more : (rounds : ℕ) (before after : List ℕ) → AreAfter rounds before → AreRaised program m before after → (IsClosed program m after → ⊥) → AreAfter (rounds + 1) after
   after_more rounds before after h r not_closed = subst (λ (n : ℕ). AreAfter n after) (one_more rounds) (record {
@@ -135,29 +107,10 @@ module _ (program : Program) (m : Measure) where
       more : Below (costs_after program m (suc rounds)) after
       more f = omega (arith, next_more m (costs_after program m rounds) before h.more program f, r.next f)
 
-  pub after_closed : (rounds : ℕ) (before after : List ℕ) → AreAfter rounds before → AreRaised program m before after → IsClosed program m after → AreCosts program m after
-  after_closed rounds before after h r closed = (closed, λ others enough. r.least others enough (h.least others enough))
-
   pub after_all : (rounds : ℕ) (costs : List ℕ) → most_rounds ≤ rounds → rounds ≤ most_rounds → AreAfter rounds costs → StillGrow program m
   after_all rounds costs whole within h =
       let same : rounds ≡ most_rounds = omega (arith, whole, within) in
       subst (λ (n : ℕ). IsClosed program m (costs_after program m n) → ⊥) same (h.grow (omega (arith, whole)))
-
-  -- ---- looking at functions
-
-  pub closed_all : (costs : List ℕ) (i : ℕ) → length program.functions ≤ i → ((f : ℕ) → f < i → N costs f ≤ get_or costs f 0) → IsClosed program m costs
-  closed_all costs i whole h f = elim (cases_lt f i) [
-    | inl earlier ↦ h f earlier
-    | inr past ↦ omega (arith, get_or-map_beyond (λ (g : Function). min too_many (function_cost m costs g)) program.functions f (omega (arith, whole, past)))
-  ]
-
-  pub closed_more : (costs : List ℕ) (i : ℕ) → ((f : ℕ) → f < i → N costs f ≤ get_or costs f 0) → N costs i ≤ get_or costs i 0 → (f : ℕ) → f < i + 1 → N costs f ≤ get_or costs f 0
-  closed_more costs i h enough f below = elim (cases_lt f i) [
-    | inl earlier ↦ h f earlier
-    | inr there ↦
-        let here : f ≡ i = omega (arith, below, there) in
-        subst (λ (n : ℕ). N costs n ≤ get_or costs n 0) (sym here) enough
-  ]
 
   -- ---- a run
 

@@ -92,7 +92,3 @@ module _ (program : Program) where
   so_far_all class pages whole within h =
       let same : class ≡ suc greatest_class = omega (arith, whole, within) in
       subst (λ (n : ℕ). UniquesSoFar program n pages) same h
-
-  -- a page more is a number still
-  pub so_far_fits : (class pages blocks more : ℕ) → class ≤ greatest_class → UniquesSoFar program class pages → blocks < too_many → more ≡ pages_for class blocks → pages + more < 2 ^ 64
-  so_far_fits class pages blocks more below (cost, h) few one = omega (arith, below, h.1.0, one, few_pages class blocks below few)

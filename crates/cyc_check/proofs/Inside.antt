@@ -4,7 +4,7 @@ use Rattle.std.proofs.lemmas.List.{append_assoc}
 use Rattle.cyc_words.proofs.Lists.{drop_to_last}
 use Rattle.cyc_types.specs.declared.scope.Scope.{Scope as Opened}
 use Rattle.cyc_syntax.specs.Trees.{Named, Statement}
-use Rattle.cyc_types.specs.typing.Scopes.{Scope, RegionName, LocalVariable, Sort, behind, in_block, in_labelled, in_body, with_local, with_opened, with_region, with_key_opened}
+use Rattle.cyc_types.specs.typing.Scopes.{Scope, RegionName, LocalVariable, Sort, behind, in_block, in_labelled, with_local, with_opened, with_region, with_key_opened}
 use Rattle.cyc_types.specs.declared.region.Region.TheVariants as regions
 use Rattle.cyc_types.specs.declared.scope.Kind.{Kind}
 use Rattle.cyc_types.specs.declared.scope.Kind.TheVariants as kinds
@@ -60,9 +60,6 @@ inside_labelled l g = record {
 
 pub inside_behind : (g : Scope) (s : Statement) → Inside g (behind g s)
 inside_behind g s = record { locals = []; names = []; opened = []; same = refl }
-
-pub inside_body : (g : Scope) (s : Statement) → Inside g (behind (in_body g) s)
-inside_body g s = record { locals = []; names = []; opened = []; same = refl }
 
 -- ---- leaving
 

@@ -1,9 +1,7 @@
 -- An answer that is right decides.
-use Rattle.std.proofs.Common.{◌≡◌, ◌∙◌, ◌⊎◌, ℕ, List, map, Result, Ok, Err, sym, ap}
+use Rattle.std.proofs.Common.{◌≡◌, ◌∙◌, ℕ, List, map, Ok, sym, ap}
 use Rattle.cyc_words.proofs.Decisions.{decides}
 use Rattle.cyc_words.specs.Decision.{Decides}
-use Rattle.cyc_words.specs.Fault.{memory_fault}
-use Rattle.cyc_words.specs.declared.fault.Fault.{Fault}
 use Rattle.cyc_syntax.specs.declared.tokens.Token.{Token as CodeToken}
 use Rattle.cyc_syntax.specs.Tokens.{Token, spelling_of, token_of}
 use Rattle.cyc_syntax.specs.TokenRule.{AreTokensOf}
@@ -26,8 +24,3 @@ module _ {X : Type 0} (view : X → List ℕ) (text : List ℕ) where
       → Decides (IsAccepted text) (λ ts y. HasSameTokens ts (view y)) (IsRefused text) (IsRefused text) (Ok x)
   kept x ts us (a, accepted, is) tokens (b, also, are) others alike =
       laid_out x a b accepted also (ap kinds_of (sym are) ∙ same_kinds text (view x) ts us tokens.places others.places alike ∙ ap kinds_of is)
-
-  -- its fault, or want of memory
-  pub refused : (fault : Fault) → (fault ≡ memory_fault) ⊎ IsRefused text fault
-      → Decides (IsAccepted text) (λ ts y. HasSameTokens ts (view y)) (IsRefused text) (IsRefused text) (Err fault)
-  refused fault why = decides (IsAccepted text) (λ ts y. HasSameTokens ts (view y)) (IsRefused text) (IsRefused text) (text_is_decided text) (Err fault) tt why

@@ -1,7 +1,7 @@
 -- Values that fit the parameters of a signature: what one walk over both has noted and found.
-use Rattle.std.proofs.Common.{◌≡◌, ℕ, zero, suc, ◌+◌, ◌<◌, ◌≤◌, Bool, true, false, ◌&&◌, ◌||◌, nat_eq, not, List, [], ◌∷◌, ◌++◌, length, map, drop, get_or, slice_get, slice_set, replicate, Option, Some, None, Ok, refl, sym, ap, subst, ◌∙◌}
+use Rattle.std.proofs.Common.{◌≡◌, ℕ, zero, suc, ◌+◌, ◌<◌, ◌≤◌, true, false, ◌&&◌, nat_eq, not, List, [], ◌∷◌, ◌++◌, length, map, drop, get_or, slice_get, slice_set, replicate, Option, Some, None, Ok, refl, sym, ap, subst, ◌∙◌}
 use Rattle.std.specs.List.{list_any, refill}
-use Rattle.std.proofs.lemmas.Bool.{and_from, eq-eqb}
+use Rattle.std.proofs.lemmas.Bool.{and_from, eq-eqb, or_from}
 use Rattle.std.proofs.lemmas.List.{drop_all, drop_more}
 use Rattle.cyc_words.proofs.Lists.{drop_read}
 use Rattle.cyc_words.specs.declared.fault.Fault.{Fault}
@@ -107,10 +107,6 @@ fits_region {s = s} st same = record {
 
 -- ---- the regions of structs
 
-both_false : (a b : Bool) → a ≡ false → b ≡ false → (a || b) ≡ false
-both_false true b h k = h
-both_false false b h k = k
-
 pub fits_none : (table : Table) → FitsRegions table table [] []
 fits_none table = record { noted = refl; alike = λ later. refl; usual = refl }
 
@@ -121,7 +117,7 @@ fits_more {a} {b} {c} {r} {s} {rs} {ss} one more = record {
       and_from (region_eq s (substituted_region (instance_later c later) r)) (regions_eq ss (map (substituted_region (instance_later c later)) rs))
       (subst (λ t. region_eq s (substituted_region (instance_in t) r) ≡ true) (noted_append b (all_paired rs ss) later ∙ ap (λ t. noted_places t later) (sym more.noted)) (one.alike (all_paired rs ss ++ later)))
       (more.alike later);
-  usual = both_false (is_unique_for_variable (r, s)) (list_any is_unique_for_variable (all_paired rs ss)) one.usual more.usual;
+  usual = or_from (is_unique_for_variable (r, s)) (list_any is_unique_for_variable (all_paired rs ss)) one.usual more.usual;
 }
 
 -- ---- types
@@ -133,10 +129,10 @@ pub fits_char : (table : Table) → FitsType table table Char Char
 fits_char table = record { noted = refl; alike = λ later. refl; usual = refl }
 
 pub fits_handle : {a b : Table} {r s : Region} → FitsRegion a b r s → FitsType a b (Handle r) (Handle s)
-fits_handle {r = r} {s = s} one = record { noted = one.noted; alike = one.alike; usual = both_false (is_unique_for_variable (r, s)) false one.usual refl }
+fits_handle {r = r} {s = s} one = record { noted = one.noted; alike = one.alike; usual = or_from (is_unique_for_variable (r, s)) false one.usual refl }
 
 pub fits_key : {a b : Table} {r s : Region} → FitsRegion a b r s → FitsType a b (Key r) (Key s)
-fits_key {r = r} {s = s} one = record { noted = one.noted; alike = one.alike; usual = both_false (is_unique_for_variable (r, s)) false one.usual refl }
+fits_key {r = r} {s = s} one = record { noted = one.noted; alike = one.alike; usual = or_from (is_unique_for_variable (r, s)) false one.usual refl }
 
 pub fits_struct : {a b : Table} {m n : ℕ} {rs ss : List Region} → nat_eq m n ≡ true → FitsRegions a b rs ss → FitsType a b (Struct n rs) (Struct m ss)
 fits_struct {a} {b} {m} {n} {rs} {ss} same all = record {
@@ -153,7 +149,7 @@ fits_pointer {a} {b} {c} {k} {l} {t} {u} {r} {s} same target one = record {
       (and_from (ty_eq u (substituted_ty (instance_later c later) t)) (region_eq s (substituted_region (instance_later c later) r))
       (subst (λ table. ty_eq u (substituted_ty (instance_in (noted_places table later)) t) ≡ true) (sym one.noted) (target.alike ((r, s) ∷ later))) (one.alike later));
   usual = any-push_turned is_unique_for_variable (paired t u) (r, s)
-      ∙ both_false (is_unique_for_variable (r, s)) (list_any is_unique_for_variable (paired t u)) one.usual target.usual;
+      ∙ or_from (is_unique_for_variable (r, s)) (list_any is_unique_for_variable (paired t u)) one.usual target.usual;
 }
 
 -- ---- values
@@ -184,14 +180,14 @@ module _ (c : RegionContext) where
   fits_given_handle {r = r} {s = s} one = record {
     noted = one.noted;
     kept = λ later p. (one.alike later, (refl, (refl, tt)));
-    usual = both_false (is_unique_for_variable (r, s)) false one.usual refl;
+    usual = or_from (is_unique_for_variable (r, s)) false one.usual refl;
   }
 
   pub fits_given_key : {a b : Table} {r s : Region} → FitsRegion a b r s → FitsValue c a b (Key r) (Value (Key s))
   fits_given_key {r = r} {s = s} one = record {
     noted = one.noted;
     kept = λ later p. (one.alike later, (refl, (refl, tt)));
-    usual = both_false (is_unique_for_variable (r, s)) false one.usual refl;
+    usual = or_from (is_unique_for_variable (r, s)) false one.usual refl;
   }
 
   -- the region of the outermost mark outlives the one that is wanted
@@ -210,7 +206,7 @@ module _ (c : RegionContext) where
       (refl, (st.outlived later, tt)),
     );
     usual = any-push_turned is_unique_for_variable (paired t u) (r, s)
-        ∙ both_false (is_unique_for_variable (r, s)) (list_any is_unique_for_variable (paired t u)) st.usual target.usual;
+        ∙ or_from (is_unique_for_variable (r, s)) (list_any is_unique_for_variable (paired t u)) st.usual target.usual;
   }
 
   -- ---- all values

@@ -1,10 +1,9 @@
 -- The table of first places gives what the rules say that a signature's variables are.
-use Rattle.std.proofs.Common.{◌≡◌, ℕ, zero, suc, ◌+◌, ◌-◌, ◌<◌, ◌≤◌, Bool, true, false, cond, if◌then◌else◌, ◌||◌, List, [], ◌∷◌, ◌++◌, map, replicate, drop, take, length, append-nil, get_or, slice_get, slice_index_or, unwrap_or, Option, Some, None, refl, sym, ap, ◌∙◌, arith}
+use Rattle.std.proofs.Common.{◌≡◌, ℕ, zero, suc, ◌+◌, ◌-◌, ◌<◌, ◌≤◌, Bool, true, false, cond, if◌then◌else◌, List, [], ◌∷◌, ◌++◌, map, replicate, drop, take, length, append-nil, get_or, slice_get, slice_index_or, unwrap_or, Option, Some, None, refl, sym, ap, ◌∙◌, arith}
 use Rattle.std.specs.List.{list_any, refill}
 use Rattle.std.proofs.lemmas.Bool.{eq-eqb}
 use Rattle.std.proofs.lemmas.Bool.Decides.{nat_tests}
 use Rattle.std.proofs.lemmas.List.{drop_all, take_all, length-set, take-replicate, replicate-append-replicate}
-use Rattle.std.proofs.lemmas.List.Folds.{list_any-append}
 use Rattle.std.proofs.lemmas.Option.{same_Some}
 use Rattle.cyc_words.proofs.Lists.{drop_read}
 use Rattle.cyc_words.proofs.Numbers.{zero_plus}
@@ -88,16 +87,6 @@ module _ (ts : List TyCode) (cs : List ConvertedCode) (i : ℕ) where
       ap (λ xs. noted_places table (paired_arguments (map view_ty xs) (map value_in (drop i cs)))) (drop_read ts i t lt_t is_t)
       ∙ ap (λ xs. noted_places table (paired_arguments (map view_ty (t ∷ drop (i + 1) ts)) (map value_in xs))) (drop_read cs i c lt_c is_c)
       ∙ noted_append table (paired_argument (view_ty t) (type_of (value_in c))) (paired_arguments (map view_ty (drop (i + 1) ts)) (map value_in (drop (i + 1) cs)))
-
--- the last one first
-pub any_turned : {A : Type 0} (test : A → Bool) (ps : List A) (q : A) → list_any test (ps ++ q ∷ []) ≡ (test q || list_any test ps)
-any_turned test ps q = list_any-append test ps (q ∷ []) ∙ by_tests (list_any test ps) (test q)
-  where
-    by_tests : (a b : Bool) → (a || (b || false)) ≡ (b || a)
-    by_tests true true = refl
-    by_tests true false = refl
-    by_tests false true = refl
-    by_tests false false = refl
 
 pub paired_int : (t : Ty) → paired t Int ≡ []
 paired_int Int = refl

@@ -182,7 +182,7 @@ fn has_unique_argument(variables: &[Region], regions: &[Region]) -> bool
     false
 }
 
-#[tactic(auto, using(crate::proofs::Instances::any_turned))]
+#[tactic(auto, using(cyc_words::proofs::Searches::any_last_first))]
 fn has_unique_in(parameter: &Ty, given: &Ty) -> bool
     ensures { result ≡ list_any is_unique_for_variable (paired (view_ty parameter.now) (view_ty given.now)) }
 {

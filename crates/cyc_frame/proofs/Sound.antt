@@ -127,9 +127,6 @@ module _ (program : Program) (well : IsWellFormed program) (small : HasSmallFram
   pub fits : (k : ℕ) (r : Routine) → k < length program.functions → r ≡ routine_at program k → r.slots + LAYOUT_WORDS ≤ r.frame_count
   fits k r below is = subst (λ (r : Routine). r.slots + LAYOUT_WORDS ≤ r.frame_count) (sym is) (well.functions k no_routine below).frame
 
-  pub fits_small : (k : ℕ) (r : Routine) → k < length program.functions → r ≡ routine_at program k → r.frame_count ≤ MOST_FRAME_WORDS
-  fits_small k r below is = subst (λ (r : Routine). r.frame_count ≤ MOST_FRAME_WORDS) (sym is) (small k below)
-
 frame_before : (frames : List Frame) (frame : Frame) (k : ℕ) → k < length frames → frame_at (frames ++ frame ∷ []) k ≡ frame_at frames k
 frame_before [] frame k below = absurd (omega arith)
 frame_before (f ∷ frames) frame zero below = refl
@@ -144,16 +141,6 @@ pub frame_there : (frames : List Frame) (k : ℕ) (other : Frame) → k < length
 frame_there [] k other below = absurd (omega arith)
 frame_there (f ∷ frames) zero other below = refl
 frame_there (f ∷ frames) (suc k) other below = frame_there frames k other (omega arith)
-
-pub no_frames : (program : Program) (most : ℕ) → AreFirstFrames program 0 most []
-no_frames program most = record {
-  as_many = refl;
-  each = λ k below. absurd (omega arith);
-  homes = λ k below. absurd (omega arith);
-  within = λ k below. absurd (omega arith);
-  idle = λ k below. absurd (omega arith);
-  fills = λ k below. absurd (omega arith);
-}
 
 -- a frame more
 pub more_frames : (program : Program) (count before most : ℕ) (frames : List Frame) (frame : Frame) (r : Routine) → AreFirstFrames program count before frames → before ≤ most → frame.saved ≤ most

@@ -1,5 +1,5 @@
 -- Tests on numbers, and what two of them say together.
-use Rattle.std.proofs.Common.{◌≡◌, ℕ, Bool, true, false, cond, ◌||◌, nat_eq, List, [], ◌∷◌, ◌++◌, refl, sym, ap, subst, ◌∙◌}
+use Rattle.std.proofs.Common.{◌≡◌, ℕ, Bool, true, false, cond, ◌||◌, nat_eq, List, [], ◌∷◌, ◌++◌, refl, ap, subst, ◌∙◌}
 use Rattle.std.specs.List.{list_any}
 use Rattle.std.proofs.lemmas.Bool.{or_left, or_right}
 use Rattle.std.proofs.lemmas.List.Folds.{list_any-append}
@@ -38,13 +38,6 @@ has_last ns n = has_right ns (n ∷ []) n (or_left (nat_eq n n) false (nat_eq-it
 
 pub updated_same : (f : ℕ → Bool) (n : ℕ) (b : Bool) (m : ℕ) → n ≡ m → updated f n b m ≡ b
 updated_same f n b m e = subst (λ k. updated f n b k ≡ b) e (ap (λ t. cond t b (f n)) (nat_eq-itself n))
-
-pub updated_other : (f : ℕ → Bool) (n : ℕ) (b : Bool) (m : ℕ) → (m ≡ n → ⊥) → updated f n b m ≡ f m
-updated_other f n b m h = go (nat_eq n m) (told n m)
-  where
-    go : (t : Bool) → Told n m t → cond t b (f m) ≡ f m
-    go true (same e) = absurd (h (sym e))
-    go false (other k) = refl
 
 pub updated_true : (f : ℕ → Bool) (n m : ℕ) → f m ≡ true → updated f n true m ≡ true
 updated_true f n m h = go (nat_eq n m)

@@ -12,7 +12,7 @@ use Rattle.cyc_types.specs.flow.States.{State, Unreached, Full, meet, fullness, 
 use Rattle.cyc_types.specs.flow.Touched.{and_local, and_assigned, touched, touched_place, touched_placement, touched_initial, touched_converted, touched_arguments, touched_operations}
 use Rattle.cyc_types.specs.flow.Touched.{touched_side, touched_value, touched_thrown, touched_declaration, touched_statement, touched_items, touched_item, touched_clauses}
 use Rattle.cyc_types.specs.flow.Expressions.{and_peeked, peek_of, peek_behind, used, stored, is_free, rule, rule_place, rule_placement, rule_initial, rule_converted, rule_arguments, rule_operations}
-use Rattle.cyc_types.specs.flow.Statements.{Around, Known, at, in_loop, left_loop, rule_value, rule_side, peeked_side, rule_swapped, locked_by, locks_of, rule_declared, caught, with_caught, or_clause, rule_statement, rule_items, rule_item, rule_clauses}
+use Rattle.cyc_types.specs.flow.Statements.{Around, Known, at, in_loop, left_loop, rule_side, peeked_side, rule_swapped, locked_by, locks_of, rule_declared, caught, with_caught, or_clause, rule_statement, rule_items, rule_item, rule_clauses}
 use Rattle.cyc_types.specs.flow.Statements as published
 use Rattle.cyc_guard.specs.inside.Held.{IsAtLeast, Guard}
 use Rattle.cyc_guard.specs.inside.Statements.{behind_item}
@@ -214,10 +214,6 @@ module _ (p : Guard) (e : Bool) where
         followed_operations os q b g (touched a ns) (followed a (and_peeked (Some n) q) f b ns h (before_operations p os (touched a ns) r) x) r y
 
   -- ---- what stands in a statement
-
-  followed_value : (v : Option Converted) (f g : State) (ns : List ℕ) → Fits p e f → Rests p (touched_value v ns) → Derives (rule_value v f) g → Fits p e g
-  followed_value None f g ns h r (u, eq) = subst (Fits p e) (sym eq) h
-  followed_value (Some c) f g ns h r x = followed_converted c [] f g ns h r x
 
   pub followed_side : (x : Side) (q : List ℕ) (f g : State) (ns : List ℕ) → Fits p e f → Rests p (touched_side x ns) → Derives (rule_side q x f) g → Fits p e g
   followed_side (VariableSide l t) q f g ns h r (u, eq) = subst (Fits p e) (sym eq) h

@@ -8,7 +8,7 @@ use Rattle.std.proofs.lemmas.Bool.{false≢true, leb-true}
 use Rattle.std.proofs.lemmas.List.{length-append}
 use Rattle.std.proofs.lemmas.List.Elements.{recursion_from_All}
 use Rattle.std.proofs.lemmas.List.Sums.{sum_by-cons, get_or-le-sum_by}
-use Rattle.cyc_words.proofs.Booleans.{and_left, and_right}
+use Rattle.cyc_words.proofs.Booleans.{and_left, and_right, false_from_not}
 use Rattle.cyc_words.proofs.Lists.{all_append}
 use Rattle.cyc_words.proofs.Members.{All_at}
 use Rattle.cyc_words.proofs.Numbers.{nat_lt-true}
@@ -31,7 +31,7 @@ use Rattle.cyc_inline.specs.declared.choice.Need.{Need}
 use Rattle.cyc_inline.specs.declared.site.Call.{Call}
 use Rattle.cyc_inline.specs.inside.Opened.{is_division, may_have_twin, twin, may_be_led, IsTwin, IsLead, is_end}
 use Rattle.cyc_inline.specs.inside.Sites.{chosen_call, place_in, site_size}
-use Rattle.cyc_inline.specs.inside.Emission.{IsFitOperand, IsFit, IsFitEnd, IsFitInside, IsFitSite, IsLeaf, AreLeafs, IsSmallCall, IsOpenable, IsNeed, IsChosenBy, AreChosen, call_size, twin_by, twin_in, is_further, fits_in, may_lead, leads_if, front_by, IsFront}
+use Rattle.cyc_inline.specs.inside.Emission.{IsFitOperand, IsFit, IsFitEnd, IsFitInside, IsFitSite, IsLeaf, AreLeafs, IsOpenable, IsNeed, IsChosenBy, AreChosen, call_size, twin_by, twin_in, is_further, fits_in, may_lead, leads_if, front_by, IsFront}
 
 -- ---- a call that is chosen
 
@@ -127,10 +127,6 @@ twin_slots program number choice index i slot is =
     go true false below may least is_below is = absurd (let e : None ≡ Some slot = is in cc)
     go false least below may is_least is_below is = absurd (let e : None ≡ Some slot = is in cc)
 
-pub no_division : (t : Bool) → not t ≡ true → t ≡ false
-no_division true may = absurd (false≢true may)
-no_division false may = refl
-
 further_least : (given slots slot : ℕ) → is_further given slots slot ≡ true → given ≤ slot
 further_least given slots slot is = leb-true given slot (and_left (nat_le given slot) (nat_lt slot slots) is)
 
@@ -145,7 +141,7 @@ is_lead globals given slots (instructions.Move destination source) may =
 is_lead globals given slots (instructions.Binary operator destination left right) may =
     let more = is_further given slots destination && (fits_in slots left && fits_in slots right) in
     let further = and_left (is_further given slots destination) (fits_in slots left && fits_in slots right) (and_right (not (is_division operator)) more may) in
-    let none = no_division (is_division operator) (and_left (not (is_division operator)) more may) in
+    let none = false_from_not (is_division operator) (and_left (not (is_division operator)) more may) in
     record {
       slot = destination;
       further = further_least given slots destination further;
@@ -285,11 +281,6 @@ pub same_size : (program : Program) (call : Call) (in_line : Bool) (t : Routine)
     → site_size call t.results in_line code ≡ call_size program in_line call
 same_size program call in_line t code same is =
     ap (λ (l : List Instruction). site_size call t.results in_line l) is ∙ ap (λ (x : Routine). site_size call x.results in_line x.code) same
-
--- so few that they can be counted
-pub small_call : (program : Program) (r : Routine) (slots : ℕ) (call : Call) → IsOpenable program r slots call → IsCallInRange program r call.callee call.arguments call.count call.result
-    → IsSmallCall program call
-small_call program r slots call openable is = record { is_function = is.function_in_range; few = openable.leaf.few; small = openable.small }
 
 -- ---- the choice
 

@@ -6,6 +6,7 @@ use Rattle.std.specs.List.{AllByRecursion}
 use Rattle.cyc_words.specs.Simulation as simulation
 use Rattle.cyc_words.specs.Word.{add_of}
 use Rattle.cyc_words.specs.inside.Following.{Comes, IsOnTheWay, IsMatchedStep, IsStepped}
+use Rattle.cyc_words.proofs.Booleans.{false_from_not}
 use Rattle.cyc_words.proofs.Matching.{way_before}
 use Rattle.cyc_store.specs.State as stores
 use Rattle.cyc_plain.specs.declared.instruction.BinaryOperator.{BinaryOperator}
@@ -34,7 +35,6 @@ use Rattle.cyc_inline.proofs.Performing.{is_ordinary, performs}
 use Rattle.cyc_inline.proofs.Outside.{bears, operand_same}
 use Rattle.cyc_inline.proofs.Matched.{step_is, Alike, limited_outside, finds, Matches, matching, kept, words_kept}
 use Rattle.cyc_inline.proofs.Steps.{IsLedHere}
-use Rattle.cyc_inline.proofs.ChoosingCalls.{no_division}
 use Rattle.cyc_inline.proofs.Passing.{behind_inside, has_each}
 use Rattle.cyc_inline.proofs.Inside.{ordinary_calls, ordinary_limit, step_so}
 
@@ -169,7 +169,7 @@ module _ (program inlined : Program) (origins : List (List Origin)) (are : AreOp
       word = binary_result operator (operand_word knower.slots left) (operand_word knower.slots right);
       further = further;
       limit = refl;
-      does = λ choice. divides_not operator slot left right choice (no_division (is_division operator) may);
+      does = λ choice. divides_not operator slot left right choice (false_from_not (is_division operator) may);
     }
     by_twin (instructions.LoadGlobal destination global) slot further may is inside =
         record { slot = slot; word = c.globals global; further = further; limit = refl; does = λ choice. refl }

@@ -81,9 +81,6 @@ HasFields-first : (xs ys : List (Field × ℕ)) (w : ℕ) → HasFields (xs ++ y
 HasFields-first [] ys w f = tt
 HasFields-first (x ∷ xs) ys w f = (f.0, HasFields-first xs ys w f.1)
 
-zero_fits : 0 < 32
-zero_fits = lit< tt
-
 pub word_of-fits : (i : Instr) → IsEncodable i → word_of i < 2 ^ 32
 word_of-fits (Immediate op t s h) fits = omega (arith, immediate-number_fits op, s.in_range, t.in_range, fits)
 word_of-fits (LoadUpper t h) fits = omega (arith, t.in_range, fits)

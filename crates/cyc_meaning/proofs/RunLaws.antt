@@ -161,12 +161,6 @@ pub steps-last : (program : Program) (n : ℕ) (s : State) → steps program (su
 steps-last program zero s = refl
 steps-last program (suc n) s = steps-last program n (step program s)
 
-pub limited_steps-add : (program : Program) (pages calls m n : ℕ) (s : State) → limited_steps program pages calls (m + n) s ≡ limited_steps program pages calls n (limited_steps program pages calls m s)
-limited_steps-add program pages calls zero n s = let e : 0 + n ≡ n = omega arith in ap (λ k. limited_steps program pages calls k s) e
-limited_steps-add program pages calls (suc m) n s =
-    let e : suc m + n ≡ suc (m + n) = omega arith in
-    ap (λ k. limited_steps program pages calls k s) e ∙ limited_steps-add program pages calls m n (limited_step program pages calls s)
-
 -- what was printed stays, and input is read from its front
 abbrev pub GoesOnFrom : State → State → Type 0
 GoesOnFrom old new = IsPrefix (output_of old) (output_of new) × ((read : List ℕ) × (input_of old ≡ read ++ input_of new))

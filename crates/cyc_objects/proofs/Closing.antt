@@ -33,11 +33,6 @@ count-lexical r rs lexical = cond-true (is_lexical r.sort) (suc (lexical_count r
 count-other : (r : Home) (rs : List Home) → is_lexical r.sort ≡ false → lexical_count (r ∷ rs) ≡ lexical_count rs
 count-other r rs other = cond-false (is_lexical r.sort) (suc (lexical_count rs)) (lexical_count rs) other
 
-down-both : (m k : ℕ) (r : Home) (rs : List Home) → is_lexical r.sort ≡ false → down_to m (down_to k rs) ≡ down_to m rs
-    → down_to m (down_to k (r ∷ rs)) ≡ down_to m (r ∷ rs)
-down-both m k r rs other rest =
-    ap (down_to m) (step-by k r rs other) ∙ (step-by m r (down_to k rs) other ∙ (ap (λ l. r ∷ l) rest ∙ sym (step-by m r rs other)))
-
 -- a mark that all are below
 pub down-all : (rs : List Home) → down_to (lexical_count rs) rs ≡ rs
 down-all [] = refl

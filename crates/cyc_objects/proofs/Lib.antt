@@ -14,7 +14,6 @@ pub mod Services
 pub mod Closing
 pub mod Scopes
 pub mod Start
-pub mod Inside
 -- what stands below
 -- examples
 pub mod Examples

@@ -1,6 +1,6 @@
 -- Pointers and their words: conversions, tests for null, and arithmetic. All of it holds of pointers to what is no more, too.
 use Rattle.std.proofs.Common.{◌≡◌, ℕ, zero, suc, ◌+◌, ◌-◌, ◌*◌, ◌^◌, ◌<◌, ◌≤◌, Bool, true, false, not, List, ◌∷◌, length, Option, Some, refl, sym, ap, subst, ◌∙◌, arith, add-zero}
-use Rattle.std.specs.Prelude.{◌==◌, ◌≢◌, nat_le, if◌then◌else◌, slice_get}
+use Rattle.std.specs.Prelude.{◌==◌, ◌≢◌, if◌then◌else◌, slice_get}
 use Rattle.cyc_words.proofs.Numbers.{when_equal}
 use Rattle.cyc_words.proofs.Options.{same_from_some}
 use Rattle.cyc_words.proofs.Lists.{slice_get_below}
@@ -8,9 +8,9 @@ use Rattle.cyc_types.specs.declared.typed.Kind.{Kind}
 use Rattle.cyc_types.specs.declared.typed.Kind.TheVariants as kinds
 use Rattle.cyc_store.specs.State.{put}
 use Rattle.cyc_store.proofs.LookupLemmas.{when_other}
-use Rattle.cyc_meaning.specs.Values.{Value, Int, Null, Thin, Fat, is_thin, words_of_kind, bytes_of_kind, kinds_of}
+use Rattle.cyc_meaning.specs.Values.{Value, Int, Null, Thin, Fat, is_thin, bytes_of_kind, kinds_of}
 use Rattle.cyc_meaning.specs.Operators.{Gives, Raises, truth}
-use Rattle.cyc_meaning.specs.Pointers.{moved, element_count, null_test}
+use Rattle.cyc_meaning.specs.Pointers.{moved, null_test}
 use Rattle.cyc_meaning.specs.Conversion.{conversion}
 use Rattle.cyc_meaning.specs.Allocation.{blanks}
 use Rattle.cyc_objects.specs.inside.Tables.{Row, Placed, Tables}
@@ -111,15 +111,6 @@ module _ {t : Tables} where
     inside = inside;
     at = ap (λ n. n + before field p.kinds) (at-first p.address p.kinds p.at);
   }
-
-  -- ---- pointers to a whole object
-
-  -- the address of the first cell is that of the object
-  pub first-row : {o w : ℕ} (p : Points t o 0 w) → slice_get t.rows o ≡ Some (Placed w p.kinds)
-  first-row p = p.row ∙ ap (λ a. Some (Placed a p.kinds)) (sym (at-first p.address p.kinds p.at))
-
-  pub part-row : {o n w : ℕ} (p : IsPartOf t o 0 n w) → slice_get t.rows o ≡ Some (Placed w p.kinds)
-  part-row p = p.row ∙ ap (λ a. Some (Placed a p.kinds)) (sym (at-first p.address p.kinds p.at))
 
   -- ---- pointers to a new object
 
@@ -227,10 +218,6 @@ module _ (t : Tables) where
       (fat_part o start (subst (λ c. IsPartOf t o start c (m p)) (sym is.1) is.0)))
   fat-is v m p is = absurd is
 
-  pub fat-part_is : {o start count index : ℕ} (n : ℕ → ℕ) (q : ℕ) → IsPartOf t o start count (n q) → n (q + 1) ≡ count → n (q + 2) ≡ index
-      → Is t kinds.Fat (Fat o start count index) n q
-  fat-part_is n q part many at = (part, many, at)
-
   move_fat : (change : ℕ → ℕ) (v u : Value) (n : ℕ → ℕ) (w count index q : ℕ) → FatIs w count index v → moved change v ≡ Gives u
       → n q ≡ w → n (q + 1) ≡ count → n (q + 2) ≡ change index → Is t kinds.Fat u n q
   move_fat change v u n w count index q (fat_null none empty) e same many at = subst (λ x. Is t kinds.Fat x n q) (same_value e) (same ∙ none, many ∙ empty)
@@ -242,18 +229,6 @@ module _ (t : Tables) where
       → n q ≡ m p → n (q + 1) ≡ m (p + 1) → n (q + 2) ≡ change (m (p + 2)) → Is t kinds.Fat u n q
   fat-moved change v u m n p q is e same many at =
       move_fat change v u n (m p) (m (p + 1)) (m (p + 2)) q (fat-is v m p is) e same many at
-
-  count_fat : (v : Value) (w count index : ℕ) → FatIs w count index v
-      → element_count v ≡ Gives (Int (if w == 0 then 0 else if nat_le index count then count - index else 0))
-  count_fat v w count index (fat_null none empty) =
-      ap (λ n. Gives (Int n)) (sym (when_equal w 0 0 (if nat_le index count then count - index else 0) none))
-  count_fat v w count index (fat_part o start part) =
-      ap (λ n. Gives (Int n)) (sym (when_other w 0 0 (if nat_le index count then count - index else 0) (part-not-null part)))
-
-  -- the number of elements by the words
-  pub fat-count : (v : Value) (m : ℕ → ℕ) (p : ℕ) → Is t kinds.Fat v m p
-      → element_count v ≡ Gives (Int (if m p == 0 then 0 else if nat_le (m (p + 2)) (m (p + 1)) then m (p + 1) - m (p + 2) else 0))
-  fat-count v m p is = count_fat v (m p) (m (p + 1)) (m (p + 2)) (fat-is v m p is)
 
   -- ---- tests for null
 
@@ -276,18 +251,6 @@ module _ (t : Tables) where
   fat-null_test negated v m p is = test_fat negated v (m p) (m (p + 1)) (m (p + 2)) (fat-is v m p is)
 
 -- ---- one word more
-
--- a word that is put elsewhere changes no value
-pub Is-put_other : (t : Tables) (kind : Kind) (v : Value) (m : ℕ → ℕ) (p x w : ℕ) → ((j : ℕ) → j < words_of_kind kind → p + j ≢ x)
-    → Is t kind v m p → Is t kind v (put m x w) p
-Is-put_other t kind v m p x w other is = Is-same t kind v m (put m x w) p p (λ j below. when_other (p + j) x w (m (p + j)) (other j below)) is
-
--- a value of one word is put
-pub Is-put : (t : Tables) (kind : Kind) (v : Value) (m : ℕ → ℕ) (p w : ℕ) → words_of_kind kind ≡ 1 → Is t kind v (λ j. w) 0 → Is t kind v (put m p w) p
-Is-put t kind v m p w one is = Is-same t kind v (λ j. w) (put m p w) 0 p (λ j below. when_equal (p + j) p w (m (p + j)) (only p j (subst (λ n. j < n) one below))) is
-  where
-    only : (p j : ℕ) → j < 1 → p + j ≡ p
-    only p j below = omega (arith, below)
 
 -- a fat pointer, whose three words are put one by one
 pub Is-put_three : (t : Tables) (v : Value) (m : ℕ → ℕ) (p a b c : ℕ) → Is t kinds.Fat v (λ j. if j == 0 then a else if j == 1 then b else c) 0

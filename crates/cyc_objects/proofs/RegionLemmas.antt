@@ -239,12 +239,6 @@ module _ (hs : List (Option ℕ)) where
   lies-set rs n h q r (Unique true) there only lies = lies
   lies-set rs n h q r (Unique false) there only lies = lies
 
-  -- nothing lies in a region that is none of the store's
-  pub lies-out : (rs : List Region) (n h : ℕ) (r : Region) → slice_get rs n ≡ Some r → has_home r ≡ false → lies_in hs rs (InRegion n) ≡ Some h → ⊥
-  lies-out rs n h r there out lies =
-      let (z, at, kept, entry) = lies-home rs n h lies in
-      never_true_and_false kept (ap has_home (same_from_some (sym at ∙ there)) ∙ out)
-
 -- a region and an entry more
 pub lies-last : (hs : List (Option ℕ)) (rs : List Region) (e : Option ℕ) (q : Region) (h : ℕ) (owner : Owner) → length hs ≡ length rs → Within (length rs) owner
     → lies_in (hs ++ e ∷ []) (rs ++ q ∷ []) owner ≡ Some h → lies_in hs rs owner ≡ Some h

@@ -2,7 +2,7 @@
 use Rattle.std.proofs.Common.{◌≡◌, ℕ, ◌≤◌, List, [], ◌∷◌, map, Some, refl, sym, ap, subst, ◌∙◌, arith}
 use Rattle.std.specs.Prelude.{slice_get}
 use Rattle.std.proofs.lemmas.List.{length-map}
-use Rattle.cyc_words.proofs.Items.{slice_get-map_from, slice_get-map}
+use Rattle.cyc_words.proofs.Items.{slice_get-map_from}
 use Rattle.cyc_words.proofs.Options.{never_none_and_some, same_from_some}
 use Rattle.cyc_types.specs.TypedTrees.{GlobalVariable, Program}
 use Rattle.cyc_store.specs.State.{Memory, AreWords, start}
@@ -10,19 +10,12 @@ use Rattle.cyc_store.specs.declared.range.TheConstants.{MOST_PAGES}
 use Rattle.cyc_store.proofs.ServiceLemmas.{start-sound}
 use Rattle.cyc_meaning.specs.State.{Object, InRegion, globals_number, global_object, first_regions, first_world}
 use Rattle.cyc_meaning.specs.Objects.{live_in}
-use Rattle.cyc_objects.specs.inside.Tables.{Row, Variable, first_tables, without_addresses}
+use Rattle.cyc_objects.specs.inside.Tables.{Row, first_tables}
 use Rattle.cyc_objects.specs.inside.Related.{lies_in, IsOfVariable, HasKinds, AreGlobals, Alive, Within, Related, passed, taken, no_regions}
 
 none-unique : (class : ℕ) (globals : List GlobalVariable) → live_in class (map global_object globals) ≡ 0
 none-unique class [] = refl
 none-unique class (g ∷ globals) = none-unique class globals
-
--- where the address of none is taken
-pub none-placed : (program : Program) → AreGlobals program (without_addresses program)
-none-placed program = record {
-  many = length-map program.globals (λ (g : GlobalVariable). Variable);
-  each = λ o g there. (Variable, slice_get-map (λ (g : GlobalVariable). Variable) program.globals o g there, tt, tt);
-}
 
 module _ (program : Program) (globals : List Row) (are : AreGlobals program globals) (input : List ℕ) (pages : ℕ) (memory : Memory) where
   -- each object is a global, and so a variable

@@ -22,12 +22,6 @@ Grows-row t row = record { rows = λ o r found. slice_get_front t.rows (row ∷ 
 pub Grows-handle : (t : Tables) (handle : Option ℕ) → Grows t (with_handle t handle)
 Grows-handle t handle = record { rows = λ o r found. found; handles = λ n h found. slice_get_front t.handles (handle ∷ []) n h found }
 
-pub Grows-later : {t u v : Tables} → Grows t u → Grows u v → Grows t v
-Grows-later first second = record {
-  rows = λ o row found. second.rows o row (first.rows o row found);
-  handles = λ n h found. second.handles n h (first.handles n h found);
-}
-
 module _ {t u : Tables} (grows : Grows t u) where
   pub variable-grows : (o : ℕ) → IsVariableAt t o → IsVariableAt u o
   variable-grows o (row, at, outside) = (row, grows.rows o row at, outside)

@@ -4,7 +4,7 @@ use Rattle.std.specs.Prelude.{slice_index_or}
 use Rattle.std.proofs.lemmas.Bool.{cases_eq}
 use Rattle.cyc_words.proofs.Items.{set-back}
 use Rattle.cyc_rawpages.specs.inside.Lists.{chain_at, freed}
-use Rattle.cyc_rawpages.specs.inside.Pool.{PoolState, IsFree, IsHead}
+use Rattle.cyc_rawpages.specs.inside.Pool.{PoolState, IsFree}
 use Rattle.cyc_pagestore.specs.inside.Table.{AreAlone}
 
 -- how many are true
@@ -55,9 +55,6 @@ module _ (p : PoolState) (is : AreAlone p) (page : ℕ) (there : page < p.pages)
 
   pub both-chain : chain_at both.chains page ≡ page ∷ []
   both-chain = get_or-set_other taken.chains 0 page (0 ∷ []) [] other ∙ get_or-set_same p.chains page (page ∷ []) [] in_chains
-
-  pub both-head : IsHead both.chains page
-  both-head = ([], both-chain)
 
   pub back-is : record both { free = freed both.free (chain_at both.chains page); chains = set both.chains page [] }
       ≡ record p { free = set p.free 0 false; chains = set p.chains 0 (0 ∷ []) }

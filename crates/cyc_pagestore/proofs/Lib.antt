@@ -1,6 +1,5 @@
 pub mod Rows
 pub mod Reaching
-pub mod Marking
 pub mod Backing
 pub mod Fresh
 pub mod Growing

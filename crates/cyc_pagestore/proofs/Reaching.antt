@@ -1,7 +1,7 @@
 -- How far a page's words are live by serials, after a field of one page was written.
-use Rattle.std.proofs.Common.{◌≡◌, ℕ, ◌<◌, ◌≤◌, true, false, ap, sym, ◌∙◌, inl, inr, arith}
-use Rattle.std.specs.Prelude.{◌==◌, if◌then◌else◌, nat_lt}
-use Rattle.std.proofs.lemmas.Bool.{cases_eq, cond-true, cond-false, eq-eqb, ne_eqb, lt-ltb, le-ltb}
+use Rattle.std.proofs.Common.{◌≡◌, ℕ, ap, ◌∙◌, inl, inr}
+use Rattle.std.specs.Prelude.{◌==◌, if◌then◌else◌}
+use Rattle.std.proofs.lemmas.Bool.{cases_eq, cond-true, cond-false, eq-eqb, ne_eqb}
 use Rattle.cyc_pagestore.specs.inside.Live.{reach_by}
 
 pub reach-by_serial : (serial owner fill : ℕ → ℕ) (page : ℕ) → serial page ≡ serial (owner page) → reach_by serial owner fill page ≡ fill page
@@ -20,19 +20,3 @@ reach-empty serial owner fill page none = elim (cases_eq (serial page) (serial (
 pub reach-same : (serial owner fill serial' owner' fill' : ℕ → ℕ) (page : ℕ) → owner' page ≡ owner page → serial' page ≡ serial page → serial' (owner page) ≡ serial (owner page) → fill' page ≡ fill page
     → reach_by serial' owner' fill' page ≡ reach_by serial owner fill page
 reach-same serial owner fill serial' owner' fill' page o s t f = λ j. if s j == (ap serial' o ∙ t) j then f j else 0
-
--- ---- whether a word is within a page's live words
-
--- none is past the fill mark
-pub within-none : (serial owner fill : ℕ → ℕ) (page offset : ℕ) → fill page ≤ offset → nat_lt offset (reach_by serial owner fill page) ≡ false
-within-none serial owner fill page offset past = elim (cases_eq (serial page) (serial (owner page))) [
-  | inl e ↦ ap (nat_lt offset) (reach-by_serial serial owner fill page e) ∙ le-ltb offset (fill page) past
-  | inr ne ↦ ap (nat_lt offset) (reach-stale serial owner fill page ne) ∙ le-ltb offset 0 (omega arith)
-]
-
--- below it each is, where the page has the serial of its owner
-pub within-serial : (serial owner fill : ℕ → ℕ) (page offset : ℕ) → offset < fill page → (serial page == serial (owner page)) ≡ nat_lt offset (reach_by serial owner fill page)
-within-serial serial owner fill page offset below = elim (cases_eq (serial page) (serial (owner page))) [
-  | inl e ↦ eq-eqb (serial page) (serial (owner page)) e ∙ sym (ap (nat_lt offset) (reach-by_serial serial owner fill page e) ∙ lt-ltb offset (fill page) below)
-  | inr ne ↦ ne_eqb (serial page) (serial (owner page)) ne ∙ sym (ap (nat_lt offset) (reach-stale serial owner fill page ne) ∙ le-ltb offset 0 (omega arith))
-]

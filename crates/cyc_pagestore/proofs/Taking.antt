@@ -232,9 +232,6 @@ module _ (x : TableState) (lexicals : List ℕ) (classes : List ClassSlots) (b :
   pub v-count : length v.rows.items ≡ length t.rows.items
   v-count = relinked-length x.rows front ∙ ap length (sym s.reads.rows)
 
-  pub v-held : store_of v.most v.words.items b ≡ store_of x.most x.words b
-  v-held = refl
-
   pub v-kept : IsKept v lexicals classes b
   v-kept = record {
     whole = record {

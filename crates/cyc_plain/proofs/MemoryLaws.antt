@@ -222,9 +222,6 @@ range-slots a from =
 pub memory-store : (program : Program) (c : Configuration) (a : ℕ) → STORE_BASE ≤ a → a < slots_base → memory_at program c a ≡ word_at c.store a
 memory-store program c a from below = ap (word_in program c a) (range-store a from below)
 
-pub written-store : (program : Program) (c : Configuration) (a word : ℕ) → STORE_BASE ≤ a → a < slots_base → with_memory program c a word ≡ record c { store = saved c.store a word }
-written-store program c a word from below = ap (with_word program c a word) (range-store a from below)
-
 -- the word of a live block, where its address is in the store's range
 abbrev pub store_word_in : StoreState → (address : ℕ) → Range → Option ℕ
 store_word_in s address OfGlobals = None

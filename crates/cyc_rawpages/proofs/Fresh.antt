@@ -26,15 +26,6 @@ above : (first count k : ℕ) → k < first → AllByRecursion (λ x. k < x) (nu
 above first zero k lt = tt
 above first (suc count) k lt = (lt, above (suc first) count k (omega (arith, lt)))
 
-pub starts : (pages : ℕ) (old : Parts) → length old.heads ≡ 40 * pages → IsLinking pages old old NONE pages
-starts pages old long = record {
-  fits = omega arith;
-  whole = long;
-  words = refl;
-  same = λ l. refl;
-  linked = subst (λ n. IsLinked (field_of old NEXT) NONE (numbers_from pages n) NONE) {x = 0} {y = pages - pages} (omega arith) refl;
-}
-
 pub steps : (pages : ℕ) (old new : Parts) (first left : ℕ) → 0 < left → IsLinking pages old new first left
     → IsLinking pages old (headed new (header_at (left - 1) NEXT) first) (left - 1) (left - 1)
 steps pages old new first zero some is = absurd (omega (arith, some))
@@ -55,13 +46,6 @@ steps pages old new first (suc left) some is =
                 is.linked),
           ));
     })
-
-whole_range : (pages left : ℕ) → left ≡ 0 → pages - left ≡ pages
-whole_range pages left none = omega (arith, none)
-
-pub ends : (pages : ℕ) (old new : Parts) (first left : ℕ) → left ≡ 0 → IsLinking pages old new first left → LinksAll pages old new first
-ends pages old new first left none is =
-    record { whole = is.whole; words = is.words; same = is.same; linked = subst (λ (u : ℕ × ℕ). IsLinked (field_of new NEXT) first (numbers_from u.0 u.1) NONE) {x = (left, pages - left)} {y = (0, pages)} (λ j. (none j, whole_range pages left none j)) is.linked }
 
 -- ---- all of it
 distinct-numbers : (first count : ℕ) → IsDistinct (numbers_from first count)

@@ -8,6 +8,5 @@ pub mod FreePages
 pub mod PoolLemmas
 pub mod Fresh
 pub mod Heads
-pub mod Serials
 pub mod Masks
 pub mod BitRuns

@@ -1,11 +1,11 @@
 -- Masks: what a set of chosen slots has, bit by bit.
-use Rattle.std.proofs.Common.{◌≡◌, ◌≢◌, ℕ, zero, suc, ◌+◌, ◌-◌, ◌*◌, ◌/◌, ◌^◌, ◌%◌, ◌<◌, ◌≤◌, true, false, List, [], ◌∷◌, ◌++◌, length, refl, sym, ap, subst, ◌∙◌, arith, max, min, inl, inr}
-use Rattle.std.specs.Prelude.{bit_and, bit_or, bit_xor, nat_le, nat_lt, slice_index_or}
+use Rattle.std.proofs.Common.{◌≡◌, ◌≢◌, ℕ, zero, suc, ◌+◌, ◌-◌, ◌*◌, ◌^◌, ◌%◌, ◌<◌, ◌≤◌, true, false, List, [], ◌∷◌, ◌++◌, length, refl, sym, ap, subst, ◌∙◌, arith, inl, inr}
+use Rattle.std.specs.Prelude.{bit_and, bit_xor, nat_le, nat_lt}
 use Rattle.std.specs.Int.{bit_at}
 use Rattle.std.proofs.lemmas.Nat.{one_shl}
-use Rattle.std.proofs.lemmas.Nat.Bits.{bit_at_and, bit_at_or, bit_at_xor, bit_at-lt, bit_at-zero, bit_at-suc, bit_at_lowest, bit_at_ones, bit_at-pow_same, bit_at-pow_other}
+use Rattle.std.proofs.lemmas.Nat.Bits.{bit_at_xor, bit_at-lt, bit_at-zero, bit_at_ones, bit_at-pow_same, bit_at-pow_other}
 use Rattle.std.proofs.lemmas.Bool.{and_parts, and_from, leb-true, ltb-true, le-leb, lt-ltb, eqb-true, both_ways, cases_lt, cases_eq}
-use Rattle.cyc_plain.specs.inside.Program.{Program, Routine, routine_at, no_routine}
+use Rattle.cyc_words.proofs.Bits.{apart_bits, bit_left, bit_right, higher_bit, no_bit}
 use Rattle.cyc_plain.specs.inside.Uses.{is_among}
 use Rattle.cyc_registers.specs.declared.liveness.TheConstants.{ALL_NUMBERS, MOST_CHOSEN}
 use Rattle.cyc_registers.specs.inside.Masks.{mask_at, HasBit, AreMasks, range_mask}
@@ -13,68 +13,11 @@ use Rattle.cyc_registers.specs.inside.Sharing.{is_single}
 
 -- ---- bits
 
-one_max : (x : ℕ) → x < 2 → max 1 x ≡ 1
-one_max x small = omega (arith, small)
-
-max_one : (x : ℕ) → x < 2 → max x 1 ≡ 1
-max_one x small = omega (arith, small)
-
-pub bit_left : (a b j : ℕ) → bit_at a j ≡ 1 → bit_at (bit_or a b) j ≡ 1
-bit_left a b j is = bit_at_or a b j ∙ (ap (λ (n : ℕ). max n (bit_at b j)) is ∙ one_max (bit_at b j) (bit_at-lt b j))
-
-pub bit_right : (a b j : ℕ) → bit_at b j ≡ 1 → bit_at (bit_or a b) j ≡ 1
-bit_right a b j is = bit_at_or a b j ∙ (ap (max (bit_at a j)) is ∙ max_one (bit_at a j) (bit_at-lt a j))
-
-pub bit_both : (a b j : ℕ) → bit_at a j ≡ 1 → bit_at b j ≡ 1 → bit_at (bit_and a b) j ≡ 1
-bit_both a b j first second = bit_at_and a b j ∙ (ap (λ (x : ℕ). min x (bit_at b j)) first ∙ ap (min 1) second)
-
-pub bit_within : (part whole j : ℕ) → bit_or part whole ≡ whole → bit_at part j ≡ 1 → bit_at whole j ≡ 1
-bit_within part whole j same is = sym (ap (λ (n : ℕ). bit_at n j) same) ∙ bit_left part whole j is
-
-no_bit : (a b j : ℕ) → bit_at a j ≡ 0 → bit_at b j ≡ 0 → bit_at (bit_or a b) j ≡ 0
-no_bit a b j first second = bit_at_or a b j ∙ (ap (λ (n : ℕ). max n (bit_at b j)) first ∙ ap (max 0) second)
-
 pub bit_turned : (w j : ℕ) → j < MOST_CHOSEN → bit_at w j ≡ 0 → bit_at (bit_xor ALL_NUMBERS w) j ≡ 1
 bit_turned w j few is =
     bit_at_xor ALL_NUMBERS w j ∙ (ap (λ (x : ℕ). (x + bit_at w j) % 2) (bit_at_ones 64 j few) ∙ ap (λ (x : ℕ). (1 + x) % 2) is)
 
--- nothing of the one is in the other
-pub apart_bits : (a b j : ℕ) → bit_and a b ≡ 0 → bit_at b j ≡ 1 → bit_at a j ≡ 1 → ⊥
-apart_bits a b j none second first =
-    let e : 1 ≡ 0 = sym (bit_both a b j first second) ∙ (ap (λ (n : ℕ). bit_at n j) none ∙ bit_at-zero j) in
-    omega (arith, e)
-
-pub bit_between : (a b j : ℕ) → bit_at (bit_and a b) j ≡ 1 → bit_at b j ≡ 1
-bit_between a b j is = let e : min (bit_at a j) (bit_at b j) ≡ 1 = sym (bit_at_and a b j) ∙ is in least (bit_at a j) (bit_at b j) (bit_at-lt b j) e
-  where
-    least : (x y : ℕ) → y < 2 → min x y ≡ 1 → y ≡ 1
-    least x y small e = omega (arith, small, e)
-
-pub bit_before : (a b j : ℕ) → bit_at (bit_and a b) j ≡ 1 → bit_at a j ≡ 1
-bit_before a b j is = let e : min (bit_at a j) (bit_at b j) ≡ 1 = sym (bit_at_and a b j) ∙ is in least (bit_at a j) (bit_at b j) (bit_at-lt a j) e
-  where
-    least : (x y : ℕ) → x < 2 → min x y ≡ 1 → x ≡ 1
-    least x y small e = omega (arith, small, e)
-
 -- ---- sets of one slot
-
--- where there is a lower bit, one less does not change the higher one
-higher_bit : (i j x : ℕ) → i < j → bit_at x i ≡ 1 → bit_at x j ≡ 1 → bit_at (x - 1) j ≡ 1
-higher_bit zero zero x below low high = absurd (omega (arith, below))
-higher_bit zero (suc j) x below low high =
-    let odd : x % 2 ≡ 1 = sym (bit_at_lowest x) ∙ low in
-    let half : (x - 1) / 2 ≡ x / 2 = omega (arith, odd) in
-    bit_at-suc (x - 1) j ∙ (ap (λ (n : ℕ). bit_at n j) half ∙ (sym (bit_at-suc x j) ∙ high))
-higher_bit (suc i) zero x below low high = absurd (omega (arith, below))
-higher_bit (suc i) (suc j) x below low high = bit_at-suc (x - 1) j ∙ elim (cases_lt (x % 2) 1) [
-  | inl even ↦
-      let half : (x - 1) / 2 ≡ x / 2 - 1 = omega (arith, even) in
-      ap (λ (n : ℕ). bit_at n j) half
-      ∙ higher_bit i j (x / 2) (omega (arith, below)) (sym (bit_at-suc x i) ∙ low) (sym (bit_at-suc x j) ∙ high)
-  | inr odd ↦
-      let half : (x - 1) / 2 ≡ x / 2 = omega (arith, odd) in
-      ap (λ (n : ℕ). bit_at n j) half ∙ (sym (bit_at-suc x j) ∙ high)
-]
 
 two_bits : (x i j : ℕ) → is_single x ≡ true → i < j → bit_at x i ≡ 1 → bit_at x j ≡ 1 → ⊥
 two_bits x i j single below low high = apart_bits x (x - 1) j (eqb-true (bit_and x (x - 1)) 0 single) (higher_bit i j x below low high) high
@@ -94,10 +37,6 @@ pub no_mask : (masks : List ℕ) (place : ℕ) → length masks ≤ place → ma
 no_mask [] place behind = refl
 no_mask (m ∷ masks) zero behind = absurd (omega (arith, behind))
 no_mask (m ∷ masks) (suc place) behind = no_mask masks place (omega (arith, behind))
-
-pub range_more : (masks : List ℕ) (first count : ℕ)
-    → range_mask masks first (count + 1) ≡ bit_or (range_mask masks first count) (mask_at masks (first + count))
-range_more masks first count = let e : count + 1 ≡ suc count = omega arith in ap (range_mask masks first) e
 
 pub range_bit : (masks : List ℕ) (first count slot j : ℕ) → first ≤ slot → slot < first + count → HasBit masks slot j
     → bit_at (range_mask masks first count) j ≡ 1
@@ -139,14 +78,6 @@ module _ (masks : List ℕ) (next : ℕ) (are : AreMasks masks next) (slot j : �
       outside k below same = both_ways (is_among first count slot) is
           (and_from (nat_le first slot) (nat_lt slot (first + count)) (le-leb first slot (omega (arith, same))) (lt-ltb slot (first + count) (omega (arith, same, below))))
 
-pub no_results : (program : Program) (function : ℕ) → length program.functions ≤ function → (routine_at program function).results ≡ 0
-no_results program function behind = ap (λ (r : Routine). r.results) (go program.functions function behind)
-  where
-    go : (routines : List Routine) (k : ℕ) → length routines ≤ k → slice_index_or routines k no_routine ≡ no_routine
-    go [] k behind = refl
-    go (r ∷ routines) zero behind = absurd (omega (arith, behind))
-    go (r ∷ routines) (suc k) behind = go routines k (omega (arith, behind))
-
 -- ---- masks of slots
 
 mask_before : (masks : List ℕ) (m slot : ℕ) → slot ≢ length masks → mask_at (masks ++ m ∷ []) slot ≡ mask_at masks slot
@@ -158,13 +89,6 @@ mask_before (x ∷ masks) m (suc slot) apart = mask_before masks m slot (λ same
 mask_last : (masks : List ℕ) (m : ℕ) → mask_at (masks ++ m ∷ []) (length masks) ≡ m
 mask_last [] m = refl
 mask_last (x ∷ masks) m = mask_last masks m
-
-pub no_masks : AreMasks [] 0
-no_masks = record {
-  below = λ slot j has. absurd (let e : 0 ≡ 1 = sym (bit_at-zero j) ∙ has in omega (arith, e));
-  one = λ a c j first second. absurd (let e : 0 ≡ 1 = sym (bit_at-zero j) ∙ first in omega (arith, e));
-  some = λ slot above. absurd (let e : 0 < 0 = above in omega (arith, e));
-}
 
 pub fewer_masks : (masks : List ℕ) (next most : ℕ) → AreMasks masks next → next ≤ most → AreMasks masks most
 fewer_masks masks next most are few = record { below = λ slot j has. omega (arith, are.below slot j has, few); one = are.one; some = are.some }
@@ -207,11 +131,6 @@ module _ (masks : List ℕ) (m next after : ℕ) (are : AreMasks masks next) (up
     ];
     some = some_bit;
   }
-
-pub no_mask_more : (masks : List ℕ) (next : ℕ) → AreMasks masks next → AreMasks (masks ++ 0 ∷ []) next
-no_mask_more masks next are =
-    more masks 0 next next are (omega arith) (λ j is. absurd (let e : 0 ≡ 1 = sym (bit_at-zero j) ∙ is in omega (arith, e)))
-    (λ above. absurd (omega (arith, above)))
 
 pub one_mask_more : (masks : List ℕ) (next : ℕ) → AreMasks masks next → AreMasks (masks ++ 2 ^ next ∷ []) (next + 1)
 one_mask_more masks next are = more masks (2 ^ next) next (next + 1) are (omega arith) new (λ above. (next, bit_at-pow_same next))

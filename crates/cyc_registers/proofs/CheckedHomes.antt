@@ -2,7 +2,7 @@
 use Rattle.std.proofs.Common.{◌≡◌, ℕ, zero, suc, ◌+◌, ◌<◌, ◌≤◌, true, false, List, [], ◌∷◌, ◌++◌, length, Some, None, refl, sym, ap, subst, ◌∙◌, arith, inl, inr}
 use Rattle.std.specs.Prelude.{◌⊎◌, ◌==◌, ◌||◌, ◌&&◌, Bool, nat_le, nat_lt, bit_and, bit_or, if◌then◌else◌, sum_by, take, slice_get}
 use Rattle.std.specs.Int.{bit_at}
-use Rattle.std.proofs.lemmas.Option.{slice_get_within}
+use Rattle.std.proofs.lemmas.Option.{same_Some, slice_get_within}
 use Rattle.std.specs.Int.Bits.{or_self}
 use Rattle.std.proofs.lemmas.Nat.Bits.{bit_at-zero}
 use Rattle.std.proofs.lemmas.Bool.{cases_lt, cases_eq, cases_Bool, and_parts, or_cases, leb-true, ltb-true, eqb-true, eq-eqb, both_ways}
@@ -20,12 +20,12 @@ use Rattle.cyc_registers.specs.inside.Liveness.{IsLiveAt, IsLiveLater}
 use Rattle.cyc_registers.specs.inside.LivenessTable.{IsSound, behind_mask, is_within, may_have}
 use Rattle.cyc_registers.specs.inside.Masks.{mask_at, HasBit, AreMasks, range_mask, uses_of, write_mask}
 use Rattle.cyc_registers.specs.inside.Sharing.{AllSuit, AreAlone, AreApartAt, AreGroups, AreHolders, NeverMeet, AreSingle, Suits, is_given, is_single, standing_mask, suits, with_group}
-use Rattle.cyc_registers.proofs.Bits.{apart_bits, bit_left, bit_right, bit_both, bit_within, no_mask, one_alone, range_bit, among_bit}
+use Rattle.cyc_words.proofs.Lists.{slice_get_last}
+use Rattle.cyc_words.proofs.Items.{slice_get_front}
+use Rattle.cyc_words.proofs.Bits.{apart_bits, bit_left, bit_right, bit_both, bit_within}
+use Rattle.cyc_registers.proofs.Bits.{no_mask, one_alone, range_bit, among_bit}
 use Rattle.cyc_registers.proofs.Meeting.{alone_single}
 use Rattle.cyc_registers.proofs.CheckedLiveness.{live_bit, led_bit, behind_bit, clause_bit, barred_bit, written_bit}
-
-its_number : (register k : ℕ) → Some register ≡ Some k → register ≡ k
-its_number register k is = let e : Some register ≡ Some k = is in cc
 
 no_number : (k : ℕ) → None ≡ Some k → ⊥
 no_number k is = let e : None ≡ Some k = is in cc
@@ -38,18 +38,6 @@ past_homes (h ∷ hs) (suc slot) past = past_homes hs slot (omega (arith, past))
 
 -- ---- one by one
 
-get_more : (xs : List ℕ) (x number y : ℕ) → slice_get xs number ≡ Some y → slice_get (xs ++ x ∷ []) number ≡ Some y
-get_more [] x number y is = absurd (no_number y is)
-get_more (z ∷ xs) x zero y is = is
-get_more (z ∷ xs) x (suc number) y is = get_more xs x number y is
-
-pushed_last : (xs : List ℕ) (x : ℕ) → slice_get (xs ++ x ∷ []) (length xs) ≡ Some x
-pushed_last [] x = refl
-pushed_last (z ∷ xs) x = pushed_last xs x
-
-pub no_groups : (holders : List ℕ) → AreGroups holders 0 []
-no_groups holders register below = absurd (omega (arith, below))
-
 pub more_groups : (holders groups : List ℕ) (count : ℕ) → AreGroups holders count groups → AreGroups holders (count + 1) (with_group groups (mask_at holders count))
 more_groups holders groups count so_far = elim (cases_Bool (is_single (mask_at holders count))) [
   | inl single ↦ subst (AreGroups holders (count + 1)) (sym (ap (λ (b : Bool). if b then groups else groups ++ mask_at holders count ∷ []) single))
@@ -59,10 +47,10 @@ more_groups holders groups count so_far = elim (cases_Bool (is_single (mask_at h
       ])
   | inr several ↦ subst (AreGroups holders (count + 1)) (sym (ap (λ (b : Bool). if b then groups else groups ++ mask_at holders count ∷ []) several))
       (λ register below. elim (cases_eq register count) [
-        | inl same ↦ inr (length groups, pushed_last groups (mask_at holders count) ∙ ap (λ (n : ℕ). Some (mask_at holders n)) (sym same))
+        | inl same ↦ inr (length groups, slice_get_last groups (mask_at holders count) ∙ ap (λ (n : ℕ). Some (mask_at holders n)) (sym same))
         | inr other ↦ elim (so_far register (omega (arith, below, other))) [
           | inl single ↦ inl single
-          | inr (number, is) ↦ inr (number, get_more groups (mask_at holders count) number (mask_at holders register) is)
+          | inr (number, is) ↦ inr (number, slice_get_front groups (mask_at holders count ∷ []) number (mask_at holders register) is)
         ]
       ])
 ]
@@ -169,7 +157,7 @@ module _ (program : Program) (r : Routine) (masks live holders : List ℕ) (call
 
     has_of : (home : Home) (k : ℕ) → Passes home → register_of home ≡ Some k → Has slot k home
     has_of homes.Memory k is its = absurd (no_number k its)
-    has_of (homes.Both register) k is its = subst (λ (n : ℕ). Has slot n (homes.Both register)) (its_number register k its) (
+    has_of (homes.Both register) k is its = subst (λ (n : ℕ). Has slot n (homes.Both register)) (same_Some register k its) (
         let (may, given, same) = both_parts register is in
         record {
           low = (given_facts register given).0;
@@ -179,7 +167,7 @@ module _ (program : Program) (r : Routine) (masks live holders : List ℕ) (call
           alone = inr same;
         }
         )
-    has_of (homes.Register register) k is its = subst (λ (n : ℕ). Has slot n (homes.Register register)) (its_number register k its) (
+    has_of (homes.Register register) k is its = subst (λ (n : ℕ). Has slot n (homes.Register register)) (same_Some register k its) (
         let (may, given, held, outside, there) = register_parts register is in
         record {
           low = (given_facts register given).0;

@@ -17,7 +17,8 @@ use Rattle.cyc_registers.specs.declared.liveness.TheConstants.{MOST_CHOSEN}
 use Rattle.cyc_registers.specs.declared.uses.Uses.{Uses}
 use Rattle.cyc_registers.specs.inside.Masks.{mask_at, HasBit, AreMasks, operand_mask, range_mask, request_read_mask, read_mask, request_write_mask, write_mask, bar_mask, uses_of}
 use Rattle.cyc_registers.specs.inside.LivenessTable.{behind_mask, unwritten_mask, needed_mask, call_mask, clause_mask, is_within, is_sound_at, IsSound}
-use Rattle.cyc_registers.proofs.Bits.{bit_left, bit_right, bit_both, bit_within, bit_turned, among_bit, other_bit, not_among_bit}
+use Rattle.cyc_words.proofs.Bits.{bit_left, bit_right, bit_both, bit_within}
+use Rattle.cyc_registers.proofs.Bits.{bit_turned, among_bit, other_bit, not_among_bit}
 use Rattle.cyc_registers.specs.inside.Bars.{is_crossing, bars}
 use Rattle.cyc_registers.specs.inside.Liveness.{IsLiveWithin, IsLiveAt}
 

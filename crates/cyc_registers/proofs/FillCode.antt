@@ -1,9 +1,9 @@
 -- The places that are said to fill slots may.
-use Rattle.std.proofs.Common.{◌≡◌, ℕ, suc, ◌+◌, ◌<◌, Bool, false, true, List, length, [], Option, None, Some, sym, ap, subst, ◌∙◌, arith, inl, inr}
-use Rattle.std.specs.Prelude.{◌==◌, ◌&&◌, not, nat_lt, if◌then◌else◌, bit_and, bit_or, slice_get, slice_set, replicate}
+use Rattle.std.proofs.Common.{◌≡◌, ℕ, suc, ◌+◌, ◌<◌, Bool, false, true, List, length, Option, None, Some, sym, ap, subst, ◌∙◌, arith, inl, inr}
+use Rattle.std.specs.Prelude.{◌==◌, ◌&&◌, not, nat_lt, if◌then◌else◌, bit_and, bit_or, slice_get, slice_set}
 use Rattle.std.specs.Int.{bit_at}
 use Rattle.std.proofs.lemmas.Bool.{cases_eq, cases_lt, cases_Bool, lt-ltb, eqb-true, false≢true}
-use Rattle.std.proofs.lemmas.List.{get_or-set_same, get_or-set_other, set_past, length-set, length-replicate}
+use Rattle.std.proofs.lemmas.List.{get_or-set_same, get_or-set_other, set_past, length-set}
 use Rattle.cyc_words.proofs.Items.{below_from_slice_get}
 use Rattle.cyc_plain.specs.declared.instruction.Comparison.{Comparison}
 use Rattle.cyc_plain.specs.declared.instruction.Instruction.{Instruction}
@@ -21,19 +21,10 @@ use Rattle.cyc_registers.specs.inside.Liveness.{IsLiveAt}
 use Rattle.cyc_registers.specs.inside.LivenessTable.{IsSound}
 use Rattle.cyc_registers.specs.inside.Masks.{AreMasks, mask_at}
 use Rattle.cyc_registers.specs.inside.Sharing.{AreHolders}
-use Rattle.cyc_registers.proofs.Bits.{apart_bits, bit_within}
+use Rattle.cyc_words.proofs.Bits.{apart_bits, bit_within}
 use Rattle.cyc_registers.proofs.CheckedLiveness.{live_bit}
 
-pub none_fillable : (program : Program) (r : Routine) (hs : List Home) → AreFillable program r hs []
-none_fillable program r hs index target d a k comparison left right i at there written fills has_d has_a live = absurd (false≢true fills)
-
 -- ---- one by one
-
-pub none_barred : (holders live : List ℕ) (hs : List Home) (code : List Instruction) → AreLeft holders live hs code 0 (replicate (length code) true)
-none_barred holders live hs code = record {
-  as_many = length-replicate (length code) true;
-  each = λ index target comparison left right i below at there fills. absurd (omega (arith, below));
-}
 
 module _ (holders live : List ℕ) (hs : List Home) (code : List Instruction) (count : ℕ) (fills : List Bool) (left_so_far : AreLeft holders live hs code count fills) where
   -- the instruction bars nothing, or its target alone

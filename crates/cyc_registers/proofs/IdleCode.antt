@@ -18,22 +18,11 @@ use Rattle.cyc_registers.specs.inside.Idle.{always_has_result, AreIdle, IsIdle, 
 use Rattle.cyc_registers.specs.inside.IdlePlaces.{is_idle, is_there, is_unused, are_unused, never_holds, shares_register}
 use Rattle.cyc_registers.specs.inside.LivenessTable.{IsSound}
 use Rattle.cyc_registers.specs.inside.Masks.{AreMasks, mask_at}
-use Rattle.cyc_registers.proofs.Bits.{apart_bits, no_mask}
+use Rattle.cyc_words.proofs.Bits.{apart_bits}
 use Rattle.cyc_registers.proofs.CheckedLiveness.{live_bit}
 use Rattle.cyc_registers.specs.inside.Liveness.{IsLiveAt}
 
-pub none_idle : (program : Program) (r : Routine) (hs : List Home) → AreIdle program r hs []
-none_idle program r hs index i at is = absurd (false≢true is)
-
 -- ---- slots that are not live behind a place
-
-pub none_unused : (masks live : List ℕ) (hs : List Home) (index slot : ℕ) → length masks ≤ slot → is_unused masks live hs index slot ≡ false
-none_unused masks live hs index slot behind =
-    ap (λ (mask : ℕ). nat_lt 0 mask && (bit_and (mask_at live (index + 1)) mask == 0 && not (is_kept (home_of hs slot)))) (no_mask masks slot behind)
-
-pub unused_more : (masks live : List ℕ) (hs : List Home) (index first count : ℕ)
-    → are_unused masks live hs index first (count + 1) ≡ are_unused masks live hs index first count && is_unused masks live hs index (first + count)
-unused_more masks live hs index first count = let e : count + 1 ≡ suc count = omega arith in ap (are_unused masks live hs index first) e
 
 among_unused : (masks live : List ℕ) (hs : List Home) (index first count : ℕ) → are_unused masks live hs index first count ≡ true
     → (slot : ℕ) → is_among first count slot ≡ true → is_unused masks live hs index slot ≡ true
@@ -170,13 +159,6 @@ pub record AreFirstOver (program : Program) (r : Routine) (hs : List Home) (alon
   pub each : (index : ℕ) (i : Instruction) → At r index i → idle_at flags index ≡ true → IsIdle program r hs alone index i
   pub still : (k : ℕ) → k < count → idle_at alone k ≡ true → idle_at flags k ≡ true
   pub as_many : length flags ≡ count
-
-pub none_over : (program : Program) (r : Routine) (hs : List Home) (alone : List Bool) → AreFirstOver program r hs alone 0 []
-none_over program r hs alone = record {
-  each = λ index i at is. absurd (false≢true is);
-  still = λ k below. absurd (omega (arith, below));
-  as_many = refl;
-}
 
 pub more_over : (program : Program) (r : Routine) (hs : List Home) (alone : List Bool) (count : ℕ) (flags : List Bool) (flag : Bool) (last : Instruction)
     → AreFirstOver program r hs alone count flags → At r count last → (flag ≡ true → IsIdle program r hs alone count last) → (idle_at alone count ≡ true → flag ≡ true)

@@ -3,7 +3,6 @@ pub mod Bits
 pub mod UsesTable
 pub mod CheckedLiveness
 -- homes of slots are right
-pub mod InMemory
 pub mod Meeting
 pub mod CheckedHomes
 pub mod IdleCode

@@ -1,22 +1,13 @@
 -- Sets of which each group has one slot at most, as one instruction is gone through after another.
-use Rattle.std.proofs.Common.{◌≡◌, ℕ, ◌<◌, true, List, sym, ◌∙◌, arith, max, inl, inr}
-use Rattle.std.specs.Prelude.{◌⊎◌, ◌==◌, bit_and, bit_or}
+use Rattle.std.proofs.Common.{◌≡◌, ℕ, true, List, sym, ◌∙◌, arith, inl, inr}
+use Rattle.std.specs.Prelude.{◌==◌, bit_and, bit_or}
 use Rattle.std.specs.Int.{bit_at}
-use Rattle.std.specs.Int.Bits.{and_zero_l}
-use Rattle.std.proofs.lemmas.Nat.Bits.{bit_at_or, bit_at-lt, bit_at-zero}
-use Rattle.std.proofs.lemmas.Bool.{cases_lt, eqb-true, eq-eqb, or_cases, or_left}
+use Rattle.std.proofs.lemmas.Nat.Bits.{bit_at-zero}
+use Rattle.std.proofs.lemmas.Bool.{eqb-true, or_cases}
 use Rattle.cyc_registers.specs.inside.LivenessTable.{is_within}
 use Rattle.cyc_registers.specs.inside.Sharing.{AreAlone, AreApart, AreSingle, is_single}
-use Rattle.cyc_registers.proofs.Bits.{apart_bits, bit_before, bit_between, bit_both, bit_left, bit_right, bit_within, one_alone}
-
-in_either : (a b j : ℕ) → bit_at (bit_or a b) j ≡ 1 → (bit_at a j ≡ 1) ⊎ (bit_at b j ≡ 1)
-in_either a b j is = elim (cases_lt (bit_at a j) 1) [
-  | inl none ↦ inr (let e : max (bit_at a j) (bit_at b j) ≡ 1 = sym (bit_at_or a b j) ∙ is in other (bit_at a j) (bit_at b j) none e)
-  | inr some ↦ inl (omega (arith, some, bit_at-lt a j))
-]
-  where
-    other : (x y : ℕ) → x < 1 → max x y ≡ 1 → y ≡ 1
-    other x y none e = omega (arith, none, e)
+use Rattle.cyc_words.proofs.Bits.{apart_bits, in_either, bit_before, bit_between, bit_both, bit_left, bit_right, bit_within}
+use Rattle.cyc_registers.proofs.Bits.{one_alone}
 
 module _ (groups : List ℕ) where
   -- the empty set
@@ -32,10 +23,6 @@ module _ (groups : List ℕ) where
       still : (k : ℕ) → bit_at (bit_and set slots) k ≡ 1 → bit_at (bit_and known slots) k ≡ 1
       still k has =
           bit_both known slots k (bit_within set known k (eqb-true (bit_or set known) known within) (bit_before set slots k has)) (bit_between set slots k has)
-
-  -- where nothing is written
-  pub apart_none : (behind : ℕ) → AreApart groups 0 behind
-  apart_none behind number slots is = or_left (bit_and 0 slots == 0) (is_single (bit_and (bit_or 0 behind) slots)) (eq-eqb (bit_and 0 slots) 0 (and_zero_l slots))
 
   -- what stood there and is live behind, and what is written
   pub alone_behind : (standing written behind : ℕ) → AreAlone groups standing → AreApart groups written behind

@@ -33,7 +33,6 @@ pub struct Allocation {
 }
 
 /// Every slot in memory.
-#[tactic(auto, using(crate::proofs::InMemory::memory_homes))]
 fn in_memory(alloc: Global, plain: &Plain, function: &Function) -> Result<Vec<Home>, AllocError>
     ensures { IfOk result (λ homes. AreHomes plain.now (routine_of function.now) 0 homes.items) }
 {
@@ -41,7 +40,6 @@ fn in_memory(alloc: Global, plain: &Plain, function: &Function) -> Result<Vec<Ho
 }
 
 /// Every slot in memory, no place idle and none that fills slots: that is right whatever the code does.
-#[tactic(auto, using(crate::proofs::IdleCode::none_idle, crate::proofs::FillCode::none_fillable))]
 fn memory_alone(alloc: Global, plain: &Plain, function: &Function) -> Result<Allocation, AllocError>
     ensures homes { IfOk result (λ given. AreHomes plain.now (routine_of function.now) given.saved given.homes.items) }
     ensures saved { IfOk result (λ given. given.saved ≡ 0) }

@@ -69,7 +69,6 @@ fn bar(
 }
 
 /// Which places of a function's code fill slots.
-#[tactic(auto, using(crate::proofs::FillCode::none_barred, crate::proofs::FillCode::more_barred, crate::proofs::FillCode::fillable))]
 pub(crate) fn fills_of(
     alloc: Global,
     plain: &Plain,

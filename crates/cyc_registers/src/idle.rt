@@ -59,7 +59,6 @@ fn is_unused(masks: &[u64], live: &[u64], homes: &[Home], index: usize, slot: us
 }
 
 /// Whether the slot so many behind the first is such a one.
-#[tactic(auto, using(crate::proofs::IdleCode::none_unused))]
 fn is_unused_behind(
     masks: &[u64],
     live: &[u64],
@@ -78,7 +77,6 @@ fn is_unused_behind(
 }
 
 /// Whether so many slots from this one on are such ones.
-#[tactic(auto, using(crate::proofs::IdleCode::unused_more))]
 fn are_unused(
     masks: &[u64],
     live: &[u64],
@@ -206,7 +204,6 @@ fn is_idle_or_over(alone: &[bool], instruction: Instruction, index: usize) -> bo
 }
 
 /// Which places of a function's code are idle, but for jumps over others.
-#[tactic(auto, using(crate::proofs::IdleCode::none_idle))]
 fn idle_alone(
     alloc: Global,
     plain: &Plain,
@@ -229,7 +226,6 @@ fn idle_alone(
 }
 
 /// Which places of a function's code are idle.
-#[tactic(auto, using(crate::proofs::IdleCode::none_over))]
 pub(crate) fn idle_places(
     alloc: Global,
     plain: &Plain,

@@ -27,7 +27,6 @@ fn operand_mask(masks: &[u64], operand: Operand) -> u64
 }
 
 /// The mask of the slot so many behind the first.
-#[tactic(auto, using(crate::proofs::Bits::no_mask))]
 fn mask_behind(masks: &[u64], first: usize, offset: usize) -> u64
     ensures { result ≡ masks_of.mask_at masks.now (first + offset) }
 {
@@ -37,7 +36,6 @@ fn mask_behind(masks: &[u64], first: usize, offset: usize) -> u64
     mask_at(masks, first + offset)
 }
 
-#[tactic(auto, using(crate::proofs::Bits::range_more))]
 pub(crate) fn range_mask(masks: &[u64], first: usize, count: usize) -> u64
     ensures { result ≡ masks_of.range_mask masks.now first count }
 {
@@ -49,7 +47,6 @@ pub(crate) fn range_mask(masks: &[u64], first: usize, count: usize) -> u64
 }
 
 /// How many words the function of this number returns.
-#[tactic(auto, using(crate::proofs::Bits::no_results))]
 fn results_of(plain: &Plain, function: usize) -> usize
     ensures { result ≡ (routine_at plain.now function).results }
 {

@@ -51,7 +51,6 @@ fn add_group(groups: &mut Vec<u64>, slots: u64) -> Result<(), AllocError>
 }
 
 /// The sets of more than one slot that have the same register.
-#[tactic(auto, using(crate::proofs::CheckedHomes::no_groups, crate::proofs::CheckedHomes::more_groups))]
 pub(crate) fn groups_of(alloc: Global, holders: &[u64]) -> Result<Vec<u64>, AllocError>
     ensures { IfOk result (λ groups. checks.AreGroups holders.now (length holders.now) groups.items) }
 {
@@ -189,7 +188,6 @@ fn is_apart(written: u64, behind: u64, slots: u64) -> bool
     written & slots == 0 || is_single((written | behind) & slots)
 }
 
-#[tactic(auto, using(crate::proofs::Meeting::apart_none))]
 fn are_apart(groups: &[u64], written: u64, behind: u64) -> bool
     ensures { result ≡ true → checks.AreApart groups.now written behind }
 {
@@ -217,7 +215,6 @@ fn standing_mask(uses: Uses, instruction: Instruction, index: usize, live: &[u64
 
 /// Whether no two slots of a group meet anywhere. Where the run goes on behind an instruction none meet that did not meet there,
 /// but what it writes and what is live behind it.
-#[tactic(auto, using(crate::proofs::CheckedHomes::none_meet, crate::proofs::Meeting::alone_none))]
 fn never_meet(
     plain: &Plain,
     function: &Function,

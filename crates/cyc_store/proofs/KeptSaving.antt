@@ -18,10 +18,6 @@ use Rattle.cyc_store.proofs.SlotTables.{read-set, read-table, stock-words}
 use Rattle.cyc_store.proofs.WordLemmas.{memory-set, words-put}
 use Rattle.cyc_store.proofs.KeptLoads.{dead-word}
 
--- where no word is live nothing is written
-pub save-none : (s : StoreState) (address value : ℕ) → word_at s address ≡ None → s ≡ saved s address value
-save-none s address value none = sym (ap (has_saved s address value) none)
-
 module _ (t : PageTable) (lexicals : List ℕ) (classes : List ClassSlots) (b : Blocks) (k : IsKept t lexicals classes b) (word : ℕ) (inside : word < length t.words.items)
     (address : ℕ) (at : address ≡ 536870912 + 4 * word) (live : is_some (word_at (store_of t.most t.words.items b) address) ≡ true)
     (value : ℕ) (small : value < 2 ^ 32) where

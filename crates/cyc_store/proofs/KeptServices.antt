@@ -170,12 +170,6 @@ module _ (t : PageTable) (lexicals : List ℕ) (classes : List ClassSlots) (b : 
       counted : (n m l d : ℕ) → n ≤ m → l ≡ m - n → l + d ≡ m → n ≡ d
       counted n m l d few fresh count = omega (arith, few, fresh, count)
 
-  pub kept-few : length t.rows.items ≤ MOST_PAGES
-  kept-few = within (length t.rows.items) t.most k.tied.few k.tied.most
-    where
-      within : (n m : ℕ) → n ≤ m → m ≤ 65536 → n ≤ 65536
-      within n m first second = omega (arith, first, second)
-
   pub kept-lexicals : length lexicals ≡ lexical_count b.regions
   kept-lexicals = ap length k.tied.newest ∙ lexical-length b.regions
 

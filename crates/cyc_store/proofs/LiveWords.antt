@@ -7,7 +7,7 @@ use Rattle.std.proofs.lemmas.Nat.{pow_pos}
 use Rattle.cyc_words.specs.Demand.{greatest_class, blocks_in_page}
 use Rattle.cyc_words.proofs.Numbers.{when_equal}
 use Rattle.cyc_words.proofs.Options.{none_or_some, never_none_and_some, same_from_some}
-use Rattle.cyc_store.specs.State.{lookup, address_of, Sort, Heap, Lexical, Dynamic, Uniques, Home, handle_of, StoreState, homes, covers, holder}
+use Rattle.cyc_store.specs.State.{lookup, address_of, Sort, Heap, Lexical, Dynamic, Uniques, handle_of, StoreState, homes, covers, holder}
 use Rattle.cyc_store.specs.Ledger.{Blocks, store_of}
 use Rattle.cyc_store.specs.Slots.{place_of, Layout, slot_block, IsSlot, IsLaidOut}
 use Rattle.cyc_store.specs.inside.Kept.{Table, limit, role_of, role_of_owner, role_of_sort, sort_of, handle_of_page, IsRooted, IsTied}
@@ -83,10 +83,6 @@ slots-owner None (Some h) class c e = elim (cases_eq h UNIQUE) [
   | inl same ↦ (ap (λ n. Some n) same, same-class class c (sym (when_equal h UNIQUE (role.Slots class) role.Rest same) ∙ e))
   | inr other ↦ absurd (rest-slots c (sym (when_other h UNIQUE (role.Slots class) role.Rest other) ∙ e))
 ]
-
-pub sort-none : (o : Option Home) → sort_of o ≡ None → o ≡ None
-sort-none None e = refl
-sort-none (Some r) e = absurd (let k : Some r.sort ≡ None = e in cc)
 
 -- two handles of first pages
 pub odd-apart : (page : ℕ) → handle_of_page page ≡ UNIQUE → ⊥

@@ -111,10 +111,6 @@ module _ {A : Type 0} (key : A → ℕ) where
     | inr other ↦ lookup-there x ys n other ∙ lookup-part part distinct.1 n y (sym (lookup-there x xs n other) ∙ found)
   ]
 
-  pub IsPart-all : (xs : List A) → IsPart xs xs
-  IsPart-all [] = is_empty
-  IsPart-all (x ∷ xs) = is_kept (IsPart-all xs)
-
   -- ---- without
 
   without-here : (x : A) (xs : List A) (n : ℕ) → key x ≡ n → without key (x ∷ xs) n ≡ without key xs n

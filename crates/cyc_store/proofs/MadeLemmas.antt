@@ -23,10 +23,6 @@ pub saves : (grows : Bool) (address word : ℕ) (done : Bool) (s t : StoreState)
     → Makes grows (asked.Save address word) s t
 saves grows address word done s t fits is same = inl (Save address word done, refl, (fits, is, same))
 
--- no call
-pub none_made : (grows : Bool) (s : StoreState) → MakesAll grows [] s s
-none_made grows s = record { exchanges = []; are = tt; run = refl }
-
 -- one call more, before the others
 pub one_made : (grows : Bool) (a : Asked) (calls : List Asked) (s t u : StoreState) → Makes grows a s t → MakesAll grows calls t u → MakesAll grows (a ∷ calls) s u
 one_made grows a calls s t u (inl (e, is, does)) rest = record { exchanges = e ∷ rest.exchanges; are = inl (is, rest.are); run = (t, does, rest.run) }

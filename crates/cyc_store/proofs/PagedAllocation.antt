@@ -1,15 +1,11 @@
 -- A store that is laid out in pages finds a place for a block of a region wherever demand allows it, and stays so.
-use Rattle.std.proofs.Common.{◌≡◌, ℕ, ◌+◌, ◌*◌, ◌^◌, ◌<◌, ◌≤◌, List, [], ◌∷◌, None, Some, refl, sym, subst, ◌∙◌, inl, inr, arith}
-use Rattle.std.specs.Prelude.{◌⊎◌, nat_le, is_some, if◌then◌else◌}
-use Rattle.std.proofs.lemmas.Bool.{cases_lt, and_parts, leb-true}
-use Rattle.cyc_words.specs.Demand.{class_of}
-use Rattle.cyc_words.proofs.Booleans.{some_there}
-use Rattle.cyc_store.specs.State.{lookup, Uniques, Home, handle_of, StoreState, homes, demand, made_in, room}
-use Rattle.cyc_store.specs.Services.{Allocate, BadHandle, BadSize, Choice, block_of, served, any_choice, is_full, full_at, is_size, refusal, IsPlaced, IsApart, IsAllowed}
+use Rattle.std.proofs.Common.{◌≡◌, ℕ, ◌+◌, ◌*◌, ◌<◌, ◌≤◌, List, [], ◌∷◌, Some, refl, sym, subst, inl, inr, arith}
+use Rattle.std.specs.Prelude.{◌⊎◌}
+use Rattle.cyc_store.specs.State.{lookup, Home, handle_of, StoreState, homes, demand, made_in, room}
+use Rattle.cyc_store.specs.Services.{Allocate, Choice, block_of, served, IsPlaced, IsApart, IsAllowed}
 use Rattle.cyc_store.specs.Soundness.{IsSound}
-use Rattle.cyc_store.specs.declared.range.TheConstants.{PAGE_WORDS, MOST_BLOCK_WORDS, UNIQUE}
-use Rattle.cyc_store.proofs.LookupLemmas.{when_other, lookup-there}
-use Rattle.cyc_store.proofs.ServiceLemmas.{made-in, then-none, fits}
+use Rattle.cyc_store.specs.declared.range.TheConstants.{PAGE_WORDS, UNIQUE}
+use Rattle.cyc_store.proofs.ServiceLemmas.{made-in}
 use Rattle.cyc_store.specs.Pages.{page_start, Pages, filled_to, drawn, mark_of, HasChain, IsPaged}
 use Rattle.cyc_store.proofs.PageServices.{stays-placed, drawn-placed, full-without}
 use Rattle.cyc_store.proofs.PagedRegions.{block_in_page, paged-stays, paged-draws}
@@ -59,22 +55,3 @@ module _ (s : StoreState) (h n : ℕ) (sound : IsSound s) (ordinary : h ≡ UNIQ
       where
         no_words : (m : ℕ) → m + 4 * 0 ≡ m
         no_words m = omega arith
-
--- where an allocation in a region is not refused, there is a place for it
-pub allocation-finds : (s : StoreState) (h n : ℕ) → IsSound s → ArePages s → (h ≡ UNIQUE → ⊥) → refusal s (Allocate h n) ≡ None → FindsPlace s h n
-allocation-finds s h n sound laid ordinary none =
-    let (named, rest) = then-none (is_some (lookup handle_of (homes s) h)) (if is_size n then full_at (is_full s (Allocate h n)) else Some BadSize) BadHandle none in
-    let (sized, fit) = then-none (is_size n) (full_at (is_full s (Allocate h n))) BadSize rest in
-    let (r, there) = some_there (lookup handle_of (homes s) h) named in
-    let both = and_parts (nat_le 1 n) (nat_le n MOST_BLOCK_WORDS) sized in
-    let least : 1 ≤ n = leb-true 1 n both.0 in
-    let most : n ≤ 1000 = leb-true n MOST_BLOCK_WORDS both.1 in
-    let plain : room h n ≡ n = when_other h UNIQUE (2 ^ class_of n) n ordinary in
-    let few : demand (served s (Allocate h n) (any_choice s)) ≤ s.pages = fits s (Allocate h n) sound none in
-    finds s h n sound ordinary r
-    (sym (lookup-there handle_of (record { handle = UNIQUE; sort = Uniques; blocks = s.unique }) s.regions h (λ e. ordinary (sym e))) ∙ there)
-    (subst (λ m. 0 < m) (sym plain) (omega (arith, least)))
-    (subst (λ m. m ≤ 1024) (sym plain) (omega (arith, most)))
-    laid.pages laid.free laid.paged
-    (subst (λ (t : StoreState). demand t ≤ s.pages) (made-in s h (block_of h n (any_choice s)) ordinary) few)
-    (cases_lt PAGE_WORDS ((mark_of r).filled + room h n))

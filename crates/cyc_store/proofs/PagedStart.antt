@@ -1,14 +1,12 @@
 -- A new store is laid out in pages, and stays so where a region is opened and demand allows it.
-use Rattle.std.proofs.Common.{◌≡◌, ◌≢◌, ℕ, zero, suc, ◌+◌, ◌<◌, ◌≤◌, List, [], ◌∷◌, length, None, Some, refl, ap, ◌∙◌, arith}
+use Rattle.std.proofs.Common.{◌≡◌, ◌≢◌, ℕ, zero, suc, ◌+◌, ◌<◌, ◌≤◌, [], length, None, Some, refl, ap, ◌∙◌, arith}
 use Rattle.std.specs.List.{AllByRecursion}
 use Rattle.cyc_words.specs.Distinct.{IsDistinct}
 use Rattle.cyc_words.proofs.Numbers.{below_next, below_suc, below_is_not_same, le_suc_moved, below_total}
-use Rattle.cyc_store.specs.State.{Memory, Sort, Heap, StoreState, start, demand, opened}
+use Rattle.cyc_store.specs.State.{Memory, StoreState, start}
 use Rattle.cyc_store.specs.inside.Kept.{numbers_from}
-use Rattle.cyc_store.specs.declared.range.TheConstants.{HEAP, PAGE_WORDS}
-use Rattle.cyc_store.specs.Pages.{Pages, drawn, IsFree, IsPaged}
-use Rattle.cyc_store.proofs.PagedAllocation.{ArePages}
-use Rattle.cyc_store.proofs.PagedOpening.{paged-opened, full-opening}
+use Rattle.cyc_store.specs.declared.range.TheConstants.{PAGE_WORDS}
+use Rattle.cyc_store.specs.Pages.{Pages, IsFree, IsPaged}
 
 abbrev pub all_free : Pages
 all_free = record { owner = λ (page : ℕ). None; filled = λ (page : ℕ). 0 }
@@ -53,22 +51,3 @@ bare-paged count memory = record {
 
     plain : (n : ℕ) → n + 0 ≡ n
     plain n = omega arith
-
-pub start-pages : (count : ℕ) (memory : Memory) → 1 ≤ count → ArePages (start count memory)
-start-pages zero memory some = absurd (omega (arith, some))
-start-pages (suc count) memory some = record {
-  pages = drawn all_free 0 HEAP;
-  free = numbers_from 1 count;
-  paged = paged-opened (bare (suc count) memory) all_free 0 (numbers_from 1 count) HEAP Heap (bare-paged (suc count) memory);
-}
-
--- a region is opened with a page of its own, wherever demand allows it
-pub opening-pages : (s : StoreState) (h : ℕ) (sort : Sort) → ArePages s → demand (opened s h sort) ≤ s.pages → ArePages (opened s h sort)
-opening-pages s h sort laid few = by laid.pages laid.free laid.paged
-  where
-    never : (p d : ℕ) → p < d → d ≤ p → ⊥
-    never p d less more = omega (arith, less, more)
-
-    by : (pages : Pages) (free : List ℕ) → IsPaged s pages free → ArePages (opened s h sort)
-    by pages [] paged = absurd (never s.pages (demand (opened s h sort)) (full-opening s pages h sort paged) few)
-    by pages (page ∷ free) paged = record { pages = drawn pages page h; free = free; paged = paged-opened s pages page free h sort paged }

@@ -1,18 +1,12 @@
 -- A store that is laid out in pages stays so where any number of regions is closed.
-use Rattle.std.proofs.Common.{◌≡◌, ℕ, zero, suc, ◌<◌, ◌≤◌, List, [], ◌∷◌, ◌++◌, length, None, Some, refl, sym, ap, subst, ◌∙◌, inl, inr, arith}
+use Rattle.std.proofs.Common.{◌≡◌, ℕ, ◌<◌, ◌≤◌, List, [], ◌∷◌, length, None, Some, refl, sym, ap, subst, ◌∙◌, inl, inr, arith}
 use Rattle.std.specs.Prelude.{◌⊎◌}
 use Rattle.std.proofs.lemmas.Bool.{cases_eq}
-use Rattle.cyc_words.proofs.Numbers.{none_below, one_less, when_equal}
+use Rattle.cyc_words.proofs.Numbers.{when_equal}
 use Rattle.cyc_words.proofs.Options.{never_none_and_some}
-use Rattle.cyc_store.specs.State.{lookup, without, AreDistinct, Home, handle_of, StoreState, down_to}
-use Rattle.cyc_store.specs.Soundness.{IsSound}
-use Rattle.cyc_store.specs.declared.range.TheConstants.{UNIQUE}
+use Rattle.cyc_store.specs.State.{lookup, without, AreDistinct, Home, handle_of}
 use Rattle.cyc_store.proofs.LookupLemmas.{when_other, IsPart, is_empty, is_left, is_kept, lookup-here, lookup-there, IsPart-without}
-use Rattle.cyc_store.proofs.HolderLemmas.{IsPart-down_to}
-use Rattle.cyc_store.proofs.ServiceLemmas.{closed-sound}
-use Rattle.cyc_store.specs.Pages.{given_back}
-use Rattle.cyc_store.proofs.PagedAllocation.{ArePages}
-use Rattle.cyc_store.proofs.PagedClosing.{without-none, paged-closed}
+use Rattle.cyc_store.proofs.PagedClosing.{without-none}
 
 part-length : {A : Type 0} {xs ys : List A} → IsPart xs ys → length xs ≤ length ys
 part-length is_empty = omega arith
@@ -56,32 +50,3 @@ part-step (is_kept {x = r} {xs = qs} {ys = rs} part) distinct = elim (part-step 
             (is_kept out.part);
       })
 ]
-
-pub pages-part : (left : ℕ) (s : StoreState) (qs : List Home) → length s.regions ≤ left → IsSound s → ArePages s → IsPart qs s.regions
-    → ArePages (record s { regions = qs })
-pages-part zero s qs bound sound laid part = elim (part-step part sound.regions.handles.1) [
-  | inl same ↦ subst (λ l. ArePages (record s { regions = l })) (sym same) laid
-  | inr out ↦ absurd (none_below (length (without handle_of s.regions out.region.handle)) (length s.regions) (shorter_without s.regions out.region.handle out.region out.there) bound)
-]
-pages-part (suc left) s qs bound sound laid part = elim (part-step part sound.regions.handles.1) [
-  | inl same ↦ subst (λ l. ArePages (record s { regions = l })) (sym same) laid
-  | inr out ↦
-      let ordinary : (out.region.handle ≡ UNIQUE → ⊥) = λ e. never_none_and_some (subst (λ h. lookup handle_of s.regions h ≡ None) (sym e) sound.regions.handles.0) out.there in
-      pages-part left (record s { regions = without handle_of s.regions out.region.handle }) qs
-      (one_less (length (without handle_of s.regions out.region.handle)) (length s.regions) left (shorter_without s.regions out.region.handle out.region out.there) bound)
-      (closed-sound s (without handle_of s.regions out.region.handle) s.memory sound (IsPart-without handle_of s.regions out.region.handle) sound.words)
-      (record {
-        pages = given_back laid.pages out.region.handle;
-        free = ((laid.paged.chains out.region.handle out.region out.there).newest.page ∷ (laid.paged.chains out.region.handle out.region out.there).older) ++ laid.free;
-        paged = paged-closed s laid.pages laid.free out.region.handle out.region sound laid.paged out.there ordinary
-            (laid.paged.chains out.region.handle out.region out.there);
-      })
-      out.part
-]
-
--- the lexical regions are closed down to a mark
-pub pages-down_to : (s : StoreState) (mark : ℕ) → IsSound s → ArePages s → ArePages (record s { regions = down_to mark s.regions })
-pages-down_to s mark sound laid = pages-part (length s.regions) s (down_to mark s.regions) (same (length s.regions)) sound laid (IsPart-down_to mark s.regions)
-  where
-    same : (n : ℕ) → n ≤ n
-    same n = omega arith

@@ -1,6 +1,6 @@
 -- What a store that is laid out answers: each call of the model is a call of the relation, with its answer.
-use Rattle.std.proofs.Common.{◌≡◌, ℕ, suc, ◌+◌, ◌^◌, ◌<◌, ◌≤◌, Bool, true, false, List, [], ◌∷◌, length, Option, None, Some, refl, sym, ap, subst, ◌∙◌, inl, inr, arith}
-use Rattle.std.specs.Prelude.{◌⊎◌, ◌&&◌, nat_le, is_some}
+use Rattle.std.proofs.Common.{◌≡◌, ℕ, suc, ◌+◌, ◌^◌, ◌<◌, ◌≤◌, true, false, List, [], ◌∷◌, length, Option, None, Some, refl, sym, ap, subst, ◌∙◌, inl, inr, arith}
+use Rattle.std.specs.Prelude.{◌&&◌, nat_le, is_some}
 use Rattle.std.proofs.lemmas.Bool.{cases_Bool, cond-true, cond-false, le-leb, lt-leb, ltb-true, ltb-false}
 use Rattle.cyc_words.specs.Demand.{class_of}
 use Rattle.cyc_words.proofs.Numbers.{when_equal}
@@ -44,34 +44,12 @@ full-some-past s call past = elim (cases_Bool (is_full s call)) [
 
 -- ---- calls that name nothing, or ask for no size
 
-pub refuses-handle : (s : StoreState) (h n : ℕ) → lookup handle_of (homes s) h ≡ None → Serves s (Allocate h n) (Refused BadHandle) s
-refuses-handle s h n none = serves-some s (Allocate h n) BadHandle (cond-false (is_some (lookup handle_of (homes s) h)) _ (Some BadHandle) (ap is_some none))
-
-pub refuses-size : (s : StoreState) (h n : ℕ) (r : Home) → lookup handle_of (homes s) h ≡ Some r → (n ≡ 0) ⊎ (MOST_BLOCK_WORDS < n) → Serves s (Allocate h n) (Refused BadSize) s
-refuses-size s h n r named bad = serves-some s (Allocate h n) BadSize
-    (cond-true (is_some (lookup handle_of (homes s) h)) _ (Some BadHandle) (ap is_some named)
-    ∙ cond-false (is_size n) (full_at (is_full s (Allocate h n))) (Some BadSize) (by bad))
-  where
-    zero : (m : ℕ) → m ≡ 0 → m < 1
-    zero m e = omega (arith, e)
-
-    never : (a : Bool) → (a && false) ≡ false
-    never true = refl
-    never false = refl
-
-    by : (n ≡ 0) ⊎ (MOST_BLOCK_WORDS < n) → is_size n ≡ false
-    by (inl none) = ap (λ a. a && nat_le n MOST_BLOCK_WORDS) (lt-leb 1 n (zero n none))
-    by (inr more) = ap (λ a. nat_le 1 n && a) (lt-leb n MOST_BLOCK_WORDS more) ∙ never (nat_le 1 n)
-
 pub refuses-close : (s : StoreState) (h : ℕ) → names_dynamic (lookup handle_of s.regions h) ≡ false → Serves s (CloseDynamic h) (Refused BadHandle) s
 refuses-close s h not = serves-some s (CloseDynamic h) BadHandle (cond-false (names_dynamic (lookup handle_of s.regions h)) None (Some BadHandle) not)
 
 pub refuses-close_to : (s : StoreState) (mark : ℕ) → lexical_count s.regions < mark → Serves s (CloseTo mark) (Refused BadMark) s
 refuses-close_to s mark past = serves-some s (CloseTo mark) BadMark
     (cond-false (nat_le mark (lexical_count s.regions)) None (Some BadMark) (lt-leb mark (lexical_count s.regions) past))
-
-pub refuses-free : (s : StoreState) (a : ℕ) → lookup address_of s.unique a ≡ None → Serves s (Free a) (Refused NotABlock) s
-refuses-free s a none = serves-some s (Free a) NotABlock (cond-false (is_some (lookup address_of s.unique a)) None (Some NotABlock) (ap is_some none))
 
 -- ---- opening
 

@@ -1,9 +1,8 @@
 -- The table of pages, a page at a time.
-use Rattle.std.proofs.Common.{◌≡◌, ℕ, zero, suc, ◌+◌, ◌-◌, ◌<◌, ◌≤◌, Bool, false, List, length, sym, ap, ◌∙◌, inl, inr, arith, get_or-set_same, get_or-set_other}
+use Rattle.std.proofs.Common.{◌≡◌, ℕ, zero, suc, ◌+◌, ◌-◌, ◌<◌, ◌≤◌, Bool, List, length, sym, ap, ◌∙◌, inl, inr, arith}
 use Rattle.std.specs.Prelude.{◌⊎◌, ◌&&◌, nat_le, nat_lt, slice_index_or, set}
-use Rattle.std.proofs.lemmas.Bool.{cases_eq, cases_lt, and_right, cond-true, cond-false, le-leb, lt-leb, le-ltb, lt-ltb}
+use Rattle.std.proofs.lemmas.Bool.{and_right, cond-true, cond-false, le-leb, lt-leb, le-ltb, lt-ltb}
 use Rattle.std.proofs.lemmas.List.{get_or_default}
-use Rattle.cyc_words.proofs.Numbers.{cases_within}
 use Rattle.cyc_store.specs.declared.row.Row.{Row}
 use Rattle.cyc_store.specs.declared.row.TheConstants.{NONE}
 use Rattle.cyc_store.specs.Table.{free_row, row_at, given_rows, given_free, AreThere, marked_between}
@@ -26,11 +25,6 @@ giving-step rows page (suc left) free first newest count none giving some =
     let less : suc left - 1 ≡ left = omega arith in
     rw less (record { there = giving.there.1; rows_are = giving.rows_are; free_is = giving.free_is })
 
-pub giving-over : (rows : List Row) (page left free : ℕ) (first : List Row) (newest count none : ℕ) → IsGiving rows page left free first newest count none → left ≡ 0
-    → (rows ≡ given_rows first newest count none) × (free ≡ given_free first newest count none)
-giving-over rows page zero free first newest count none giving is = (giving.rows_are, giving.free_is)
-giving-over rows page (suc left) free first newest count none giving is = absurd (omega (arith, is))
-
 -- what is read at a page that is there
 pub row_at-read : (rows : List Row) (page : ℕ) (r : Row) → page < length rows → r ≡ slice_index_or rows page r → row_at rows page ≡ r
 row_at-read rows page r inside is = get_or_default rows page (free_row NONE) r inside ∙ sym is
@@ -46,24 +40,3 @@ marked-out old first count mark word (inl below) =
     cond-false (nat_le first word && nat_lt word (first + count)) mark (old word) (ap (λ (a : Bool). a && nat_lt word (first + count)) (lt-leb first word below))
 marked-out old first count mark word (inr past) =
     cond-false (nat_le first word && nat_lt word (first + count)) mark (old word) (and_right (nat_le first word) (nat_lt word (first + count)) (le-ltb word (first + count) past))
-
--- one mark more
-pub mark-more : (marks : List Bool) (old : ℕ → Bool) (first n : ℕ) (mark : Bool) → first + n < length marks → ((word : ℕ) → slice_index_or marks word false ≡ marked_between old first n mark word)
-    → (word : ℕ) → slice_index_or (set marks (first + n) mark) word false ≡ marked_between old first (n + 1) mark word
-mark-more marks old first n mark there so_far word = elim (cases_eq word (first + n)) [
-  | inl here ↦
-      ap (λ k. slice_index_or (set marks (first + n) mark) k false) here ∙ (get_or-set_same marks (first + n) mark false there
-      ∙ sym (marked-in old first (n + 1) mark word (omega (arith, here)) (omega (arith, here))))
-  | inr other ↦
-      get_or-set_other marks (first + n) word mark false other ∙ (so_far word ∙ elim (cases_within first n word) [
-        | inl (low, high) ↦ marked-in old first n mark word low high ∙ sym (marked-in old first (n + 1) mark word low (omega (arith, high)))
-        | inr out ↦ marked-out old first n mark word out ∙ sym (marked-out old first (n + 1) mark word (further other out))
-      ])
-]
-  where
-    further : (word ≡ first + n → ⊥) → (word < first) ⊎ (first + n ≤ word) → (word < first) ⊎ (first + (n + 1) ≤ word)
-    further other (inl below) = inl below
-    further other (inr past) = elim (cases_lt word (first + (n + 1))) [
-      | inl less ↦ absurd (other (omega (arith, past, less)))
-      | inr more ↦ inr more
-    ]

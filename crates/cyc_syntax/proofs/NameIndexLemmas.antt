@@ -55,14 +55,6 @@ found_at-push texts new None other text within = refl
 found_at-push texts new (Some n) other text within =
     ap (λ t. if bytes_eq t text then Some n else other) (get_or_append_left texts (new ∷ []) [] n within)
 
--- no text is among none
-pub empty_index : (first : ℕ → Option ℕ) (other : List ℕ → Option ℕ) → ((key : ℕ) → first key ≡ None) → ((text : List ℕ) → other text ≡ None) → IsIndexOf [] first other
-empty_index first other no_key no_other = record {
-  within = λ key. rw (no_key key) tt;
-  apart = λ text none. no_other text;
-  found = λ text. rw (no_key (key_of text)) refl;
-}
-
 -- texts with two keys are two
 apart_by_keys : (text t : List ℕ) → is_eq (nat_cmp (key_of text) (key_of t)) ≡ false → bytes_eq t text ≡ false
 apart_by_keys text t differs =

@@ -1,6 +1,6 @@
 -- The loops that go over what is written of a type.
-use Rattle.std.proofs.Common.{◌≡◌, ℕ, ◌+◌, ◌-◌, ◌<◌, ◌≤◌, List, [], ◌∷◌, length, map, drop, refl, sym, ap, ◌∙◌, arith}
-use Rattle.std.proofs.lemmas.List.{drop_all, length-drop}
+use Rattle.std.proofs.Common.{◌≡◌, ℕ, ◌+◌, ◌-◌, ◌<◌, List, [], ◌∷◌, length, map, drop, refl, sym, ap, ◌∙◌, arith}
+use Rattle.std.proofs.lemmas.List.{length-drop}
 use Rattle.cyc_syntax.specs.declared.tree.Pointer.{Pointer as PointerCode}
 use Rattle.cyc_syntax.specs.inside.TreeView.{view_pointer}
 use Rattle.cyc_types.specs.declared.region.Region.{Region}
@@ -28,6 +28,3 @@ marked names outermost ms i before behind m t u whole inside here counted next m
     ∙ sym (ap (λ (s : Region). pointers_written names outermost (types.Pointer m.kind t (region_or names s (view_pointer m).region)) (map view_pointer (drop (i + 1) ms))) same)
     ∙ sym (ap (λ (ns : List PointerCode). pointers_written names outermost t (map view_pointer ns)) here)
     ∙ left
-
-pub marks_done : (names : List RegionName) (outermost : Region) (ms : List PointerCode) (i : ℕ) (t whole : Ty) → length ms ≤ i → MarksLeft names outermost ms i t whole → t ≡ whole
-marks_done names outermost ms i t whole done left = sym (ap (λ (ns : List PointerCode). pointers_written names outermost t (map view_pointer ns)) (drop_all i ms done)) ∙ left

@@ -240,17 +240,6 @@ module _ (w : List (Region × Region)) (live : List Region) where
             (subst (λ (s : Scope). is_region_among s.region (live_before live xs i) ≡ false) e (o.fresh (back k)));
       }
 
-  -- where the newest are closed
-  pub in_order-kept : (openings : List ℕ) (scopes kept closed : List Scope) (n k : ℕ) → IsInOrder w live openings scopes n →
-      scopes ≡ kept ++ closed → k ≤ n → k ≤ length kept → IsInOrder w live openings kept k
-  in_order-kept openings scopes kept closed n k o e le within = record {
-    within = within;
-    each = λ i lt. orderly-same openings scopes kept i
-        (λ j before. ap (λ z. scope_at z j) e ∙ get_or_append_left kept closed default j (omega (arith, lt, before, within)))
-        (ap (take i) e ∙ take-append-le i kept closed (omega (arith, lt, within)))
-        (o.each i (omega (arith, lt, le)));
-  }
-
   -- where one more opens
   pub in_order-more : (openings : List ℕ) (scopes : List Scope) (s : Scope) (n : ℕ) → IsInOrder w live openings scopes n →
       IsInOrder w live openings (scopes ++ s ∷ []) n

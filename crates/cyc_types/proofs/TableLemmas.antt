@@ -91,12 +91,6 @@ pub SteppedTo-more : (via : Region) (below : List Region) (n : ℕ) (old new : L
     SteppedTo via below n old new → EntryStep via below (get_or new n c) k → SteppedTo via below (n + 1) old (set new n k)
 SteppedTo-more via below n old new c k h s p = rw add-one (SteppedTo-suc via below n old new c k h s p)
 
-pub SteppedTo-length : (via : Region) (below : List Region) (n : ℕ) (old new : List Constraint) → SteppedTo via below n old new → length new ≡ length old
-SteppedTo-length via below zero old new s = ap length s
-SteppedTo-length via below (suc n) [] new s = ap length s
-SteppedTo-length via below (suc n) (c ∷ cs) [] s = absurd s
-SteppedTo-length via below (suc n) (c ∷ cs) (k ∷ ks) s = ap suc (SteppedTo-length via below n cs ks s.1)
-
 pub SteppedTo-written : (via : Region) (below : List Region) (n : ℕ) (old new : List Constraint) → SteppedTo via below n old new →
     written_in new ≡ written_in old
 SteppedTo-written via below zero old new s = ap written_in s

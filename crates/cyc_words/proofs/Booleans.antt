@@ -41,13 +41,6 @@ and_second_first true false c = refl
 and_second_first false true c = refl
 and_second_first false false c = refl
 
-pub and_last_two_swapped : (a b c : Bool) → (a && (b && c)) ≡ (a && (c && b))
-and_last_two_swapped true true true = refl
-and_last_two_swapped true true false = refl
-and_last_two_swapped true false true = refl
-and_last_two_swapped true false false = refl
-and_last_two_swapped false b c = refl
-
 -- ---- not
 
 pub not_not : (b : Bool) → not (not b) ≡ b
@@ -64,6 +57,10 @@ true_is_not_false is = cc
 
 pub false_is_not_true : false ≡ true → ⊥
 false_is_not_true e = cc
+
+pub false_from_not : (b : Bool) → not b ≡ true → b ≡ false
+false_from_not true is = absurd (false_is_not_true is)
+false_from_not false is = refl
 
 pub anything_from_false_is_true : {P : Type 0} → false ≡ true → P
 anything_from_false_is_true e = absurd (true≢false (sym e))

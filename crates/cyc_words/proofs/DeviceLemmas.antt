@@ -11,6 +11,17 @@ pub Keeps-refl : (a : Option (List ℕ)) → Keeps a a
 Keeps-refl None = tt
 Keeps-refl (Some xs) = refl
 
+pub Keeps_trans : (a b c : Option (List ℕ)) → Keeps a b → Keeps b c → Keeps a c
+Keeps_trans None b c k h = tt
+Keeps_trans (Some xs) None c k h = absurd k
+Keeps_trans (Some xs) (Some ys) c k h = subst (λ (zs : List ℕ). Keeps (Some zs) c) k h
+
+pub ReadConsumes_kept : {E : Type 0} (a b c : Option (List ℕ)) (r : Result ℕ E) (bytes : List ℕ) → Keeps a b → ReadConsumes b c r bytes → ReadConsumes a c r bytes
+ReadConsumes_kept None b c (Ok n) bytes k h = (tt, h.1)
+ReadConsumes_kept None b c (Err e) bytes k h = tt
+ReadConsumes_kept (Some xs) None c r bytes k h = absurd k
+ReadConsumes_kept (Some xs) (Some ys) c r bytes k h = subst (λ (zs : List ℕ). ReadConsumes (Some zs) c r bytes) k h
+
 pub Appends-nil : (a b : Option (List ℕ)) → Keeps a b → Appends a b []
 Appends-nil None b h = tt
 Appends-nil (Some xs) None h = absurd h
@@ -75,9 +86,3 @@ pub Keeps-some : (told new : Option (List ℕ)) (input : List ℕ) → told ≡ 
 Keeps-some None new input is keeps = absurd (let e : None ≡ Some input = is in cc)
 Keeps-some (Some told) None input is keeps = absurd keeps
 Keeps-some (Some told) (Some left) input is keeps = ap (λ (l : List ℕ). Some l) keeps ∙ is
-
-pub ReadConsumes-kept : {E : Type 0} (a b c : Option (List ℕ)) (r : Result ℕ E) (bytes : List ℕ) → Keeps a b → ReadConsumes b c r bytes → ReadConsumes a c r bytes
-ReadConsumes-kept None b c (Ok n) bytes k h = (tt, h.1)
-ReadConsumes-kept None b c (Err e) bytes k h = tt
-ReadConsumes-kept (Some xs) None c r bytes k h = absurd k
-ReadConsumes-kept (Some xs) (Some ys) c r bytes k h = subst (λ (zs : List ℕ). ReadConsumes (Some zs) c r bytes) k h

@@ -101,11 +101,6 @@ slice_index_or_replicate zero x d i lt = absurd (omega (arith, lt))
 slice_index_or_replicate (suc n) x d zero lt = refl
 slice_index_or_replicate (suc n) x d (suc i) lt = slice_index_or_replicate n x d i (omega (arith, lt))
 
-pub slice_index_or_replicate_beyond : {A : Type 0} (n : ℕ) (x d : A) (i : ℕ) → n ≤ i → slice_index_or (replicate n x) i d ≡ d
-slice_index_or_replicate_beyond zero x d i le = refl
-slice_index_or_replicate_beyond (suc n) x d zero le = absurd (omega (arith, le))
-slice_index_or_replicate_beyond (suc n) x d (suc i) le = slice_index_or_replicate_beyond n x d i (omega (arith, le))
-
 pub never_in_falses : (n page : ℕ) → slice_index_or (replicate n false) page false ≡ true → ⊥
 never_in_falses zero page e = cc
 never_in_falses (suc n) zero e = cc

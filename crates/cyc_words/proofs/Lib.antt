@@ -12,6 +12,7 @@ pub mod Booleans
 pub mod Lists
 pub mod Numbers
 pub mod Integers
+pub mod Bits
 pub mod Options
 pub mod Items
 pub mod Members

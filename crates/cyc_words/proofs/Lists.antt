@@ -32,12 +32,6 @@ drop_found (y ∷ xs) (suc k) x at =
     let next : suc k + 1 ≡ suc (k + 1) = omega arith in
     drop_found xs k x at ∙ ap (λ (n : ℕ). x ∷ drop n (y ∷ xs)) (sym next)
 
-pub drop_beyond : {A : Type 0} (xs : List A) (i : ℕ) → slice_get xs i ≡ None → drop i xs ≡ []
-drop_beyond [] zero e = refl
-drop_beyond [] (suc i) e = refl
-drop_beyond (x ∷ xs) zero e = absurd (cc)
-drop_beyond (x ∷ xs) (suc i) e = drop_beyond xs i e
-
 pub drop_to_last : {A : Type 0} (xs ys : List A) → drop (length (xs ++ ys) - length ys) (xs ++ ys) ≡ ys
 drop_to_last xs ys =
     let n : length (xs ++ ys) - length ys ≡ length xs = omega (arith, length-append xs ys) in

@@ -14,6 +14,11 @@ use Rattle.cyc_words.proofs.Booleans.{or_comm, or_false_right}
 
 -- ---- tests of items
 
+-- the last one first
+pub any_last_first : {A : Type 0} (test : A → Bool) (xs : List A) (x : A) → list_any test (xs ++ x ∷ []) ≡ (test x || list_any test xs)
+any_last_first test xs x =
+    list_any-append test xs (x ∷ []) ∙ ap (λ (b : Bool). list_any test xs || b) (or_false_right (test x)) ∙ or_comm (list_any test xs) (test x)
+
 pub any-true : {X : Type 0} (f : X → Bool) (xs : List X) → list_any f xs ≡ true → (x : X) × Contains xs x × (f x ≡ true)
 any-true f [] h = cc
 any-true f (x ∷ xs) h =

@@ -1,19 +1,6 @@
 -- A byte of a word is written, and the other three stay.
-use Rattle.std.proofs.Common.{◌≡◌, ◌≢◌, ℕ, zero, suc, ◌+◌, ◌*◌, ◌/◌, ◌%◌, ◌<◌, ◌≤◌, refl, arith}
+use Rattle.std.proofs.Common.{◌≡◌, ◌≢◌, ℕ, zero, suc, ◌<◌, refl, arith}
 use Rattle.cyc_words.specs.Bytes.{byte_in, with_byte}
-
--- every place behind the third is the last
-pub byte-last : (w p : ℕ) → 3 ≤ p → byte_in w p ≡ w % 256
-byte-last w zero far = omega (arith, far)
-byte-last w (suc zero) far = omega (arith, far)
-byte-last w (suc (suc zero)) far = omega (arith, far)
-byte-last w (suc (suc (suc p))) far = refl
-
-pub with_byte-last : (w p b : ℕ) → 3 ≤ p → with_byte w p b ≡ w / 256 * 256 + b
-with_byte-last w zero b far = omega (arith, far)
-with_byte-last w (suc zero) b far = omega (arith, far)
-with_byte-last w (suc (suc zero)) b far = omega (arith, far)
-with_byte-last w (suc (suc (suc p))) b far = refl
 
 pub byte-small : (w p : ℕ) → byte_in w p < 256
 byte-small w zero = omega arith

@@ -129,7 +129,7 @@ fn kept_with(kept: Option<Vec<u8>>, byte: u8) -> Option<Vec<u8>> {
 }
 
 /// Reads a byte, and tries again where a signal cut that short.
-#[tactic(auto, using(crate::proofs::Reading::keeps_kept, crate::proofs::Reading::reads_kept))]
+#[tactic(auto, using(cyc_words::proofs::DeviceLemmas::Keeps_trans, cyc_words::proofs::DeviceLemmas::ReadConsumes_kept))]
 fn read_byte<R: Read>(input: &mut R, byte: &mut [u8]) -> io::Result<usize>
     ensures bound { ReadsAtMost result byte.new }
     ensures bytes { ReadConsumes (R.remaining input.old) (R.remaining input.new) result byte.new }

@@ -28,7 +28,7 @@ use Rattle.cyc_select.specs.declared.plan.Test.TheVariants as tests
 use Rattle.cyc_select.specs.inside.Plans.{arithmetic_plan, immediate_plan, immediate_or, zero_plan, differs_plan, equal_plan, unary_plan, binary_plan}
 use Rattle.cyc_select.specs.inside.Numbers.{fits_signed, negated_half, is_word, is_zero_word}
 use Rattle.cyc_select.specs.inside.Instructions.{small, load_upper, constant, store_slot, add_immediate, minus}
-use Rattle.cyc_select.specs.inside.Slots.{value_register, is_kept, keep_code, give_to, give_code, bring_code, bring_all, load_words, load_all, store_all, result_registers, made_in, is_near, upper_of_global, reach_code, at_global, global_code, is_own}
+use Rattle.cyc_select.specs.inside.Slots.{value_register, is_kept, keep_code, give_to, give_code, bring_code, bring_all, load_words, store_all, result_registers, made_in, is_near, upper_of_global, reach_code, at_global, global_code, is_own}
 use Rattle.cyc_select.specs.inside.Operands.{fetch_from, fetch_count, keep_count, give_count_to, give_count, gives_count, move_count_to, move_count, moves_count, or_immediate, is_tested, word_code, load_code, operand_code, operand_register, operation_code, outcome_code, operands_code, operation_of}
 use Rattle.cyc_select.specs.inside.Operands.{computed_code, plan_code, test_code, word_count, load_count, operand_count, far_plan, address_code, address_count, operation_count, outcome_count, count_of_operation, plan_count, test_count, divide_count, operator_count, reach_count}
 use Rattle.cyc_select.specs.inside.Passing.{passed_from, spill_from, spill, spills, spill_count_from, spill_count, spills_count, pass_from, pass, copies, pass_count_from, pass_count, copies_count}
@@ -383,10 +383,6 @@ length_stores f slot (source ∷ sources) = ap suc (length_stores f (suc slot) s
 pub length_words : (f : Frame) (slot : ℕ) (targets : List ℕ) → length (load_words f slot targets) ≡ length targets
 length_words f slot [] = refl
 length_words f slot (target ∷ targets) = ap suc (length_words f (suc slot) targets)
-
-pub length_loads : (f : Frame) (slot : ℕ) (targets : List ℕ) → length (load_all f slot targets) ≡ length targets
-length_loads f slot [] = refl
-length_loads f slot (target ∷ targets) = ap suc (length_loads f (suc slot) targets)
 
 pub length_moves : (f : Frame) (destination source count : ℕ) → length (moves f destination source count) ≡ moves_count f destination source count
 length_moves f destination source zero = refl

@@ -1,15 +1,11 @@
 -- Lines that are made piece by piece.
-use Rattle.std.proofs.Common.{◌≡◌, ℕ, suc, ◌+◌, ◌-◌, ◌*◌, ◌<◌, List, [], ◌∷◌, ◌++◌, length, drop, refl, ap, ◌∙◌, arith}
-use Rattle.std.specs.Prelude.{sum_by}
-use Rattle.std.proofs.lemmas.List.{append-nil, drop_more}
-use Rattle.std.proofs.lemmas.List.Sums.{sum_by-drop_more}
+use Rattle.std.proofs.Common.{◌≡◌, ℕ, suc, ◌+◌, ◌-◌, ◌*◌, ◌<◌, List, [], ◌∷◌, ◌++◌, drop, refl, ap, ◌∙◌, arith}
 use Rattle.cyc_words.proofs.Lists.{append_goes_on}
 use Rattle.cyc_isa.specs.declared.instr.Instr.{Instr}
 use Rattle.cyc_plain.specs.declared.instruction.Operand.TheVariants as operands
 use Rattle.cyc_frame.specs.inside.Frame.{Frame}
-use Rattle.cyc_registers.specs.inside.Interference.{home_of, both_count}
+use Rattle.cyc_registers.specs.inside.Interference.{home_of}
 use Rattle.cyc_registers.specs.declared.home.TheConstants.{FIRST_PRESERVED}
-use Rattle.cyc_registers.specs.declared.home.Home.{Home}
 use Rattle.cyc_registers.specs.declared.home.Home.TheVariants as homes
 use Rattle.cyc_select.specs.declared.code.Line.TheVariants as lines
 use Rattle.cyc_select.specs.declared.code.Line.{Line}
@@ -17,7 +13,7 @@ use Rattle.cyc_select.specs.inside.Instructions.{load, store}
 use Rattle.cyc_select.specs.inside.Slots.{arriving, saves_from, restores_from, value_register, reload, reloads_from}
 use Rattle.cyc_select.specs.inside.Passing.{pass, copies, spill, spills}
 use Rattle.cyc_select.specs.inside.Selection.{move_to, moves, ordinary}
-use Rattle.cyc_select.proofs.relation.Arriving.{reloads_next, arriving_all}
+use Rattle.cyc_select.proofs.relation.Arriving.{reloads_next}
 
 ordinary_append : (is js : List Instr) → ordinary (is ++ js) ≡ ordinary is ++ ordinary js
 ordinary_append [] js = refl
@@ -107,18 +103,6 @@ restores_next frame number all old new below is before =
     ∙ ap (λ (n : ℕ). ordinary one ++ ordinary (restores_from frame.first_saved n (frame.saved - (number + 1)))) to)
     before
 
--- one register more is read again
-pub reload_next : (frame : Frame) (slot : ℕ) → slot < length frame.homes
-    → ordinary (reloads_from frame slot (drop slot frame.homes)) ≡ ordinary (reload frame (home_of frame.homes slot) slot) ++ ordinary (reloads_from frame (slot + 1) (drop (slot + 1) frame.homes))
-reload_next frame slot below =
-    let next : suc slot ≡ slot + 1 = omega arith in
-    ap (λ (hs : List Home). ordinary (reloads_from frame slot hs)) (drop_more frame.homes slot homes.Memory below)
-    ∙ ordinary_append (reload frame (home_of frame.homes slot) slot) (reloads_from frame (suc slot) (drop (slot + 1) frame.homes))
-    ∙ ap (λ (n : ℕ). ordinary (reload frame (home_of frame.homes slot) slot) ++ ordinary (reloads_from frame n (drop (slot + 1) frame.homes))) next
-
-pub both_next : (hs : List Home) (slot : ℕ) → slot < length hs → sum_by both_count (drop slot hs) ≡ both_count (home_of hs slot) + sum_by both_count (drop (slot + 1) hs)
-both_next hs slot below = sum_by-drop_more both_count hs slot homes.Memory below
-
 -- one parameter more comes to its register
 pub arrived_next : (frame : Frame) (slot : ℕ) (all old new : List Line) → new ≡ old ++ ordinary (reload frame (home_of (arriving frame) slot) slot)
     → old ++ ordinary (reloads_from frame slot (drop slot (arriving frame))) ≡ all → new ++ ordinary (reloads_from frame (slot + 1) (drop (slot + 1) (arriving frame))) ≡ all
@@ -130,9 +114,3 @@ arrived_next frame slot all old new is before =
     ∙ ordinary_append one (reloads_from frame (suc slot) (drop (suc slot) (arriving frame)))
     ∙ ap (λ (n : ℕ). ordinary one ++ ordinary (reloads_from frame n (drop n (arriving frame)))) next)
     before
-
--- all have come
-pub arrived_all : (frame : Frame) (slot : ℕ) → slot ≡ length frame.homes → (old : List Line) → old ++ ordinary (reloads_from frame slot (drop slot (arriving frame))) ≡ old
-arrived_all frame slot same old =
-    ap (λ (n : ℕ). old ++ ordinary (reloads_from frame slot (drop n (arriving frame)))) same
-    ∙ (ap (λ (hs : List Home). old ++ ordinary (reloads_from frame slot hs)) (arriving_all frame.parameters frame.homes) ∙ append-nil old)

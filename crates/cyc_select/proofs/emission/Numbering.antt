@@ -293,20 +293,6 @@ module _ {program : Program} {frames : List Frame} {starts lines : List ℕ} {fu
 
 -- ---- one instruction behind the other
 
-pub counts_next : (program : Program) (frames : List Frame) (function : ℕ) (code : List Instruction) (k : ℕ) (d : Instruction) → k < length code
-    → code_count program frames function k (drop k code) ≡ count_of program frames function k (slice_index_or code k d) + code_count program frames function (k + 1) (drop (k + 1) code)
-counts_next program frames function code k d below =
-    let one : suc k ≡ k + 1 = omega arith in
-    ap (code_count program frames function k) (drop_more code k d below)
-    ∙ ap (λ (n : ℕ). count_of program frames function k (slice_index_or code k d) + code_count program frames function n (drop (k + 1) code)) one
-
-pub numbers_next : (program : Program) (frames : List Frame) (function here : ℕ) (code : List Instruction) (k : ℕ) (d : Instruction) → k < length code
-    → instruction_lines program frames function k here (drop k code) ≡ here ∷ instruction_lines program frames function (k + 1) (here + count_of program frames function k (slice_index_or code k d)) (drop (k + 1) code)
-numbers_next program frames function here code k d below =
-    let one : suc k ≡ k + 1 = omega arith in
-    ap (instruction_lines program frames function k here) (drop_more code k d below)
-    ∙ ap (λ (n : ℕ). here ∷ instruction_lines program frames function n (here + count_of program frames function k (slice_index_or code k d)) (drop (k + 1) code)) one
-
 pub code_next : (program : Program) (frames : List Frame) (function : ℕ) (code : List Instruction) (k : ℕ) (d : Instruction) → code ≡ (routine_at program function).code → k < length code
     → code_lines program frames function k (instruction_line program frames function k) (drop k code)
     ≡ place_lines program frames function k (instruction_line program frames function k) (slice_index_or code k d) ++ behind program frames function (slice_index_or code k d)

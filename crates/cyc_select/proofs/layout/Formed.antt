@@ -98,9 +98,6 @@ module _ (program : Program) (frames : List Frame) (P : Line → Type 0) where
       subst (λ (f : ℕ). AllByRecursion P (routine_lines program frames f n (slice_index_or routines k no_routine))) next (each (suc k) n (omega (arith, below)) (omega (arith, is)))))
 
 module _ (program : Program) (well : IsWellFormed program) (words : HasWords program) (frames : List Frame) (fit : AreFrames program frames) where
-  total : ℕ
-  total = length (select_of program frames).lines
-
   abbrev Formed : List Line → Type 0
   Formed ls = AllByRecursion (IsFormedLine (length (select_of program frames).lines)) ls
 

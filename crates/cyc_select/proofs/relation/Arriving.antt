@@ -151,35 +151,12 @@ reloads_next frame [] (suc slot) at = refl
 reloads_next frame (h ∷ hs) zero at = refl
 reloads_next frame (h ∷ hs) (suc slot) at = reloads_next frame hs slot at
 
-taken_all : (n : ℕ) (hs : List Home) → drop n (take n hs) ≡ []
-taken_all zero [] = refl
-taken_all zero (h ∷ hs) = refl
-taken_all (suc n) [] = refl
-taken_all (suc n) (h ∷ hs) = taken_all n hs
-
 -- behind all of them stand none
 pub arriving_all : (n : ℕ) (hs : List Home) → drop (length hs) (map arriving_home (take n hs)) ≡ []
 arriving_all zero [] = refl
 arriving_all zero (h ∷ hs) = refl
 arriving_all (suc n) [] = refl
 arriving_all (suc n) (h ∷ hs) = arriving_all n hs
-
-saved_behind : (hs : List Home) (slot : ℕ) → sum_by saved_count (drop slot hs) ≡ saved_count (home_of hs slot) + sum_by saved_count (drop (suc slot) hs)
-saved_behind [] zero = refl
-saved_behind [] (suc slot) = refl
-saved_behind (h ∷ hs) zero = sum_by-cons saved_count h hs
-saved_behind (h ∷ hs) (suc slot) = saved_behind hs slot
-
-pub arrivals_next : (frame : Frame) (slot : ℕ) → slot < frame.parameters
-    → sum_by saved_count (drop slot (take frame.parameters frame.homes)) ≡ saved_count (home_of frame.homes slot) + sum_by saved_count (drop (slot + 1) (take frame.parameters frame.homes))
-arrivals_next frame slot below =
-    let next : suc slot ≡ slot + 1 = omega arith in
-    saved_behind (take frame.parameters frame.homes) slot
-    ∙ (ap (λ (h : Home). saved_count h + sum_by saved_count (drop (suc slot) (take frame.parameters frame.homes))) (home_taken frame.parameters frame.homes slot below)
-    ∙ ap (λ (n : ℕ). saved_count (home_of frame.homes slot) + sum_by saved_count (drop n (take frame.parameters frame.homes))) next)
-
-pub no_arrivals : (frame : Frame) → sum_by saved_count (drop frame.parameters (take frame.parameters frame.homes)) ≡ 0
-no_arrivals frame = ap (sum_by saved_count) (taken_all frame.parameters frame.homes)
 
 -- ---- a caller's view of a frame
 

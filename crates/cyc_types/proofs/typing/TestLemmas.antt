@@ -7,7 +7,7 @@ use Rattle.cyc_types.specs.declared.region.Region.{Region}
 use Rattle.cyc_types.specs.declared.region.Region.TheVariants as regions
 use Rattle.cyc_types.specs.Types.{Ty, Int, Char, Pointer, Handle, Key, Struct, ValueType, Value, region_eq}
 use Rattle.cyc_types.specs.Rules.{Demand, AllKept}
-use Rattle.cyc_types.specs.typing.Tests.{mark_eq, regions_eq, ty_eq, is_thin_mark, is_unique, is_key, is_moved, is_int, is_char, is_value, is_handle}
+use Rattle.cyc_types.specs.typing.Tests.{mark_eq, regions_eq, ty_eq, is_thin_mark, is_unique, is_key, is_moved, is_int, is_char, is_value}
 use Rattle.cyc_types.specs.typing.Expressions.{is_any}
 use Rattle.cyc_types.proofs.RegionLemmas.{region_eq-refl, region_eq-true}
 
@@ -65,10 +65,6 @@ unique_of v h = absurd (cc)
 pub fat_of : (k : PointerKind) → not (is_thin_mark k) ≡ true → k ≡ Fat
 fat_of Fat h = refl
 fat_of k h = absurd (cc)
-
-pub handle_of : (v : ValueType) → is_value is_handle v ≡ true → (r : Region) × (v ≡ Value (Handle r))
-handle_of (Value (Handle r)) h = (r, refl)
-handle_of v h = absurd (cc)
 
 -- a unique pointer is moved, and is no key
 pub not_moved : (t : Ty) → is_unique t ≡ false → is_key t ≡ false → is_moved t ≡ false

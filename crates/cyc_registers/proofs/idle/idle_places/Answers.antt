@@ -1,4 +1,4 @@
-use Rattle.std.proofs.Common.{ap, sym, subst, arith, List, Bool, true, Some, ◌+◌, ◌∙◌, inl, inr}
+use Rattle.std.proofs.Common.{ap, sym, subst, arith, List, Bool, Some, ◌+◌, ◌∙◌, inl, inr}
 use Rattle.std.proofs.lemmas.Option.{slice_get-get_or}
 use Rattle.cyc_plain.specs.inside.Program.{routine_of}
 use Rattle.cyc_plain.specs.inside.Uses.{At}
