@@ -1,7 +1,7 @@
 -- What is kept and remembered, as it is found.
-use Rattle.std.proofs.Common.{◌≡◌, ℕ, ◌+◌, ◌-◌, ◌<◌, ◌≤◌, Bool, true, false, ◌&&◌, List, [], ◌∷◌, refl, ap, ◌∙◌, arith, inl, inr}
+use Rattle.std.proofs.Common.{◌≡◌, ℕ, ◌+◌, ◌-◌, ◌<◌, ◌≤◌, Bool, true, ◌&&◌, List, [], ◌∷◌, refl, ap, ◌∙◌, arith, inl, inr}
 use Rattle.std.specs.Prelude.{not, nat_le, nat_lt}
-use Rattle.std.proofs.lemmas.Bool.{cases_lt, and_from, and_right, cond-true, le-ltb, lt-ltb, le-leb, lt-leb, eqb-true, false≢true, not_from_false}
+use Rattle.std.proofs.lemmas.Bool.{cases_lt, and_from, and_right, cond-true, le-ltb, lt-leb, eqb-true, false≢true, not_from_false}
 use Rattle.cyc_plain.specs.declared.instruction.Operand.{Operand}
 use Rattle.cyc_plain.specs.declared.instruction.Operand.TheVariants as operands
 use Rattle.cyc_plain.specs.inside.Uses.{is_among}
@@ -23,10 +23,6 @@ pub left_at : (slots : Written) (slot : ℕ) → slots.first ≤ slot → slots.
 left_at slots slot above far =
     not_from_false (is_among slots.first slots.count slot)
     (and_right (nat_le slots.first slot) (nat_lt slot (slots.first + slots.count)) (le-ltb slot (slots.first + slots.count) (omega (arith, above, far))))
-
-pub not_left : (slots : Written) (slot : ℕ) → slots.first ≤ slot → slot - slots.first < slots.count → leaves_slot slots slot ≡ false
-not_left slots slot above near =
-    ap not (and_from _ _ (le-leb slots.first slot above) (lt-ltb slot (slots.first + slots.count) (omega (arith, above, near))))
 
 -- ---- nothing written
 

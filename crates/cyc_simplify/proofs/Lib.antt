@@ -20,6 +20,8 @@ pub mod Spared
 pub mod Sparing
 -- what the functions do
 pub mod Keeping
+pub mod Found
 pub mod Marked
 pub mod Ranges
 pub mod Walks
+pub mod Tails

@@ -1,10 +1,11 @@
 -- The record of slots that hold copies has each of them.
-use Rattle.std.proofs.Common.{◌≡◌, ℕ, zero, suc, ◌-◌, ◌^◌, ◌%◌, ◌<◌, true, false, List, [], ◌∷◌, drop, take, length, max, min, Some, None, slice_get, refl, sym, ap, subst, ◌∙◌, arith}
+use Rattle.std.proofs.Common.{◌≡◌, ℕ, ◌-◌, ◌^◌, ◌%◌, ◌<◌, true, false, List, [], ◌∷◌, drop, length, Some, None, refl, ap, ◌∙◌, arith}
 use Rattle.std.specs.Prelude.{◌==◌, ◌&&◌, bit_and, bit_or, if◌then◌else◌, nat_lt, unwrap_or}
 use Rattle.std.specs.Int.{bit_at}
-use Rattle.std.proofs.lemmas.Nat.Bits.{bit_at_and, bit_at_or, bit_at-lt, bit_at-zero, bit_at_ones}
+use Rattle.std.proofs.lemmas.Nat.Bits.{bit_at_ones}
 use Rattle.std.proofs.lemmas.Bool.{and_parts, cond_both, eqb-true}
 use Rattle.cyc_words.proofs.Lists.{all_append}
+use Rattle.cyc_words.proofs.Bits.{apart_bits, bit_left}
 use Rattle.cyc_plain.specs.declared.instruction.Operand.TheVariants as operands
 use Rattle.cyc_simplify.specs.declared.fact.Fact.{Fact}
 use Rattle.cyc_simplify.specs.declared.fact.Fact.TheVariants as facts_are
@@ -14,26 +15,6 @@ use Rattle.cyc_simplify.specs.declared.fact.TheConstants.{MOST_FACTS}
 use Rattle.cyc_simplify.specs.inside.Copies.{IsMarked, AreMarked}
 use Rattle.cyc_simplify.specs.inside.Facts.{keeps, kept, remembered}
 use Rattle.cyc_simplify.specs.inside.Replacement.{simplified_operand}
-
--- ---- bits
-
-max_one : (x : ℕ) → x < 2 → max x 1 ≡ 1
-max_one x small = omega (arith, small)
-
-one_max : (x : ℕ) → x < 2 → max 1 x ≡ 1
-one_max x small = omega (arith, small)
-
-pub bit_stays : (copies bit j : ℕ) → bit_at copies j ≡ 1 → bit_at (bit_or copies bit) j ≡ 1
-bit_stays copies bit j is = bit_at_or copies bit j ∙ (ap (λ (n : ℕ). max n (bit_at bit j)) is ∙ one_max (bit_at bit j) (bit_at-lt bit j))
-
-pub bit_comes : (copies bit j : ℕ) → bit_at bit j ≡ 1 → bit_at (bit_or copies bit) j ≡ 1
-bit_comes copies bit j is = bit_at_or copies bit j ∙ (ap (max (bit_at copies j)) is ∙ max_one (bit_at copies j) (bit_at-lt copies j))
-
-bit_apart : (copies bit j : ℕ) → bit_and copies bit ≡ 0 → bit_at bit j ≡ 1 → bit_at copies j ≡ 1 → ⊥
-bit_apart copies bit j none second first =
-    let both : bit_at (bit_and copies bit) j ≡ 1 = bit_at_and copies bit j ∙ (ap (λ (x : ℕ). min x (bit_at bit j)) first ∙ ap (min 1) second) in
-    let e : 1 ≡ 0 = sym both ∙ (ap (λ (n : ℕ). bit_at n j) none ∙ bit_at-zero j) in
-    omega (arith, e)
 
 -- ---- facts
 
@@ -52,7 +33,7 @@ all_marked (fact ∷ facts) = (any fact, all_marked facts)
     any (facts_are.Held address offset value) = tt
 
 pub more_stay : (copies bit : ℕ) (fact : Fact) → IsMarked copies fact → IsMarked (bit_or copies bit) fact
-more_stay copies bit (facts_are.Equal slot (operands.Slot other)) is = bit_stays copies bit (slot % 64) is
+more_stay copies bit (facts_are.Equal slot (operands.Slot other)) is = bit_left copies bit (slot % 64) is
 more_stay copies bit (facts_are.Equal slot (operands.Word word)) is = tt
 more_stay copies bit (facts_are.Computed slot operator left right) is = tt
 more_stay copies bit (facts_are.Holds comparison left right) is = tt
@@ -77,14 +58,6 @@ remembered_marked copies facts fact are is =
     behind_first [] are = tt
     behind_first (other ∷ facts) (first, rest) = rest
 
-pub one_more_marked : (old new : ℕ) → ((fact : Fact) → IsMarked old fact → IsMarked new fact) → (facts : List Fact) (k : ℕ) (fact : Fact) → slice_get facts k ≡ Some fact
-    → IsMarked new fact → AreMarked old (take k facts) → AreMarked new (take (suc k) facts)
-one_more_marked old new stays [] k fact at is are = absurd (let e : None ≡ Some fact = at in cc)
-one_more_marked old new stays (other ∷ facts) zero fact at is are =
-    let e : Some other ≡ Some fact = at in
-    let same : fact ≡ other = cc in (subst (IsMarked new) same is, tt)
-one_more_marked old new stays (other ∷ facts) (suc k) fact at is (first, rest) = (stays other first, one_more_marked old new stays facts k fact at is rest)
-
 -- a slot that has no bit is no copy
 pub no_copy : (copies bit slot : ℕ) → bit_and copies bit ≡ 0 → bit_at bit (slot % 64) ≡ 1 → (facts : List Fact) → AreMarked copies facts
     → simplified_operand facts (operands.Slot slot) ≡ operands.Slot slot
@@ -96,7 +69,7 @@ no_copy copies bit slot none its (facts_are.Equal number (operands.Slot other) �
     cond_both (slot == number && true) (Some (operands.Slot other)) None (λ o. unwrap_or o (simplified_operand facts (operands.Slot slot)) ≡ operands.Slot slot)
     (λ is.
     let same : slot ≡ number = eqb-true slot number (and_parts (slot == number) true is).0 in
-    absurd (bit_apart copies bit (slot % 64) none its (ap (λ (n : ℕ). bit_at copies (n % 64)) same ∙ first)))
+    absurd (apart_bits copies bit (slot % 64) none its (ap (λ (n : ℕ). bit_at copies (n % 64)) same ∙ first)))
     (λ is. no_copy copies bit slot none its facts rest)
 no_copy copies bit slot none its (facts_are.Computed number operator left right ∷ facts) (first, rest) = no_copy copies bit slot none its facts rest
 no_copy copies bit slot none its (facts_are.Holds comparison left right ∷ facts) (first, rest) = no_copy copies bit slot none its facts rest

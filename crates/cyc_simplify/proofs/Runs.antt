@@ -1,6 +1,5 @@
 -- The simplified program goes in lockstep with the one given: their states are equal, and what is known is true in them.
 use Rattle.std.proofs.Common.{◌≡◌, ℕ, ◌+◌, ◌*◌, ◌≤◌, Bool, true, false, List, [], ◌∷◌, length, Option, Some, None, refl, sym, ap, subst, ◌∙◌, arith, inl, inr}
-use Rattle.std.specs.Prelude.{◌&&◌, nat_lt}
 use Rattle.std.proofs.lemmas.Bool.{cases_lt, and_parts, cond_both, false≢true}
 use Rattle.std.proofs.lemmas.List.{get_or_past}
 use Rattle.std.proofs.lemmas.Option.{slice_get_past}
@@ -27,7 +26,7 @@ use Rattle.cyc_simplify.specs.declared.fact.Fact.{Fact}
 use Rattle.cyc_simplify.specs.declared.fact.Fact.TheVariants as facts_are
 use Rattle.cyc_simplify.specs.inside.Facts.{scene_of, is_known, is_unreached, global_offset}
 use Rattle.cyc_simplify.specs.inside.Replacement.{simplified_operand, right_operand, folded_unary, simplified_unary, folded_at, holder_in, simplified_binary, simplified_move, decision_in, simplified_branch, value_in, simplified_load, global_value, simplified_global, simplified_instruction}
-use Rattle.cyc_simplify.specs.inside.Replacement.{may_vanish, vanishes, put_at}
+use Rattle.cyc_simplify.specs.inside.Replacement.{may_vanish, vanishes, place_behind, put_at}
 use Rattle.cyc_simplify.specs.inside.Table.{IsReplaced, AreReplaced}
 use Rattle.cyc_simplify.proofs.Alike.{pinned_alike, DoAlike, either_performs}
 use Rattle.cyc_simplify.proofs.Kept.{HasGlobal, facts_in, IsKnown, known_behind, known_start}
@@ -89,8 +88,8 @@ simplified_pins_same facts i slot = refl
 -- what vanishes takes no address
 put_pins_same : (facts : List Fact) (index count : ℕ) (i : Instruction) (slot : ℕ) → pins (put_at facts index count i) slot ≡ pins i slot
 put_pins_same facts index count i slot =
-    cond_both (vanishes facts index count i) (instructions.Jump (index + 1)) (simplified_instruction facts i) (λ j. pins j slot ≡ pins i slot)
-    (λ is. sym (go i (and_parts (nat_lt (index + 1) count) (may_vanish i) (and_parts (is_unreached facts) (nat_lt (index + 1) count && may_vanish i) is).1).1))
+    cond_both (vanishes facts i) (instructions.Jump (place_behind index count)) (simplified_instruction facts i) (λ j. pins j slot ≡ pins i slot)
+    (λ is. sym (go i (and_parts (is_unreached facts) (may_vanish i) is).1))
     (λ stays. simplified_pins_same facts i slot)
   where
     go : (i : Instruction) → may_vanish i ≡ true → pins i slot ≡ false

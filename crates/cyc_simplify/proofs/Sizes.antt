@@ -26,9 +26,9 @@ use Rattle.cyc_plain.proofs.WordLaws.{IsWord-unary_result, IsWord-binary_result}
 use Rattle.cyc_plain.specs.inside.Uses.{At, is_slot}
 use Rattle.cyc_simplify.specs.declared.fact.Fact.{Fact}
 use Rattle.cyc_simplify.specs.declared.fact.Fact.TheVariants as facts_are
-use Rattle.cyc_simplify.specs.inside.Facts.{is_same_operator, is_same_operand, is_same_word, is_known, is_unreached, first_global, global_offset, is_free, suits_operand, suits, are_suited}
+use Rattle.cyc_simplify.specs.inside.Facts.{is_same_operator, is_same_operand, is_same_word, is_known, first_global, global_offset, is_free, suits_operand, suits, are_suited}
 use Rattle.cyc_simplify.specs.inside.Replacement.{is_truth_test, own_slot}
-use Rattle.cyc_simplify.specs.inside.Replacement.{may_vanish, vanishes, put_at}
+use Rattle.cyc_simplify.specs.inside.Replacement.{vanishes, place_behind, put_at}
 use Rattle.cyc_simplify.specs.inside.Replacement.{is_cheap, instead, simplified_operand, or_number, word_by, word_in, takes_word, small_or, right_operand, folded, folded_of, folded_in, negated_of, folded_unary, simplified_unary, may_fold}
 use Rattle.cyc_simplify.specs.inside.Replacement.{folded_at, holder, or_slot, holder_in, simplified_binary, simplified_move, decision_in, passed_by, simplified_branch, value_by, or_value, value_in, simplified_load, global_value, simplified_global, simplified_request, simplified_instruction}
 use Rattle.cyc_simplify.specs.inside.Simplified.{IsLike, IsSimplified}
@@ -325,16 +325,20 @@ not_larger facts (instructions.Unary operator destination operand) = go (folded_
 not_larger facts (instructions.Ask request) = omega (arith, same_request_size facts request)
 not_larger facts i = omega arith
 
+-- the place behind one is in the code, as that is
+behind_below : (index count : ℕ) → index < count → place_behind index count < count
+behind_below index count below =
+    cond_both (nat_lt (index + 1) count) (index + 1) index (λ (place : ℕ). place < count) (λ is. ltb-true (index + 1) count is) (λ last. below)
+
 -- a jump counts for less than any that it stands for
-jump_not_larger : (i : Instruction) → may_vanish i ≡ true → (target : ℕ) → IsNoLarger i (instructions.Jump target)
-jump_not_larger (instructions.Binary operator destination left right) may target = omega (arith, eleven operator)
-jump_not_larger (instructions.Ask request) may target = absurd (false≢true may)
-jump_not_larger i may target = omega arith
+jump_not_larger : (i : Instruction) (target : ℕ) → IsNoLarger i (instructions.Jump target)
+jump_not_larger (instructions.Binary operator destination left right) target = omega (arith, eleven operator)
+jump_not_larger i target = omega arith
 
 pub put_not_larger : (facts : List Fact) (index count : ℕ) (i : Instruction) → IsNoLarger i (put_at facts index count i)
 put_not_larger facts index count i =
-    cond_both (vanishes facts index count i) (instructions.Jump (index + 1)) (simplified_instruction facts i) (IsNoLarger i)
-    (λ is. jump_not_larger i (and_parts (nat_lt (index + 1) count) (may_vanish i) (and_parts (is_unreached facts) (nat_lt (index + 1) count && may_vanish i) is).1).1 (index + 1))
+    cond_both (vanishes facts i) (instructions.Jump (place_behind index count)) (simplified_instruction facts i) (IsNoLarger i)
+    (λ is. jump_not_larger i (place_behind index count))
     (λ stays. not_larger facts i)
 
 -- a return is one, and nothing else becomes one
@@ -412,10 +416,8 @@ module _ (program simplified : Program) (are : AreReplaced program simplified) (
       let put = what_is_put index j at in
       let facts : List Fact = replaced.table index in
       subst Q (sym put.is)
-      (cond_both (vanishes facts index (length r.code) put.instruction) (instructions.Jump (index + 1)) (simplified_instruction facts put.instruction) Q
-      (λ is.
-      let (here, more) = and_parts (is_unreached facts) (nat_lt (index + 1) (length r.code) && may_vanish put.instruction) is in
-      jump (index + 1) (ltb-true (index + 1) (length r.code) (and_parts (nat_lt (index + 1) (length r.code)) (may_vanish put.instruction) more).0))
+      (cond_both (vanishes facts put.instruction) (instructions.Jump (place_behind index (length r.code))) (simplified_instruction facts put.instruction) Q
+      (λ is. jump (place_behind index (length r.code)) (behind_below index (length r.code) (below_from_slice_get r.code index put.instruction put.at)))
       (λ stays. each facts put.all put.instruction (All_at P r.code index put.instruction all put.at))))
 
   below_slots : (slot : ℕ) → slot < r.slots → slot < s.slots
@@ -567,7 +569,7 @@ module _ (program simplified : Program) (are : AreReplaced program simplified) (
       let there : slice_get s.code (length s.code - 1) ≡ Some (put_at facts last (length r.code) i) =
       subst (λ (k : ℕ). slice_get s.code k ≡ Some (put_at facts last (length r.code) i)) same (replaced.each last i at) in
       subst (λ (o : Option Instruction). IsSomeAnd o (λ j. leaves j ≡ true)) (sym there)
-      (cond_both (vanishes facts last (length r.code) i) (instructions.Jump (last + 1)) (simplified_instruction facts i) (λ j. leaves j ≡ true) (λ is_gone. refl) (λ stays. still_leaves facts i is))
+      (cond_both (vanishes facts i) (instructions.Jump (place_behind last (length r.code))) (simplified_instruction facts i) (λ j. leaves j ≡ true) (λ is_gone. refl) (λ stays. still_leaves facts i is))
 
   is_routine : IsRoutine program r → IsRoutine simplified s
   is_routine is = record {

@@ -18,7 +18,7 @@ use Rattle.cyc_simplify.specs.inside.Table.{IsReplaced, AreReplaced}
 use Rattle.cyc_simplify.proofs.Runs.{each_replaced}
 use Rattle.cyc_simplify.proofs.Sizes.{is_plain, is_simplified}
 use Rattle.cyc_simplify.proofs.Spared.{spared_plain, spared_simplified}
-use Rattle.cyc_simplify.proofs.Walks.{get_before, get_last, next_replaced, none_replaced, routine_before, routine_last, routines_last}
+use Rattle.cyc_simplify.proofs.Walks.{get_before, get_last, next_replaced, routine_before, routine_last, routines_last}
 
 -- ---- sizes
 
@@ -106,9 +106,6 @@ module _ (slots : ℕ → ℕ) (code : List Instruction) (rooms : List ℕ) wher
   }
 
 -- ---- function by function
-
-pub none_made_yet : (program : Program) → AreMadeFirst program 0 []
-none_made_yet program = record { between = []; replaced = none_replaced program; as_many = refl; spared = λ k below. absurd (omega arith) }
 
 next_made : (program : Program) (count : ℕ) (routines : List Routine) (s : Routine) → AreMadeFirst program count routines → IsMadeFunction program (routine_at program count) s
     → AreMadeFirst program (count + 1) (routines ++ s ∷ [])

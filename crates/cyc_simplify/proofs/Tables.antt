@@ -27,7 +27,7 @@ use Rattle.cyc_simplify.specs.declared.fact.TheConstants.{MOST_FACTS}
 use Rattle.cyc_simplify.specs.inside.Facts.{Scene, IsTrueIn, AreTrueIn, IsTrueIfAny, IsMade, is_known, are_free, lie_apart, first_global, global_offset, suits, are_suited, written, touched, keeps, kept, suited, held_global, made, negated, is_any_slot, remembered, facts_behind}
 use Rattle.cyc_simplify.specs.inside.Facts.{is_same_comparison, never, is_unreached, are_free, lie_apart, are_copied, copied, with_copies, is_test, is_not, truth_in, tested}
 use Rattle.cyc_simplify.specs.inside.Replacement.{simplified_operand, own_word, word_in, takes_word, small_or, right_operand, may_fold, simplified_binary, global_value, simplified_global, simplified_request, simplified_instruction}
-use Rattle.cyc_simplify.specs.inside.Replacement.{may_vanish, vanishes, put_at}
+use Rattle.cyc_simplify.specs.inside.Replacement.{may_vanish, vanishes, place_behind, put_at}
 use Rattle.cyc_simplify.specs.inside.Table.{goes_on, behind_put}
 use Rattle.cyc_simplify.specs.inside.Table.{ArePins, IsTable, IsReplaced, entered_or, facts_behind_place, facts_at, is_more, is_known_with, resolved_fact, are_below, is_below, follows, are_known, may_jump, may_go_on, is_entry_suited, is_empty, leads_well, is_checked_at, IsChecked}
 use Rattle.cyc_simplify.proofs.Truth.{each_free, same_comparison, same_fact, known_true, all_true, leaves_any, leaves_any_operand, kept_suited}
@@ -102,8 +102,8 @@ reached scene (fact ∷ facts) (first, rest) is = false≢true (same_fact scene 
 -- so an instruction stands there that is simplified
 pub put_reached : (scene : Scene) (facts : List Fact) (index count : ℕ) (i : Instruction) → AreTrueIn scene facts → put_at facts index count i ≡ simplified_instruction facts i
 put_reached scene facts index count i holds =
-    cond_both (vanishes facts index count i) (instructions.Jump (index + 1)) (simplified_instruction facts i) (λ j. j ≡ simplified_instruction facts i)
-    (λ is. absurd (reached scene facts holds (and_parts (is_unreached facts) (nat_lt (index + 1) count && may_vanish i) is).0)) (λ stays. refl)
+    cond_both (vanishes facts i) (instructions.Jump (place_behind index count)) (simplified_instruction facts i) (λ j. j ≡ simplified_instruction facts i)
+    (λ is. absurd (reached scene facts holds (and_parts (is_unreached facts) (may_vanish i) is).0)) (λ stays. refl)
 
 -- ---- what is known where it is asked for
 

@@ -8,3 +8,4 @@ pub mod Table
 pub mod Entries
 pub mod Pins
 pub mod Room
+pub mod Tail

@@ -2,7 +2,7 @@
 use crate::effects::is_any_slot;
 use crate::jumps::is_end;
 use crate::known::{are_same_operands, is_same_operator, is_same_word};
-use cyc_plain::{Instruction, Operand, Request};
+use cyc_plain::{Comparison, Instruction, Operand, Request};
 
 /// Slots to which other slots were moved since the last call, from the first to the last.
 #[derive(Clone, Copy)]
@@ -97,9 +97,13 @@ fn reads_copy(copies: Copies, instruction: Instruction) -> bool {
     }
 }
 
-/// Whether a slot is tested, and an exception thrown if the test fails.
+/// Whether a slot is tested, and an exception thrown if the test fails. An index is tested by a branch round what tells which.
 fn is_check(code: &[Instruction], instruction: Instruction) -> bool {
     match instruction {
+        Instruction::Branch {
+            comparison: Comparison::LessUnsigned,
+            ..
+        } => true,
         Instruction::Branch {
             left,
             right,

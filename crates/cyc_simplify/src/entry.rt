@@ -17,6 +17,8 @@ pub(crate) struct Entry {
     pub(crate) is_target: bool,
     /// Whether it is jumped to from further on, or exceptions come to it.
     pub(crate) is_head: bool,
+    /// The furthest place from which it is jumped back to, or itself.
+    pub(crate) jumped_from: usize,
     pub(crate) facts: Vec<Fact>,
 }
 

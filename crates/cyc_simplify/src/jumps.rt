@@ -1,11 +1,14 @@
 //! Where the code leads by jumps.
 ghost use Rattle.std.specs.Prelude.{◌≡◌};
 ghost use Rattle.cyc_simplify.specs.inside.Table as table;
+ghost use Rattle.cyc_simplify.specs.inside.Tail as tails;
 
 use cyc_plain::Instruction;
 
 /// Where an instruction leads, but for the next one.
-pub(crate) fn target_of(instruction: Instruction) -> Option<usize> {
+pub(crate) fn target_of(instruction: Instruction) -> Option<usize>
+    ensures { result ≡ tails.target_of instruction }
+{
     match instruction {
         Instruction::Jump { target } => Some(target),
         Instruction::Branch { target, .. } => Some(target),

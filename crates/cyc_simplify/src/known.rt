@@ -1,5 +1,5 @@
 //! Which facts are the same, and which are among others.
-ghost use Rattle.std.specs.Prelude.{◌≡◌, ◌&&◌};
+ghost use Rattle.std.specs.Prelude.{◌≡◌, ◌<◌, ◌&&◌, ◌||◌, false, length, true};
 ghost use Rattle.cyc_plain.specs.inside.Uses as uses;
 ghost use Rattle.cyc_simplify.specs.inside.Facts as facts_of;
 ghost use Rattle.cyc_simplify.specs.inside.Table as table;
@@ -265,22 +265,60 @@ fn is_below(facts: &[Fact], fact: Fact) -> bool
     }
 }
 
+/// Whether a fact that is not among these is where operands are put for equal ones, or is one about words that are known.
+fn follows_resolved(facts: &[Fact], more: Option<Fact>, fact: Fact) -> bool
+    requires { table.is_known_with facts.now more fact ≡ false }
+    ensures { result ≡ (table.is_known_with facts.now more (table.resolved_fact facts.now fact) || table.is_below facts.now fact) }
+{
+    match fact {
+        Fact::Holds { .. } => {
+            is_known_with(facts, more, resolved_fact(facts, fact)) || is_below(facts, fact)
+        }
+        _ => false,
+    }
+}
+
 /// Whether a fact is among these and one more, if need be where operands are put for equal ones, or is one about words that are known.
 pub(crate) fn follows(facts: &[Fact], more: Option<Fact>, fact: Fact) -> bool
     ensures { result ≡ table.follows facts.now more fact }
 {
-    is_unreached(facts)
-        || (is_known_with(facts, more, fact)
-            || (is_known_with(facts, more, resolved_fact(facts, fact)) || is_below(facts, fact)))
+    is_unreached(facts) || (is_known_with(facts, more, fact) || follows_resolved(facts, more, fact))
 }
 
-/// Whether all that is asked for is known.
+/// Where a fact stands among these, from a place on, or how many there are if it does not.
+#[tactic(auto, using(crate::proofs::Found::found_is_known))]
+fn found_from(facts: &[Fact], place: usize, fact: Fact) -> usize
+    ensures { result < length facts.now → facts_of.is_known facts.now fact ≡ true }
+{
+    for index in place..facts.len() {
+        if is_same_fact(facts[index], fact) {
+            return index;
+        }
+    }
+    facts.len()
+}
+
+/// Whether a fact follows that was found at a place, if there is one.
+#[tactic(auto, using(crate::proofs::Found::known_follows))]
+fn follows_found(facts: &[Fact], more: Option<Fact>, fact: Fact, place: usize) -> bool
+    requires { place < length facts.now → facts_of.is_known facts.now fact ≡ true }
+    ensures { result ≡ table.follows facts.now more fact }
+{
+    place < facts.len() || follows(facts, more, fact)
+}
+
+/// Whether all that is asked for is known. What is known there mostly stands in the same order.
 pub(crate) fn are_known(asked: &[Fact], facts: &[Fact], more: Option<Fact>) -> bool
     ensures { result ≡ table.are_known asked.now facts.now more }
 {
+    let mut next = 0;
     for fact in asked {
-        if !follows(facts, more, *fact) {
+        let place = found_from(facts, next, *fact);
+        if !follows_found(facts, more, *fact, place) {
             return false;
+        }
+        if place < facts.len() {
+            next = place + 1;
         }
     }
     true

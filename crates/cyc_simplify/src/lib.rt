@@ -14,6 +14,7 @@ mod pins;
 mod replacement;
 mod room;
 mod simplification;
+mod tail;
 mod walk;
 
 pub use simplification::simplify;

@@ -555,19 +555,26 @@ pub(crate) fn simplified_instruction(facts: &Facts, instruction: Instruction) ->
     }
 }
 
-/// Whether an instruction to which no run comes may go. What takes the address of slots stays, so that they are the same as before, and
-/// a call of the store, whatever its size.
-fn may_vanish(instruction: Instruction) -> bool
+/// Whether an instruction to which no run comes may go. What takes the address of slots stays, so that they are the same as before.
+pub(crate) fn may_vanish(instruction: Instruction) -> bool
     ensures { result ≡ replacement.may_vanish instruction }
 {
     match instruction {
-        Instruction::AddressOf { .. } | Instruction::Ask { .. } => false,
+        Instruction::AddressOf { .. } => false,
         _ => true,
     }
 }
 
-/// What stands at this place of so many for an instruction: where no run comes a jump to the next place, if there is one, which has no
-/// lines.
+/// The place behind this one of so many, or the last one itself, so that code does not run off its end.
+pub(crate) fn place_behind(index: usize, count: usize) -> usize
+    requires { index + 1 < 2 ^ 64 }
+    ensures { result ≡ replacement.place_behind index count }
+{
+    if index + 1 < count { index + 1 } else { index }
+}
+
+/// What stands at this place of so many for an instruction: where no run comes a jump to the place behind it, which has no lines but at
+/// the last place.
 pub(crate) fn put_at(
     facts: &Facts,
     index: usize,
@@ -577,8 +584,10 @@ pub(crate) fn put_at(
     requires { index + 1 < 2 ^ 64 }
     ensures { result ≡ replacement.put_at facts.now index count instruction }
 {
-    if is_unreached(facts.all()) && (index + 1 < count && may_vanish(instruction)) {
-        Instruction::Jump { target: index + 1 }
+    if is_unreached(facts.all()) && may_vanish(instruction) {
+        Instruction::Jump {
+            target: place_behind(index, count),
+        }
     } else {
         simplified_instruction(facts, instruction)
     }

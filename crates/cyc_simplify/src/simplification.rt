@@ -10,12 +10,13 @@ use crate::candidates::is_candidate;
 use crate::entries::entries_of;
 use crate::pins::pins_of;
 use crate::room::spare;
+use crate::tail::without_tail;
 use crate::walk::walked;
 use cyc_plain::{Function, Instruction, Plain};
 use std::alloc::{AllocError, Global};
 
 /// The code of a function, simplified.
-#[tactic(auto, using(crate::proofs::Walks::walked_replaced, crate::proofs::Walks::same_replaced))]
+#[tactic(auto, using(crate::proofs::Walks::walked_replaced, crate::proofs::Tails::tailless_replaced))]
 fn simplified_code(
     alloc: Global,
     plain: &Plain,
@@ -30,9 +31,7 @@ fn simplified_code(
             return Ok(code);
         }
     }
-    let mut code = Vec::with_capacity(alloc, function.code.len())?;
-    code.extend_from_slice(&function.code)?;
-    Ok(code)
+    without_tail(alloc, &function.code)
 }
 
 /// A function, simplified.

@@ -267,16 +267,19 @@ simplified_instruction facts instruction = instruction
 
 -- ---- what is not reached
 
--- What takes the address of slots stays, so that they are the same as before. So does a call of the store, whatever its size.
+-- what takes the address of slots stays, so that they are the same as before
 abbrev pub may_vanish : Instruction → Bool
 may_vanish (instructions.AddressOf destination slot count) = false
-may_vanish (instructions.Ask request) = false
 may_vanish i = true
 
-abbrev pub vanishes : List Fact → (index count : ℕ) → Instruction → Bool
-vanishes facts index count i = is_unreached facts && (nat_lt (index + 1) count && may_vanish i)
+abbrev pub vanishes : List Fact → Instruction → Bool
+vanishes facts i = is_unreached facts && may_vanish i
 
--- What stands at this place of so many for an instruction: where no run comes a jump to the next place, if there is one, which has no
--- lines.
+-- the place behind this one of so many, or the last one itself, so that code does not run off its end
+abbrev pub place_behind : (index count : ℕ) → ℕ
+place_behind index count = if nat_lt (index + 1) count then index + 1 else index
+
+-- What stands at this place of so many for an instruction: where no run comes a jump to the place behind it, which has no lines but at
+-- the last place.
 abbrev pub put_at : List Fact → (index count : ℕ) → Instruction → Instruction
-put_at facts index count i = if vanishes facts index count i then instructions.Jump (index + 1) else simplified_instruction facts i
+put_at facts index count i = if vanishes facts i then instructions.Jump (place_behind index count) else simplified_instruction facts i

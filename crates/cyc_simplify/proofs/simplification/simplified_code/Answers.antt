@@ -1,10 +1,14 @@
 -- cyc_simplify/proofs/simplification/simplified_code/Answers.antt
-use Rattle.std.proofs.Common.{◌∙◌, Bool, true, refl, sym, subst, replicate}
+use Rattle.std.proofs.Common.{Bool, true, refl, sym, subst, replicate}
+use Rattle.std.proofs.lemmas.Result.{IfOk-weaker}
 use lib.ListN.{length-replicate}
 use Rattle.cyc_plain.specs.inside.Program.{routine_of}
-use Rattle.cyc_simplify.specs.inside.Table.{ArePins}
+use Rattle.cyc_simplify.specs.inside.Entries.{with_code}
+use Rattle.cyc_simplify.specs.inside.Table.{ArePins, IsReplaced}
+use Rattle.cyc_simplify.specs.inside.Tail.{IsTailless}
 use Rattle.cyc_simplify.proofs.Ranges.{all_pinned}
-use Rattle.cyc_simplify.proofs.Walks.{walked_replaced, same_replaced}
+use Rattle.cyc_simplify.proofs.Tails.{tailless_replaced}
+use Rattle.cyc_simplify.proofs.Walks.{walked_replaced}
 use Rattle.cyc_simplify.proofs.simplification.simplified_code.Goals as goal
 
 pub returns-in-Some : goal.returns-in-Some
@@ -16,6 +20,6 @@ returns-in-Some c =
 pub returns : goal.returns
 returns c =
     let r = routine_of c.args.function.now in
-    let items = rw c.in_ok-code-2.ensures.items at c.in_ok-extend_from_slice.ensures.items in
-    same_replaced c.args.plain.now r (replicate r.slots true) c.extend_from_slice.new.self.items
-    (all_pinned r (replicate r.slots true) refl (length-replicate {A = Bool} r.slots true)) (items ∙ c.deref-2.ensures.value)
+    let pins = all_pinned r (replicate r.slots true) refl (length-replicate {A = Bool} r.slots true) in
+    IfOk-weaker c.without_tail.result (λ code. IsTailless r.code code.items) (λ code. IsReplaced c.args.plain.now r (with_code r code.items))
+    (λ code is. tailless_replaced c.args.plain.now r (replicate r.slots true) code.items pins is) (rw c.deref-2.ensures.value at c.without_tail.ensures)

@@ -1,0 +1,81 @@
+//! The tail of code: what stands behind the last place that anything before leads to. No run comes there.
+ghost use Rattle.std.specs.Prelude.{◌≡◌, ◌+◌, ◌<◌, ◌^◌, IfOk};
+ghost use Rattle.cyc_simplify.specs.inside.Room as rooms_of;
+ghost use Rattle.cyc_simplify.specs.inside.Tail as tails;
+
+use crate::jumps::{goes_on, target_of};
+use crate::replacement::{may_vanish, place_behind};
+use cyc_plain::Instruction;
+use std::alloc::{AllocError, Global};
+
+fn greater(one: usize, other: usize) -> usize
+    ensures { result ≡ rooms_of.greater one other }
+{
+    if one < other { other } else { one }
+}
+
+/// The last place that is led to so far, and by this instruction.
+fn last_behind(last: usize, instruction: Instruction, index: usize) -> usize
+    requires { index + 1 < 2 ^ 64 }
+    ensures { result ≡ tails.last_behind last instruction index }
+{
+    let last = if goes_on(instruction) {
+        greater(last, index + 1)
+    } else {
+        last
+    };
+    match target_of(instruction) {
+        Some(target) => greater(last, target),
+        None => last,
+    }
+}
+
+/// The last place that code leads to from its first one on.
+#[tactic(auto, using(crate::proofs::Tails::no_last, crate::proofs::Tails::last_found, crate::proofs::Tails::last_of_all))]
+fn last_place(code: &[Instruction]) -> usize
+    ensures { tails.IsLast code.now result }
+{
+    let mut last = 0;
+    for index in 0..code.len() {
+        if index > last {
+            return last;
+        }
+        last = last_behind(last, code[index], index);
+    }
+    last
+}
+
+/// What stands at this place of so many for an instruction: behind the last one nothing.
+fn tailless_instruction(
+    last: usize,
+    index: usize,
+    count: usize,
+    instruction: Instruction,
+) -> Instruction
+    requires { index + 1 < 2 ^ 64 }
+    ensures { result ≡ tails.tailless_instruction last index count instruction }
+{
+    if last < index && may_vanish(instruction) {
+        Instruction::Jump {
+            target: place_behind(index, count),
+        }
+    } else {
+        instruction
+    }
+}
+
+/// The code with nothing in its tail.
+#[tactic(auto, using(crate::proofs::Tails::none_tailless, crate::proofs::Tails::all_tailless))]
+pub(crate) fn without_tail(
+    alloc: Global,
+    code: &[Instruction],
+) -> Result<Vec<Instruction>, AllocError>
+    ensures { IfOk result (λ made. tails.IsTailless code.now made.items) }
+{
+    let last = last_place(code);
+    let mut made = Vec::with_capacity(alloc, code.len())?;
+    for index in 0..code.len() {
+        made.push(tailless_instruction(last, index, code.len(), code[index]))?;
+    }
+    Ok(made)
+}
