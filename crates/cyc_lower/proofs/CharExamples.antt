@@ -67,9 +67,11 @@ char_is_masked = refl
 
 -- to a cell it comes by a temporary, behind that of the address
 char_is_stored : function_code [] [] None (function [] (Int ∷ star ∷ []) (all (puts 1 (local 0) ∷ []))) ≡
-    instructions.Branch comparisons.Equal (Slot 1) (Constant 0) 5 ∷ Move 2 (Slot 1)
-    ∷ instructions.Binary plain_binary.And 3 (Slot 0) (Constant 255) ∷ instructions.StoreByte (Slot 2) 0 (Slot 3)
-    ∷ instructions.Finish 2 ∷ instructions.Throw (Constant 1) (Constant 0) ∷ []
+    instructions.Branch comparisons.Equal (Slot 1) (Constant 0) 7 ∷ Move 3 (Slot 1)
+    ∷ instructions.Binary plain_binary.And 4 (Slot 0) (Constant 255) ∷ instructions.StoreByte (Slot 3) 0 (Slot 4)
+    ∷ instructions.Finish 2
+    ∷ instructions.Binary plain_binary.Add 2 (Slot 2) (Constant 1) ∷ instructions.Throw (Slot 2) (Constant 0)
+    ∷ instructions.Throw (Constant 1) (Constant 0) ∷ []
 char_is_stored = refl
 
 -- a char is an operand, as an int is

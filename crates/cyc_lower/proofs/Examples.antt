@@ -371,19 +371,20 @@ jumped_code : code_of_body (all (While nowhere (sets 0 (local 1)) Empty ∷ []))
     ∷ instructions.Finish 2 ∷ []
 jumped_code = refl
 
--- `continue` goes to the first condition, and a turn is one jump by what the condition compares
+-- A loop with no `break` is left by the first condition where that fails. `continue` goes to it, and a turn is one jump by what the
+-- condition compares.
 continued_code : code_of_body (all (While nowhere (two (local 0) (ThenCompute LessOrEqual (local 1) NoOperations)) (If (local 1) Continue Empty) ∷ [])) ≡
-    instructions.Branch comparisons.LessOrEqual (Slot 0) (Slot 1) 2 ∷ Jump 5
-    ∷ jump_if_zero (Slot 1) 4 ∷ Jump 0
-    ∷ instructions.Branch comparisons.LessOrEqual (Slot 0) (Slot 1) 2
+    instructions.Branch comparisons.Greater (Slot 0) (Slot 1) 4
+    ∷ jump_if_zero (Slot 1) 3 ∷ Jump 0
+    ∷ instructions.Branch comparisons.LessOrEqual (Slot 0) (Slot 1) 1 ∷ Jump 5
     ∷ instructions.Finish 2 ∷ []
 continued_code = refl
 
 -- a branch, and a division with its test, which leads to the last block where it fails
 branch_code : code_of_body (all (If (local 0) (Evaluate (two (local 0) (ThenCompute Divide (local 1) NoOperations))) Empty ∷ [])) ≡
     jump_if_zero (Slot 0) 3
-    ∷ jump_if_zero (Slot 1) 7 ∷ instructions.Binary plain_binary.Divide 2 (Slot 0) (Slot 1)
-    ∷ instructions.Finish 2 ∷ blocks
+    ∷ jump_if_zero (Slot 1) 9 ∷ instructions.Binary plain_binary.Divide 3 (Slot 0) (Slot 1)
+    ∷ instructions.Finish 2 ∷ blocks 2
 branch_code = refl
 
 -- a condition that compares is one jump, and so is one that negates
@@ -421,10 +422,10 @@ direct_code = refl
 
 -- a chain that ends in the local that it reads has its values before in a temporary
 chain_code : code_of_body (all (Evaluate (sets 0 (two (local 1) (ThenCompute Subtract (Number 3) (ThenCompute Divide (local 0) (ThenCompute Remainder (Number 7) NoOperations))))) ∷ [])) ≡
-    instructions.Binary plain_binary.Subtract 2 (Slot 1) (Constant 3)
-    ∷ jump_if_zero (Slot 0) 8 ∷ instructions.Binary plain_binary.Divide 2 (Slot 2) (Slot 0)
-    ∷ instructions.Binary plain_binary.Remainder 0 (Slot 2) (Constant 7)
-    ∷ instructions.Finish 2 ∷ blocks
+    instructions.Binary plain_binary.Subtract 3 (Slot 1) (Constant 3)
+    ∷ jump_if_zero (Slot 0) 10 ∷ instructions.Binary plain_binary.Divide 3 (Slot 3) (Slot 0)
+    ∷ instructions.Binary plain_binary.Remainder 0 (Slot 3) (Constant 7)
+    ∷ instructions.Finish 2 ∷ blocks 2
 chain_code = refl
 
 -- a local behind a fat pointer has the slot behind its three words, and temporaries stand behind both
@@ -517,9 +518,9 @@ source_throws_from_region = refl
 
 -- its mark is in the first temporary
 region_code : function_code [] [] (Some 4) (function [] (Int ∷ Handle Heap ∷ []) (all (in_region [] ∷ []))) ≡
-    instructions.Ask (requests.OpenLexical 3) ∷ Move 2 (Slot 4)
-    ∷ Move 1 (Slot 3)
-    ∷ instructions.Ask (requests.CloseTo (Slot 2))
+    instructions.Ask (requests.OpenLexical 4) ∷ Move 3 (Slot 5)
+    ∷ Move 1 (Slot 4)
+    ∷ instructions.Ask (requests.CloseTo (Slot 3))
     ∷ instructions.Finish 2 ∷ []
 region_code = refl
 

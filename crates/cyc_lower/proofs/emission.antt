@@ -4,6 +4,8 @@ pub mod ExpressionEmitting
 pub mod CellCode
 pub mod Branching
 pub mod Loops
+pub mod Breaks
+pub mod Leaving
 pub mod Conditions
 pub mod Handlers
 pub mod Lengths

@@ -1,11 +1,11 @@
 //! Checks, and the blocks that raise an exception where one fails.
 ghost use Rattle.std.specs.Prelude.{◌≡◌};
-ghost use Rattle.cyc_lower.specs.inside.ValueCode.{raising, blocks, guard_code, check_code};
+ghost use Rattle.cyc_lower.specs.inside.ValueCode.{raising, telling, blocks, guard_code, check_code};
 ghost use Rattle.cyc_lower.specs.inside.Emission.{Appends, view_starts};
 
 use crate::emitter::Emitter;
 use crate::starts::Starts;
-use cyc_plain::{Comparison, Instruction, Operand};
+use cyc_plain::{BinaryOperator, Comparison, Instruction, Operand};
 use std::alloc::AllocError;
 
 /// The exceptions that the language itself raises, by their tags.
@@ -28,10 +28,30 @@ fn raising(tag: u32) -> Instruction
 }
 
 impl Emitter {
-    /// The blocks that stand behind a function's body, one for each of these exceptions in the order of their tags.
-    pub(crate) fn lower_blocks(&mut self) -> Result<(), AllocError>
-        ensures { Appends result self.old self.new blocks }
+    /// What raises the exception of an access by a fat pointer, where a slot holds 0 if the pointer is null, and else 1.
+    fn lower_telling(&mut self, slot: usize) -> Result<(), AllocError>
+        ensures { Appends result self.old self.new (telling slot) }
     {
+        self.emit(Instruction::Binary {
+            operator: BinaryOperator::Add,
+            destination: slot,
+            left: Operand::Slot { number: slot },
+            right: Operand::Word {
+                word: NULL_EXCEPTION,
+            },
+        })?;
+        self.emit(Instruction::Throw {
+            tag: Operand::Slot { number: slot },
+            value: Operand::Word { word: 0 },
+        })
+    }
+
+    /// The blocks that stand behind a function's body: that for accesses, by what this slot holds, and one for each of these exceptions in
+    /// the order of their tags.
+    pub(crate) fn lower_blocks(&mut self, slot: usize) -> Result<(), AllocError>
+        ensures { Appends result self.old self.new (blocks slot) }
+    {
+        self.lower_telling(slot)?;
         self.emit(raising(NULL_EXCEPTION))?;
         self.emit(raising(ARRAY_BOUNDS))?;
         self.emit(raising(ARRAY_SIZE))?;
@@ -53,7 +73,7 @@ impl Emitter {
             comparison: failing,
             left,
             right,
-            target: starts.raises + tag as usize,
+            target: starts.raises + 2 + tag as usize,
         })
     }
 

@@ -341,6 +341,7 @@ impl Emitter {
         let counters = with_counter(starts, behind - 1)?;
         let inner = Starts {
             locals: starts.locals,
+            tag_slot: starts.tag_slot,
             structs: starts.structs,
             raises: starts.raises,
             counters: &counters,

@@ -9,7 +9,7 @@ ghost use Rattle.cyc_types.specs.Weight.{program_weight};
 ghost use Rattle.cyc_plain.specs.inside.Program.{routine_of};
 ghost use Rattle.cyc_meaning.specs.FrameCount.{frame_count, kept_by_items};
 ghost use Rattle.cyc_lower.specs.inside.ControlCode.{outside_loops};
-ghost use Rattle.cyc_lower.specs.inside.Lowering.{items_code, results_of, lower_function, lower_program, is_handle, may_open, scopes_if};
+ghost use Rattle.cyc_lower.specs.inside.Lowering.{items_code, blocks_kept, results_of, lower_function, lower_program, is_handle, may_open, scopes_if};
 ghost use Rattle.cyc_frame_count.specs.inside.Needs.{most_frame_count};
 ghost use Rattle.cyc_lower.specs.inside.Emission.{most_locals, view_starts, HaveFewWords};
 ghost use Rattle.cyc_lower.specs.inside.Lowered.{CanBeLowered};
@@ -29,8 +29,8 @@ use std::alloc::{AllocError, Global};
 /// The words of the largest value.
 const SPARE_SLOTS: usize = 3;
 
-/// The blocks that raise exceptions.
-const BLOCKS: usize = 4;
+/// The instructions of the blocks that raise exceptions.
+const BLOCKS: usize = 6;
 
 /// The words that a function returns.
 fn results_of(of_type: &Option<Ty>) -> usize
@@ -40,6 +40,13 @@ fn results_of(of_type: &Option<Ty>) -> usize
         Some(of_type) => words_of(of_type),
         None => 0,
     }
+}
+
+/// How many of them stand where something leads so far: the first two are one block.
+fn blocks_kept(farthest: usize) -> usize
+    ensures { result ≡ blocks_kept farthest }
+{
+    if farthest == 1 { 2 } else { farthest }
 }
 
 /// The code of a function's body, with temporaries from a slot on, and its marks if they are asked for.
@@ -64,9 +71,9 @@ fn lower_body(
     Ok(emitter)
 }
 
-/// A function. Its slots are its locals, and behind them the records of handlers, the temporaries and one value more. How long
-/// its code is does not depend on where the blocks behind it stand: so that is made twice, and at first for any place. Of the blocks
-/// stand those up to the last that something leads to.
+/// A function. Its slots are its locals, and behind them the one for tags, the records of handlers, the temporaries and one value more.
+/// How long its code is does not depend on where the blocks behind it stand: so that is made twice, and at first for any place. Of the
+/// blocks stand those up to the last that something leads to.
 fn lower_function(
     alloc: Global,
     structs: &[StructType],
@@ -77,9 +84,10 @@ fn lower_function(
     requires { frame_count (view_function function.now) ≤ most_frame_count }
     ensures { IfOk result (λ f. routine_of f ≡ lower_function (map view_struct structs.now) globals.now scopes (view_function function.now)) }
 {
-    let (locals, free) = slots_of_locals(alloc, function)?;
+    let (locals, tag_slot, free) = slots_of_locals(alloc, function)?;
     let anywhere = Starts {
         locals: &locals,
+        tag_slot,
         structs,
         raises: 0,
         counters: &[],
@@ -90,6 +98,7 @@ fn lower_function(
     let raises = lower_body(alloc, &anywhere, function, free, false)?.place();
     let starts = Starts {
         locals: &locals,
+        tag_slot,
         structs,
         raises,
         counters: &[],
@@ -98,10 +107,10 @@ fn lower_function(
         alloc,
     };
     let mut emitter = lower_body(alloc, &starts, function, free, false)?;
-    let count = emitter.farthest().saturating_sub(raises).min(BLOCKS);
-    emitter.emit(Instruction::Finish { value: free })?;
+    let count = blocks_kept(emitter.farthest().saturating_sub(raises).min(BLOCKS));
+    emitter.emit(Instruction::Finish { value: tag_slot })?;
     let end = emitter.place() + count;
-    emitter.lower_blocks()?;
+    emitter.lower_blocks(tag_slot)?;
     emitter.take_back(end);
     Ok(Function {
         name: function.span,
@@ -191,9 +200,10 @@ fn marks_of_function(
 ) -> Result<Marks, AllocError>
     requires { frame_count (view_function function.now) ≤ most_frame_count }
 {
-    let (locals, free) = slots_of_locals(alloc, function)?;
+    let (locals, tag_slot, free) = slots_of_locals(alloc, function)?;
     let anywhere = Starts {
         locals: &locals,
+        tag_slot,
         structs,
         raises: 0,
         counters: &[],
@@ -203,7 +213,7 @@ fn marks_of_function(
     };
     let mut emitter = lower_body(alloc, &anywhere, function, free, true)?;
     emitter.enter(Some(function.end));
-    emitter.emit(Instruction::Finish { value: free })?;
+    emitter.emit(Instruction::Finish { value: tag_slot })?;
     Ok(Marks {
         raises: emitter.place(),
         marks: emitter.marks,

@@ -5,6 +5,7 @@ pub use limits::MOST_FUNCTIONS;
 pub use marks::{Mark, Marks, marks_of};
 pub use program::lower;
 
+mod breaks;
 mod calls;
 mod chains;
 mod checks;

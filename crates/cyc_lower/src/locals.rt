@@ -7,7 +7,7 @@ ghost use Rattle.cyc_words.specs.Word.{add_of};
 ghost use Rattle.cyc_meaning.specs.Values.{kind_of, bytes_of_kind};
 ghost use Rattle.cyc_meaning.specs.FrameCount.{words_of_all, frame_count};
 ghost use Rattle.cyc_lower.specs.inside.Slots.{starts_from, begins_word, field_from, field_of, slot_of, counter_of};
-ghost use Rattle.cyc_lower.specs.inside.ValueCode.{slot_types, first_temporary};
+ghost use Rattle.cyc_lower.specs.inside.ValueCode.{slot_types, tag_slot, first_temporary};
 ghost use Rattle.cyc_frame_count.specs.inside.Needs.{most_frame_count};
 ghost use Rattle.cyc_lower.specs.inside.Emission.{view_starts};
 
@@ -113,16 +113,16 @@ fn add_locals(starts: &mut Vec<usize>, first: usize, types: &[Ty]) -> Result<usi
     Ok(slot)
 }
 
-/// The first slots of a function's locals, and the first slot behind them.
+/// The first slots of a function's locals, the one behind them, and the first one for temporaries.
 pub(crate) fn slots_of_locals(
     alloc: Global,
     function: &Function,
-) -> Result<(Vec<usize>, usize), AllocError>
+) -> Result<(Vec<usize>, usize, usize), AllocError>
     requires { frame_count (view_function function.now) ≤ most_frame_count }
-    ensures { IfOk result (λ slots. (slots.0.items ≡ starts_from 0 (slot_types (view_function function.now))) × (slots.1 ≡ first_temporary (view_function function.now))) }
+    ensures { IfOk result (λ slots. (slots.0.items ≡ starts_from 0 (slot_types (view_function function.now))) × (slots.1 ≡ tag_slot (view_function function.now)) × (slots.2 ≡ first_temporary (view_function function.now))) }
 {
     let mut starts = Vec::new(alloc);
     let behind = add_locals(&mut starts, 0, &function.parameters)?;
-    let free = add_locals(&mut starts, behind, &function.locals)?;
-    Ok((starts, free))
+    let end = add_locals(&mut starts, behind, &function.locals)?;
+    Ok((starts, end, end + 1))
 }

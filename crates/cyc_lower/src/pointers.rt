@@ -196,8 +196,8 @@ impl Emitter {
         }
     }
 
-    /// An index is compared with the length of a fat pointer, which is 0 where that is null: what raises the exception that it is then
-    /// is jumped over.
+    /// An index is compared with the length of a fat pointer, which is 0 where that is null: what tells which exception it is then is
+    /// jumped over.
     fn stay_inside(&mut self, starts: &Starts, first: usize, index: usize) -> Result<(), AllocError>
         ensures { Appends result self.old self.new (inside_code (view_starts starts.now) first index (length self.old.code.items)) }
     {
@@ -209,9 +209,14 @@ impl Emitter {
             right: Operand::Slot { number: behind - 2 },
             target: inside,
         })?;
-        self.check(starts, NULL_EXCEPTION, Operand::Slot { number: first })?;
+        self.emit(Instruction::Binary {
+            operator: BinaryOperator::NotEqual,
+            destination: starts.tag_slot,
+            left: Operand::Slot { number: first },
+            right: Operand::Word { word: 0 },
+        })?;
         self.emit(Instruction::Jump {
-            target: starts.raises + ARRAY_BOUNDS as usize,
+            target: starts.raises + 1,
         })
     }
 

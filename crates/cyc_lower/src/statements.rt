@@ -8,10 +8,11 @@ ghost use Rattle.cyc_lower.specs.inside.ControlCode.{nothing_opened, outermost, 
 ghost use Rattle.cyc_lower.specs.inside.ValueCode.{blank_code};
 ghost use Rattle.cyc_lower.specs.inside.Lowering.{clauses_code, caught_code, return_code, declaration_code, statement_code, items_code};
 ghost use Rattle.cyc_frame_count.specs.inside.Needs.{kept_by_item};
-ghost use Rattle.cyc_lower.specs.inside.Emission.{Appends, most_locals, throw_code, case_code, BeginClauses, item_code, exits_behind, free_behind, loop_code, then_code, view_starts};
+ghost use Rattle.cyc_lower.specs.inside.Emission.{Appends, most_locals, throw_code, case_code, BeginClauses, item_code, exits_behind, free_behind, loop_code, then_code, through_loop, view_starts};
 
 use crate::emitter::Emitter;
 use crate::locals::slot_of;
+use crate::loops::goes_through;
 use crate::marks::{place_of_item, place_of_statement};
 use crate::operands::kind_of;
 use crate::operators::{goes_on, holding_jump, other_jump, tag_operand};
@@ -345,7 +346,38 @@ impl Emitter {
         self.emit(Instruction::Jump { target: exits.head })
     }
 
-    /// A loop. The jump to its end stands before its body, so that its place is known before the body's code is made.
+    /// A loop whose condition has little code, and which has no `break`: its condition in front leads to its end where it fails.
+    #[cycle(statement)]
+    fn lower_through(
+        &mut self,
+        starts: &Starts,
+        body: &Stmt,
+        condition: &Expr,
+        exits: Exits,
+        free: usize,
+    ) -> Result<(), AllocError>
+        requires { free + kept_by (view_statement body.now) ≤ most_locals }
+        ensures { Appends result self.old self.new (through_loop (view_starts starts.now) (view_expression condition.now) (view_statement body.now) (length self.old.code.items) exits free) }
+    {
+        let head = self.place();
+        let first = self.lower_choice(starts, LogicalOperator::OrElse, condition, free)?;
+        let over = self.reserve()?;
+        let again = self.place();
+        let inside = Exits {
+            head,
+            leaving: head,
+            in_loop: nothing_opened(),
+            in_function: exits.in_function,
+        };
+        self.lower_statement(starts, body, inside, free)?;
+        let last = self.lower_choice(starts, LogicalOperator::AndThen, condition, free)?;
+        self.emit(holding_jump(last, again))?;
+        self.jump_here_if_failing(over, first);
+        let end = self.place() + 1;
+        self.emit(Instruction::Jump { target: end })
+    }
+
+    /// Any other loop. The jump to its end stands before its body, so that its place is known before the body's code is made.
     #[cycle(statement)]
     fn lower_loop(
         &mut self,
@@ -456,7 +488,12 @@ impl Emitter {
                 condition,
                 body,
                 ..
-            } => self.lower_loop(starts, body, condition, exits, free),
+            } => {
+                if goes_through(starts, condition, body) {
+                    return self.lower_through(starts, body, condition, exits, free);
+                }
+                self.lower_loop(starts, body, condition, exits, free)
+            }
             Stmt::Return { value, .. } => self.lower_return(starts, value, exits, free),
             Stmt::Break => {
                 self.lower_leave(exits.in_loop)?;

@@ -201,7 +201,7 @@ module _ (source : Program) (pages calls : ℕ) where
   -- the code of each function stands where it does
   abbrev pub FunctionsStand : Type 0
   FunctionsStand = (n : ℕ) (h : Function) → slice_get source.functions n ≡ Some h
-      → (m : ℕ) × ItemsAt (code_of source n) (bounds_at source n) (types_at source n) h.body outside_loops (base_of source n) 0 m
+      → (m : ℕ) × ItemsAt (code_of source n) (bounds_at source n) (types_at source n) h.body outside_loops (base_of source n + 1) 0 m
       × At (code_of source n) m (instructions.Finish (base_of source n))
 
   parameters_fit : (n : ℕ) (h : Function) → slice_get source.functions n ≡ Some h → parameters_at source n ≡ h.parameters
@@ -227,7 +227,7 @@ module _ (source : Program) (pages calls : ℕ) where
   pub entered : FunctionsStand → (n base : ℕ) (h : Function) (arguments : List Kinded) (k : List Entry) (w : World) (slots globals : Words) (handlers : List Handler) (frames : List Frame) (store : StoreState) (output input : List ℕ)
       → slice_get source.functions n ≡ Some h
       → (shared : Shared pages calls w (no_locals.home ∷ homes k) (CountsBy source None no_locals k store (scopes w.regions)) output input store (length frames))
-      → DataAt source shared.tables n base w.objects (λ (number : ℕ). None) (callers k) slots globals frames × HandlersStand source n slots handlers frames k → floor source n k ≡ base_of source n
+      → DataAt source shared.tables n base w.objects (λ (number : ℕ). None) (callers k) slots globals frames × HandlersStand source n slots handlers frames k → floor source n k ≡ base_of source n + 1
       → HoldsFrom shared.tables slots 0 arguments → ((m : ℕ) → At (code_of source n) m (instructions.Finish (base_of source n)) → StatementStack source n outside_loops m frames k)
       → Related source pages calls (Entering h arguments) k no_locals w
       (record { active = record { function = n; next = 0; base = base; slots = slots; handlers = handlers }; frames = frames; globals = globals; store = store; output = output; input = input })

@@ -27,7 +27,7 @@ use Rattle.cyc_lower.proofs.slots.Slots.{slot-room, room-inside}
 use Rattle.cyc_lower.proofs.slots.Widths.{HasRoom, Outside, HasLocal, kind_in, kind_positive, keeps_whole}
 use Rattle.cyc_lower.proofs.relation.contents.Moves.{put_elsewhere}
 use Rattle.cyc_lower.specs.inside.ValueCode.{converts_there, keeps_words, span_of}
-use Rattle.cyc_lower.specs.inside.ControlCode.{break_target, continue_target, body_target, inside_loop}
+use Rattle.cyc_lower.specs.inside.ControlCode.{break_target, continue_target, inside_loop}
 use Rattle.cyc_lower.specs.inside.ExpressionCode.{operand_of, value_slot, source_of}
 use Rattle.cyc_lower.proofs.relation.code.Stands.{OverAt, BranchesAt, OperandBy, ExpressionAt, InitialAt, InitialBy, ReturnedAt, BlankAt, BroughtAt, ConversionAt}
 use Rattle.cyc_lower.proofs.relation.code.Statements.{ItemsAt}
@@ -96,14 +96,15 @@ module _ (source : Program) (pages calls : ℕ) where
   -- the condition of a loop is tried, behind its body or in front of it
   tries : (a : Expression) (s : Statement) (k : List Entry) (g : ℕ) (exits outer : Exits) (p q : ℕ) (frames : List Frame) (t : Tables) (slots : Words) (locals : ℕ → Option ℕ)
       → LoopAt source g (floor source g k) a s exits outer p q → StatementStack source g outer q frames k → EvaluatingAt source t a locals g p slots frames (Needs (Test a s) ∷ k)
-  tries a s k g exits outer p q frames t slots locals (loop_is, function_is, entry, leave, at_s, again, after) stack =
-      as_condition q (body_target exits.leaving) again tt (outer, q, inl refl, stack) (exits, outer, p, q, (loop_is, function_is, entry, leave, at_s, again, after), refl, stack)
+  tries a s k g exits outer p q frames t slots locals (b, loop_is, function_is, entry, leave, at_s, (f, again, over), after) stack =
+      as_condition f b again tt (outer, q, over, stack) (exits, outer, p, q, (b, loop_is, function_is, entry, leave, at_s, (f, again, over), after), refl, stack)
 
   tries_first : (a : Expression) (s : Statement) (k : List Entry) (g : ℕ) (exits outer : Exits) (p q : ℕ) (frames : List Frame) (t : Tables) (slots : Words) (locals : ℕ → Option ℕ)
-      → BranchesAt (code_of source g) (bounds_at source g) (types_at source g) a exits.leaving (body_target exits.leaving) (floor source g k) (continue_target exits) → At (code_of source g) (break_target exits) (instructions.Jump q)
-      → LoopAt source g (floor source g k) a s exits outer p q → StatementStack source g outer q frames k → EvaluatingAt source t a locals g (continue_target exits) slots frames (Needs (Test a s) ∷ k)
-  tries_first a s k g exits outer p q frames t slots locals first leave loop stack =
-      as_condition exits.leaving (body_target exits.leaving) first tt (outer, q, inr leave, stack) (exits, outer, p, q, loop, refl, stack)
+      → (loop : LoopAt source g (floor source g k) a s exits outer p q)
+      → BranchesAt (code_of source g) (bounds_at source g) (types_at source g) a exits.leaving loop.0 (floor source g k) (continue_target exits) → At (code_of source g) (break_target exits) (instructions.Jump q)
+      → StatementStack source g outer q frames k → EvaluatingAt source t a locals g (continue_target exits) slots frames (Needs (Test a s) ∷ k)
+  tries_first a s k g exits outer p q frames t slots locals loop first leave stack =
+      as_condition exits.leaving loop.0 first tt (outer, q, inr leave, stack) (exits, outer, p, q, loop, refl, stack)
 
   comes_over : (code : List Instruction) (p q : ℕ) → OverAt code p q → Arrives source code p q
   comes_over code p q (inl here) = in_place here
@@ -131,13 +132,13 @@ module _ (source : Program) (pages calls : ℕ) where
       silently source pages calls (Running (Executing (If a s t)) k e w) (Running (Evaluating a) (Needs (Choose s t) ∷ k) e w) (plain.Running c) refl
       (shared, facts, as_condition f h at_a tt (exits, q, at_t, stack) (exits, r, q, at_s, comes_over (code_of source c.active.function) r q over, stack))
       (omega arith)
-  executing (While p a s) k e w c nested well (shared, facts, (exits, q, (l, r, inl first, leave, at_s, again, after), stack)) =
+  executing (While p a s) k e w c nested well (shared, facts, (exits, q, (l, b, r, inl first, leave, at_s, again, after), stack)) =
       silently source pages calls (Running (Executing (While p a s)) k e w) (Running (Evaluating a) (Needs (Test a s) ∷ k) e w) (plain.Running c) refl
-      (shared, facts, tries_first a s k c.active.function (inside_loop c.active.next l exits) exits r q c.frames shared.tables c.active.slots e.locals first leave (refl, refl, inl first, leave, at_s, again, after) stack)
+      (shared, facts, tries_first a s k c.active.function (inside_loop c.active.next l exits) exits r q c.frames shared.tables c.active.slots e.locals (b, refl, refl, inl first, leave, at_s, again, after) first leave stack)
       (omega arith)
-  executing (While p a s) k e w c nested well (shared, facts, (exits, q, (l, r, inr (enter, on), leave, at_s, again, after), stack)) =
+  executing (While p a s) k e w c nested well (shared, facts, (exits, q, (l, b, r, inr (enter, on), leave, at_s, again, after), stack)) =
       by_one source pages calls refl shared enter
-      (λ choice. (shared, facts, tries a s k c.active.function (inside_loop c.active.next l exits) exits r q c.frames shared.tables c.active.slots e.locals (refl, refl, inr (enter, on), leave, at_s, again, after) stack))
+      (λ choice. (shared, facts, tries a s k c.active.function (inside_loop c.active.next l exits) exits r q c.frames shared.tables c.active.slots e.locals (b, refl, refl, inr (enter, on), leave, at_s, again, after) stack))
   executing (typed.Return None) k e w c nested well (shared, facts, (exits, q, (s, m, (r, closing, marks), here), stack)) =
       leaving source pages calls false (Executing (typed.Return None)) (Returning None) k k e w c exits.in_function r m refl shared (omega arith) (record_left source c.active.function exits q c.frames k stack).1 closing marks facts.1
       (λ handlers stand marks_there marked. (shared_leaving source pages calls false k e w c shared, (facts.0, stand), m, marks_there, marked, (exits, q, s, here, stack)))
@@ -294,9 +295,9 @@ module _ (source : Program) (pages calls : ℕ) where
   after_statement (Rest (MoreItems (DeclareKey r n) js) ∷ k) e w c exits nested well shared facts (q, items, stack) =
       declares_key source pages calls r n js k e w c exits q shared facts items stack
   after_statement (Join ∷ k) e w c exits nested well shared facts (q, comes, stack) = arrives (Join ∷ k) k e e w w c exits q refl shared (omega arith) shared facts comes stack
-  after_statement (Loop a s ∷ k) e w c exits nested well shared facts (outer, q, (loop_is, function_is, entry, leave, at_s, again, after), stack) =
+  after_statement (Loop a s ∷ k) e w c exits nested well shared facts (outer, q, loop, stack) =
       silently source pages calls (Running Proceeding (Loop a s ∷ k) e w) (Running (Evaluating a) (Needs (Test a s) ∷ k) e w) (plain.Running c) refl
-      (shared, facts, tries a s k c.active.function exits outer c.active.next q c.frames shared.tables c.active.slots e.locals (loop_is, function_is, entry, leave, at_s, again, after) stack)
+      (shared, facts, tries a s k c.active.function exits outer c.active.next q c.frames shared.tables c.active.slots e.locals loop stack)
       (omega arith)
   after_statement (CloseRegion region home ∷ k) e w c exits nested well shared facts (q, comes, stack) =
       let found = is_closed Proceeding region home k e w well in
@@ -350,7 +351,7 @@ module _ (source : Program) (pages calls : ℕ) where
       silently source pages calls (Running Breaking (Rest js ∷ k) e w) (Running Breaking k e w) (plain.Running c) refl (shared, facts, r, marks, marked, (exits, u, here, stack)) (omega arith)
   breaking (Join ∷ k) e w c nested well (shared, facts, r, marks, marked, (exits, q, here, (u, arrives, stack))) =
       silently source pages calls (Running Breaking (Join ∷ k) e w) (Running Breaking k e w) (plain.Running c) refl (shared, facts, r, marks, marked, (exits, u, here, stack)) (omega arith)
-  breaking (Loop a s ∷ k) e w c nested well (shared, facts, r, end, marked, (exits, q, jumps, (outer, u, (loop_is, function_is, entry, leave, at_s, again, after), stack))) =
+  breaking (Loop a s ∷ k) e w c nested well (shared, facts, r, end, marked, (exits, q, jumps, (outer, u, (b, loop_is, function_is, entry, leave, at_s, again, after), stack))) =
       let here : At (code_of source c.active.function) c.active.next (instructions.Jump (break_target exits)) = subst (λ n. At (code_of source c.active.function) n (instructions.Jump (break_target exits))) (sym end) jumps in
       by_two source pages calls (at c (break_target exits)) refl shared shared here (λ choice. refl) leave
       (jumps_apart (code_of source c.active.function) c.active.next (break_target exits) u here leave after)
@@ -381,15 +382,15 @@ module _ (source : Program) (pages calls : ℕ) where
       silently source pages calls (Running Continuing (Rest js ∷ k) e w) (Running Continuing k e w) (plain.Running c) refl (shared, facts, r, marks, marked, (exits, u, here, stack)) (omega arith)
   continuing (Join ∷ k) e w c nested well (shared, facts, r, marks, marked, (exits, q, here, (u, arrives, stack))) =
       silently source pages calls (Running Continuing (Join ∷ k) e w) (Running Continuing k e w) (plain.Running c) refl (shared, facts, r, marks, marked, (exits, u, here, stack)) (omega arith)
-  continuing (Loop a s ∷ k) e w c nested well (shared, facts, r, end, marked, (exits, q, jumps, (outer, u, (loop_is, function_is, inl first, leave, at_s, again, after), stack))) =
+  continuing (Loop a s ∷ k) e w c nested well (shared, facts, r, end, marked, (exits, q, jumps, (outer, u, (b, loop_is, function_is, inl first, leave, at_s, again, after), stack))) =
       let here : At (code_of source c.active.function) c.active.next (instructions.Jump (continue_target exits)) = subst (λ n. At (code_of source c.active.function) n (instructions.Jump (continue_target exits))) (sym end) jumps in
       by_one source pages calls refl shared here
-      (λ choice. (shared, facts, tries_first a s k c.active.function exits outer q u c.frames shared.tables c.active.slots e.locals first leave (loop_is, function_is, inl first, leave, at_s, again, after) stack))
-  continuing (Loop a s ∷ k) e w c nested well (shared, facts, r, end, marked, (exits, q, jumps, (outer, u, (loop_is, function_is, inr (enter, on), leave, at_s, again, after), stack))) =
+      (λ choice. (shared, facts, tries_first a s k c.active.function exits outer q u c.frames shared.tables c.active.slots e.locals (b, loop_is, function_is, inl first, leave, at_s, again, after) first leave stack))
+  continuing (Loop a s ∷ k) e w c nested well (shared, facts, r, end, marked, (exits, q, jumps, (outer, u, (b, loop_is, function_is, inr (enter, on), leave, at_s, again, after), stack))) =
       let here : At (code_of source c.active.function) c.active.next (instructions.Jump (continue_target exits)) = subst (λ n. At (code_of source c.active.function) n (instructions.Jump (continue_target exits))) (sym end) jumps in
       by_two source pages calls (at c (continue_target exits)) refl shared shared here (λ choice. refl) enter
       (jumps_apart (code_of source c.active.function) c.active.next (continue_target exits) q here enter on)
-      (λ choice. (shared, facts, tries a s k c.active.function exits outer q u c.frames shared.tables c.active.slots e.locals (loop_is, function_is, inr (enter, on), leave, at_s, again, after) stack))
+      (λ choice. (shared, facts, tries a s k c.active.function exits outer q u c.frames shared.tables c.active.slots e.locals (b, loop_is, function_is, inr (enter, on), leave, at_s, again, after) stack))
   continuing (CloseRegion region home ∷ k) e w c nested well (shared, facts, r, marks, marked, (exits, q, here, (u, comes, stack))) =
       let found = is_closed Continuing region home k e w well in
       silently source pages calls (Running Continuing (CloseRegion region home ∷ k) e w) (Running Continuing k (record e { home = home }) (closed w region found.region)) (plain.Running c) found.gives

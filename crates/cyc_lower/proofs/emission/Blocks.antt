@@ -1,23 +1,29 @@
 -- Behind a function's body stand the blocks that raise exceptions, as far as something leads to them.
-use Rattle.std.proofs.Common.{◌≡◌, ℕ, zero, suc, ◌+◌, ◌-◌, ◌≤◌, List, [], ◌∷◌, ◌++◌, length, take, refl, ap, subst, ◌∙◌, arith, append_assoc}
+use Rattle.std.proofs.Common.{◌≡◌, ℕ, zero, suc, ◌+◌, ◌-◌, ◌≤◌, ◌<◌, List, [], ◌∷◌, ◌++◌, length, take, refl, ap, subst, ◌∙◌, arith, append_assoc}
 use Rattle.std.specs.Prelude.{min}
 use Rattle.std.proofs.lemmas.Option.{same_Some, none-some}
 use Rattle.cyc_plain.specs.declared.instruction.Instruction.{Instruction}
 use Rattle.cyc_plain.specs.declared.instruction.Instruction.TheVariants as instructions
+use Rattle.cyc_plain.specs.declared.instruction.BinaryOperator.TheVariants as plain_binary
+use Rattle.cyc_plain.specs.declared.instruction.Operand.TheVariants as operands
 use Rattle.cyc_plain.specs.inside.Straight.{At, HasAt}
 use Rattle.cyc_plain.proofs.Straight.{has_back, has_whole}
-use Rattle.cyc_lower.specs.inside.ValueCode.{raising, blocks}
-use Rattle.cyc_lower.specs.inside.Lowering.{target_of, farthest, with_blocks, finished_code}
+use Rattle.cyc_meaning.specs.Operators.{null_exception}
+use Rattle.cyc_lower.specs.inside.ValueCode.{raising, telling, blocks}
+use Rattle.cyc_lower.specs.inside.Lowering.{target_of, farthest, blocks_kept, with_blocks, finished_code}
 
 -- ---- as they are made
 
-blocks_taken : (n : ℕ) → take (min n 4) blocks ≡ take n blocks
-blocks_taken zero = refl
-blocks_taken (suc zero) = refl
-blocks_taken (suc (suc zero)) = refl
-blocks_taken (suc (suc (suc zero))) = refl
-blocks_taken (suc (suc (suc (suc zero)))) = refl
-blocks_taken (suc (suc (suc (suc (suc n))))) = ap (λ (m : ℕ). take m blocks) (let e : min (suc (suc (suc (suc (suc n))))) 4 ≡ 4 = omega arith in e)
+blocks_taken : (slot n : ℕ) → take (blocks_kept (min n 6)) (blocks slot) ≡ take (blocks_kept n) (blocks slot)
+blocks_taken slot zero = refl
+blocks_taken slot (suc zero) = refl
+blocks_taken slot (suc (suc zero)) = refl
+blocks_taken slot (suc (suc (suc zero))) = refl
+blocks_taken slot (suc (suc (suc (suc zero)))) = refl
+blocks_taken slot (suc (suc (suc (suc (suc zero))))) = refl
+blocks_taken slot (suc (suc (suc (suc (suc (suc zero)))))) = refl
+blocks_taken slot (suc (suc (suc (suc (suc (suc (suc n))))))) =
+    ap (λ (m : ℕ). take (blocks_kept m) (blocks slot)) (let e : min (suc (suc (suc (suc (suc (suc (suc n))))))) 6 ≡ 6 = omega arith in e)
 
 taken_behind : (old more : List Instruction) (n : ℕ) → take (length old + n) (old ++ more) ≡ old ++ take n more
 taken_behind [] more n = ap (λ (m : ℕ). take m more) (let e : 0 + n ≡ n = omega arith in e)
@@ -25,16 +31,16 @@ taken_behind (i ∷ old) more n =
     ap (λ (m : ℕ). take m (i ∷ (old ++ more))) (let e : suc (length old) + n ≡ suc (length old + n) = omega arith in e) ∙ ap (λ (l : List Instruction). i ∷ l) (taken_behind old more n)
 
 -- all are made, and those behind so many are taken back
-pub some_blocks : (body ended all code : List Instruction) (value count kept end : ℕ) → ended ≡ body ++ instructions.Finish value ∷ [] → all ≡ ended ++ blocks → kept ≡ min count 4 → end ≡ length ended + kept → code ≡ take end all
-    → code ≡ with_blocks body value count
-some_blocks body ended all code value count kept end ended_is all_is kept_is end_is code_is =
+pub some_blocks : (body ended all code : List Instruction) (slot count kept end : ℕ) → ended ≡ body ++ instructions.Finish slot ∷ [] → all ≡ ended ++ blocks slot → kept ≡ blocks_kept (min count 6) → end ≡ length ended + kept → code ≡ take end all
+    → code ≡ with_blocks body slot (blocks_kept count)
+some_blocks body ended all code slot count kept end ended_is all_is kept_is end_is code_is =
     code_is
     ∙ ap (λ (n : ℕ). take n all) (end_is ∙ ap (λ (n : ℕ). length ended + n) kept_is)
-    ∙ ap (λ (l : List Instruction). take (length ended + min count 4) l) all_is
-    ∙ taken_behind ended blocks (min count 4)
-    ∙ ap (λ (l : List Instruction). ended ++ l) (blocks_taken count)
-    ∙ ap (λ (l : List Instruction). l ++ take count blocks) ended_is
-    ∙ append_assoc body (instructions.Finish value ∷ []) (take count blocks)
+    ∙ ap (λ (l : List Instruction). take (length ended + blocks_kept (min count 6)) l) all_is
+    ∙ taken_behind ended (blocks slot) (blocks_kept (min count 6))
+    ∙ ap (λ (l : List Instruction). ended ++ l) (blocks_taken slot count)
+    ∙ ap (λ (l : List Instruction). l ++ take (blocks_kept count) (blocks slot)) ended_is
+    ∙ append_assoc body (instructions.Finish slot ∷ []) (take (blocks_kept count) (blocks slot))
 
 -- ---- what leads to them
 
@@ -44,48 +50,87 @@ target_least (j ∷ code) zero i there = let e = ap target_of (same_Some j i the
 target_least (j ∷ code) (suc p) i there = omega (arith, target_least code p i there)
 
 -- blocks lead nowhere
-module _ (value n : ℕ) where
+module _ (slot n : ℕ) where
   abbrev end : List Instruction
-  end = instructions.Finish value ∷ take n blocks
+  end = instructions.Finish slot ∷ take n (blocks slot)
 
-  end_leads : (m : ℕ) → farthest (take m blocks) ≡ 0
+  end_leads : (m : ℕ) → farthest (take m (blocks slot)) ≡ 0
   end_leads zero = refl
   end_leads (suc zero) = refl
   end_leads (suc (suc zero)) = refl
   end_leads (suc (suc (suc zero))) = refl
   end_leads (suc (suc (suc (suc zero)))) = refl
-  end_leads (suc (suc (suc (suc (suc m))))) = refl
+  end_leads (suc (suc (suc (suc (suc zero))))) = refl
+  end_leads (suc (suc (suc (suc (suc (suc zero)))))) = refl
+  end_leads (suc (suc (suc (suc (suc (suc (suc m))))))) = refl
 
   body_leads : (body : List Instruction) → farthest (body ++ end) ≤ farthest body
   body_leads [] = let e = end_leads n in omega (arith, e)
   body_leads (i ∷ body) = let e = body_leads body in omega (arith, e)
 
--- Each jump to the place of a block leads to it.
-abbrev pub BlocksStand : List Instruction → (raises : ℕ) → Type 0
-BlocksStand code raises = (p tag : ℕ) (i : Instruction) → 1 ≤ tag → tag ≤ 4 → At code p i → target_of i ≡ raises + tag → At code (raises + tag) (raising tag)
+  -- what leads elsewhere stands before them
+  leads_before : (body : List Instruction) (p : ℕ) (i : Instruction) → At (body ++ end) p i → 1 ≤ target_of i → p < length body
+  leads_before [] p i there some = let e = end_leads n in absurd (omega (arith, e, some, target_least end p i there))
+  leads_before (j ∷ body) zero i there some = omega arith
+  leads_before (j ∷ body) (suc p) i there some = omega (arith, leads_before body p i there some)
 
-block_there : (code : List Instruction) (raises n tag : ℕ) → HasAt code (raises + 1) (take n blocks) → 1 ≤ tag → tag ≤ 4 → tag ≤ n → At code (raises + tag) (raising tag)
-block_there code raises n zero has some few laid = absurd (omega (arith, some))
-block_there code raises zero (suc tag) has some few laid = absurd (omega (arith, laid))
-block_there code raises (suc n) (suc zero) (first, rest) some few laid = first
-block_there code raises (suc zero) (suc (suc tag)) has some few laid = absurd (omega (arith, laid))
-block_there code raises (suc (suc n)) (suc (suc zero)) (first, (second, rest)) some few laid = subst (λ p. At code p (raising 2)) (let e : raises + 1 + 1 ≡ raises + 2 = omega arith in e) second
-block_there code raises (suc (suc zero)) (suc (suc (suc tag))) has some few laid = absurd (omega (arith, laid))
-block_there code raises (suc (suc (suc n))) (suc (suc (suc zero))) (first, (second, (third, rest))) some few laid =
-    subst (λ p. At code p (raising 3)) (let e : raises + 1 + 1 + 1 ≡ raises + 3 = omega arith in e) third
-block_there code raises (suc (suc (suc zero))) (suc (suc (suc (suc tag)))) has some few laid = absurd (omega (arith, laid))
-block_there code raises (suc (suc (suc (suc n)))) (suc (suc (suc (suc zero)))) (first, (second, (third, (fourth, rest)))) some few laid =
-    subst (λ p. At code p (raising 4)) (let e : raises + 1 + 1 + 1 + 1 ≡ raises + 4 = omega arith in e) fourth
-block_there code raises (suc (suc (suc (suc n)))) (suc (suc (suc (suc (suc tag))))) has some few laid = absurd (omega (arith, few))
+-- Each jump to the place of a block leads to it, and each that leads anywhere stands before them.
+pub record BlocksStand (code : List Instruction) (raises slot : ℕ) : Type 0 where
+  pub each : (p tag : ℕ) (i : Instruction) → 1 ≤ tag → tag ≤ 4 → At code p i → target_of i ≡ raises + 2 + tag → At code (raises + 2 + tag) (raising tag)
+  pub told : (p : ℕ) (i : Instruction) → At code p i → target_of i ≡ raises + 1 → HasAt code (raises + 1) (telling slot)
+  pub within : (p : ℕ) (i : Instruction) → At code p i → 1 ≤ target_of i → p < raises
 
-pub blocks_stand : (body : List Instruction) (raises value : ℕ) → length body ≡ raises → BlocksStand (finished_code body raises value) raises
-blocks_stand body raises value long p tag i some few there leads =
+-- the instruction of this number among the blocks, of which so many are there
+block_there : (code : List Instruction) (p slot n number : ℕ) (i : Instruction) → HasAt code p (take n (blocks slot)) → number < n → At (blocks slot) number i → At code (p + number) i
+block_there code p slot n number i has some is = taken_there (blocks slot) p n number has some is
+  where
+    taken_there : (some : List Instruction) (p n number : ℕ) → HasAt code p (take n some) → number < n → At some number i → At code (p + number) i
+    taken_there [] p n number has less there = absurd (none-some i there)
+    taken_there (j ∷ some) p zero number has less there = absurd (omega (arith, less))
+    taken_there (j ∷ some) p (suc n) zero (first, rest) less there =
+        subst (λ q. At code q i) (let e : p ≡ p + 0 = omega arith in e) (subst (At code p) (same_Some j i there) first)
+    taken_there (j ∷ some) p (suc n) (suc number) (first, rest) less there =
+        subst (λ q. At code q i) (let e : p + 1 + number ≡ p + suc number = omega arith in e) (taken_there some (p + 1) n number rest (omega (arith, less)) there)
+
+raising_at : (slot tag : ℕ) → 1 ≤ tag → tag ≤ 4 → At (blocks slot) (suc tag) (raising tag)
+raising_at slot zero some few = absurd (omega (arith, some))
+raising_at slot (suc zero) some few = refl
+raising_at slot (suc (suc zero)) some few = refl
+raising_at slot (suc (suc (suc zero))) some few = refl
+raising_at slot (suc (suc (suc (suc zero)))) some few = refl
+raising_at slot (suc (suc (suc (suc (suc tag))))) some few = absurd (omega (arith, few))
+
+kept_least : (n : ℕ) → n ≤ blocks_kept n
+kept_least zero = omega arith
+kept_least (suc zero) = omega arith
+kept_least (suc (suc n)) = omega arith
+
+telling_kept : (n : ℕ) → 1 ≤ n → 2 ≤ blocks_kept n
+telling_kept zero some = absurd (omega (arith, some))
+telling_kept (suc zero) some = omega arith
+telling_kept (suc (suc n)) some = omega arith
+
+pub blocks_stand : (body : List Instruction) (raises slot : ℕ) → length body ≡ raises → BlocksStand (finished_code body raises slot) raises slot
+blocks_stand body raises slot long =
     let n = farthest body - raises in
-    let code = finished_code body raises value in
-    let back = instructions.Finish value ∷ take n blocks in
+    let kept = blocks_kept n in
+    let code = finished_code body raises slot in
+    let back = instructions.Finish slot ∷ take kept (blocks slot) in
     let (here, behind) = has_back code 0 body back (has_whole code) in
     let place : 0 + length body + 1 ≡ raises + 1 = omega (arith, long) in
-    let least = target_least code p i there in
-    let most = body_leads value n body in
-    let reached : tag ≤ n = omega (arith, leads, least, most) in
-    block_there code raises n tag (subst (λ q. HasAt code q (take n blocks)) place behind) some few reached
+    let has = subst (λ q. HasAt code q (take kept (blocks slot))) place behind in
+    let most = body_leads slot kept body in
+    record {
+      each = λ p tag i some few there leads.
+          let reached : suc tag < kept = omega (arith, leads, target_least code p i there, most, kept_least n) in
+          subst (λ q. At code q (raising tag)) (let e : raises + 1 + suc tag ≡ raises + 2 + tag = omega arith in e)
+          (block_there code (raises + 1) slot kept (suc tag) (raising tag) has reached (raising_at slot tag some few));
+      told = λ p i there leads.
+          let some : 1 ≤ n = omega (arith, leads, target_least code p i there, most) in
+          let both = telling_kept n some in (
+            subst (λ q. At code q (instructions.Binary plain_binary.Add slot (operands.Slot slot) (operands.Word null_exception))) (let e : raises + 1 + 0 ≡ raises + 1 = omega arith in e)
+                (block_there code (raises + 1) slot kept 0 (instructions.Binary plain_binary.Add slot (operands.Slot slot) (operands.Word null_exception)) has (omega (arith, both)) refl),
+            (block_there code (raises + 1) slot kept 1 (instructions.Throw (operands.Slot slot) (operands.Word 0)) has (omega (arith, both)) refl, tt),
+          );
+      within = λ p i there some. omega (arith, long, leads_before slot kept body p i there some);
+    }

@@ -11,9 +11,9 @@ use Rattle.cyc_plain.specs.inside.Straight.{At}
 use Rattle.cyc_plain.proofs.Straight.{has_front, has_back, has_whole}
 use Rattle.cyc_meaning.specs.FrameCount.{words_of_all}
 use Rattle.cyc_lower.specs.inside.Slots.{starts_of, global_types}
-use Rattle.cyc_lower.specs.inside.ValueCode.{first_temporary, blocks}
+use Rattle.cyc_lower.specs.inside.ValueCode.{tag_slot, first_temporary, blocks}
 use Rattle.cyc_lower.specs.inside.ControlCode.{outside_loops}
-use Rattle.cyc_lower.specs.inside.Lowering.{types_of, farthest, function_code, lower_function, lower_program, body_code, globals_of, scopes_of}
+use Rattle.cyc_lower.specs.inside.Lowering.{types_of, farthest, blocks_kept, function_code, lower_function, lower_program, body_code, globals_of, scopes_of}
 use Rattle.cyc_lower.proofs.relation.code.Statements.{ItemsAt}
 use Rattle.cyc_lower.proofs.emission.Lengths.{body_long}
 use Rattle.cyc_lower.proofs.relation.code.Fitting.{FitItems, AreFitting, IsFitting}
@@ -39,20 +39,20 @@ module _ (source : Program) where
   -- the code of a function, with its body at the beginning, and a return behind it
   abbrev BodyStands : Function → List Instruction → Option Function → Type 0
   BodyStands h code o =
-      (m : ℕ) × ItemsAt code (bounds_in source o) (types_in source o) h.body outside_loops (words_of_all (types_in source o).locals) 0 m
+      (m : ℕ) × ItemsAt code (bounds_in source o) (types_in source o) h.body outside_loops (words_of_all (types_in source o).locals + 1) 0 m
       × At code m (instructions.Finish (words_of_all (types_in source o).locals))
 
   body_stands : (h : Function) → FitItems (bounds_in source (Some h)) (types_of source.structs (global_types source.globals) (scopes_of source) h) false h.body → BodyStands h (function_code source.structs (globals_of source) (scopes_of source) h) (Some h)
   body_stands h numbered =
-      let d = first_temporary h in
+      let d = tag_slot h in
       let types = types_of source.structs (global_types source.globals) (scopes_of source) h in
       let body = body_code (starts_of types) h in
-      let end = instructions.Finish d ∷ take (farthest body - types.raises) blocks in
+      let end = instructions.Finish d ∷ take (blocks_kept (farthest body - types.raises)) (blocks d) in
       let code = body ++ end in
       let has = has_whole code in
       let (here, behind) = has_back code 0 body end has in
       let raised = blocks_stand body types.raises d (body_long source.structs (globals_of source) (scopes_of source) h) in
-      (0 + length body, items_stand code (bounds_in source (Some h)) types raised h.body false outside_loops d 0 (0 + length body) numbered refl (has_front code 0 body end has), here)
+      (0 + length body, items_stand code (bounds_in source (Some h)) types raised h.body false outside_loops (first_temporary h) 0 (0 + length body) numbered refl (has_front code 0 body end has), here)
 
   pub functions_stand : (pages calls : ℕ) → IsFitting source → FunctionsStand source pages calls
   functions_stand pages calls numbered n h there =

@@ -1,6 +1,6 @@
 -- The code that brings values to the cells of an object, as far as it is made.
 use Rattle.std.proofs.Common.{◌≡◌, ℕ, zero, suc, ◌+◌, ◌*◌, ◌<◌, ◌≤◌, List, [], ◌∷◌, ◌++◌, length, get_or, drop, refl, sym, ap, ◌∙◌, arith, append_assoc, append-nil}
-use Rattle.std.proofs.lemmas.List.{drop_all, drop_more}
+use Rattle.std.proofs.lemmas.List.{drop_more}
 use Rattle.cyc_types.specs.declared.typed.Kind.{Kind}
 use Rattle.cyc_types.specs.declared.typed.Converted.{Converted as ConvertedCode}
 use Rattle.cyc_types.specs.TypedTreeView.{arguments_of}
@@ -67,20 +67,6 @@ same_item ks i other inside =
 abbrev pub KindsLeft : List ConvertedCode → (i : ℕ) → List Kind → Type 0
 KindsLeft cs i ks = ks ++ kinds_passed (arguments_of (drop i cs)) ≡ kinds_passed (arguments_of cs)
 
-pub kinds_next : (cs : List ConvertedCode) (i : ℕ) (ks new : List Kind) (c : ConvertedCode) → i < length cs → c ≡ get_or cs i c → new ≡ ks ++ c.to ∷ []
-    → KindsLeft cs i ks → KindsLeft cs (i + 1) new
-kinds_next cs i ks new c inside at added left =
-    let rest = kinds_passed (arguments_of (drop (i + 1) cs)) in
-    let here : drop i cs ≡ c ∷ drop (i + 1) cs = drop_more cs i c inside ∙ ap (λ (y : ConvertedCode). y ∷ drop (i + 1) cs) (sym at) in
-    ap (λ (l : List Kind). l ++ rest) added
-    ∙ append_assoc ks (c.to ∷ []) rest
-    ∙ ap (λ (l : List ConvertedCode). ks ++ kinds_passed (arguments_of l)) (sym here)
-    ∙ left
-
-pub kinds_end : (cs : List ConvertedCode) (i : ℕ) (ks : List Kind) → length cs ≤ i → KindsLeft cs i ks → ks ≡ kinds_passed (arguments_of cs)
-kinds_end cs i ks done left =
-    sym (append-nil ks) ∙ ap (λ (l : List ConvertedCode). ks ++ kinds_passed (arguments_of l)) (sym (drop_all i cs done)) ∙ left
-
 -- the bytes of cells, of which those from one on are left; an object has no more than a block
 abbrev pub BytesLeft : List Kind → (i bytes : ℕ) → Type 0
 BytesLeft ks i bytes = bytes_from bytes (drop i ks) ≡ bytes_from 0 ks
@@ -104,9 +90,6 @@ bytes_low ks i bytes kind inside at few left =
     let all : bytes_from (behind kind bytes) rest ≡ bytes_from 0 ks = ap (bytes_from bytes) (sym (next_kind ks i kind inside at)) ∙ left in
     let least : behind kind bytes ≤ bytes_from (behind kind bytes) rest = bytes-least (behind kind bytes) rest in
     omega (arith, all, least, few, begins_is kind bytes (omega (arith, all, least, few)))
-
-pub bytes_end : (ks : List Kind) (i bytes : ℕ) → length ks ≤ i → BytesLeft ks i bytes → bytes ≡ bytes_from 0 ks
-bytes_end ks i bytes done left = ap (bytes_from bytes) (sym (drop_all i ks done)) ∙ left
 
 -- the slots of their values
 abbrev pub SlotsLeft : List Kind → (first i slot : ℕ) → Type 0
@@ -141,8 +124,3 @@ cells_next old ks address first i code new bytes begin next slot kind inside at 
     ap (λ (n : ℕ). new ++ cells_code (drop (i + 1) ks) address n (slot + words_of_kind kind)) next_is
     ∙ goes_on_by (all_cells address) (one_cell address) next_cell (λ k rest p s. refl) old ks (0, first) i code new (bytes, slot) kind inside at
     (added ∙ ap (λ (n : ℕ). code ++ stores_code kind (words_of_kind kind) address n slot) begin_is) left
-
-pub cells_end : (old : List Instruction) (ks : List Kind) (address first i : ℕ) (code : List Instruction) (bytes slot : ℕ) → length ks ≤ i
-    → CellsLeft old ks address first i code bytes slot → code ≡ old ++ cells_code ks address 0 first
-cells_end old ks address first i code bytes slot done left =
-    sym (append-nil code) ∙ ap (λ (l : List Kind). code ++ cells_code l address bytes slot) (sym (drop_all i ks done)) ∙ left

@@ -12,7 +12,7 @@ use Rattle.cyc_plain.specs.declared.instruction.Instruction.{Instruction}
 use Rattle.cyc_plain.specs.declared.instruction.Instruction.TheVariants as instructions
 use Rattle.cyc_plain.specs.inside.Straight.{At, HasAt}
 use Rattle.cyc_plain.proofs.Straight.{has_front, has_back}
-use Rattle.cyc_meaning.specs.FrameCount.{operand_words}
+use Rattle.cyc_meaning.specs.FrameCount.{operand_words, words_of_all}
 use Rattle.cyc_lower.specs.inside.Slots.{Types, starts_of}
 use Rattle.cyc_lower.specs.inside.ValueCode.{left_with, failing_comparison}
 use Rattle.cyc_lower.specs.inside.ControlCode.{compared_of, failing_jump, holding_jump, all_test, are_tests, null_compared, pointers_failing, nulled_or}
@@ -28,7 +28,7 @@ use Rattle.cyc_lower.proofs.emission.Blocks.{BlocksStand}
 use Rattle.cyc_lower.proofs.emission.OperandBridge.{cut, operand_by, right_by, left_first}
 use Rattle.cyc_lower.proofs.emission.ExpressionBridge.{expression_stands}
 
-module _ (code : List Instruction) (b : Numbering) (types : Types) (raised : BlocksStand code types.raises) where
+module _ (code : List Instruction) (b : Numbering) (types : Types) (raised : BlocksStand code types.raises (words_of_all types.locals)) where
   -- two operands that are compared
   pair_stands : (a c : Expression) (t p q : ℕ) → Fits b types a → Fits b types c → p + length (pair_code (starts_of types) a c p t) ≡ q → HasAt code p (pair_code (starts_of types) a c p t)
       → PairAt code b types a c (first_operand (starts_of types) a c t) (value_operand (starts_of types) c (suc t)) t p q
@@ -174,7 +174,7 @@ module _ (code : List Instruction) (b : Numbering) (types : Types) (raised : Blo
 
   mutual
     -- the same of one that may be tests, where the jump is taken where it fails
-    choice_stands : (a : Expression) (f t p q : ℕ) → Fits b types a → p + length (choice_code (starts_of types) logical.OrElse a p t) ≡ q → HasAt code p (choice_code (starts_of types) logical.OrElse a p t)
+    pub choice_stands : (a : Expression) (f t p q : ℕ) → Fits b types a → p + length (choice_code (starts_of types) logical.OrElse a p t) ≡ q → HasAt code p (choice_code (starts_of types) logical.OrElse a p t)
         → At code q (failing_jump (choice_of (starts_of types) logical.OrElse a t) f) → BranchesAt code b types a f (q + 1) t p
     choice_stands (Unary unary.Not a) f t p q fits end has jump = inr (choice_follows a f t p q fits end has jump)
     choice_stands (Binary a os ty) f t p q fits end has jump = chain (are_tests logical.OrElse os) refl end has jump

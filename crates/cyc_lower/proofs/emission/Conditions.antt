@@ -1,16 +1,14 @@
 -- Code of conditions that is made piece by piece.
-use Rattle.std.proofs.Common.{◌≡◌, ℕ, suc, ◌+◌, ◌≤◌, ◌<◌, Bool, true, false, take, drop, set, get_or, length-append, append_assoc, List, [], ◌∷◌, ◌++◌, length, Option, None, Some, slice_get, refl, sym, ap, subst, ◌∙◌, arith, append-nil}
+use Rattle.std.proofs.Common.{◌≡◌, ℕ, suc, ◌+◌, ◌≤◌, ◌<◌, Bool, true, false, drop, set, get_or, length-append, append_assoc, List, [], ◌∷◌, ◌++◌, length, Option, None, Some, slice_get, refl, sym, ap, subst, ◌∙◌, arith, append-nil}
 use Rattle.std.proofs.lemmas.Option.{same_Some, none-some}
 use Rattle.std.proofs.lemmas.List.{drop_all, drop_more, length-set}
-use Rattle.std.proofs.Math.Seq.{take-append_seam, set-append_seam}
+use Rattle.std.proofs.Math.Seq.{set-append_seam}
 use Rattle.std.specs.declared.alloc.Global.{Global as Heap}
 use Rattle.std.specs.declared.boxed.Box.{Box}
 use Rattle.std.specs.declared.vec.Vec.{Vec}
-use Rattle.std.specs.Prelude.{if◌then◌else◌, ◌&&◌, ◌==◌}
-use Rattle.cyc_words.specs.declared.span.Span.{Span}
+use Rattle.std.specs.Prelude.{if◌then◌else◌, ◌==◌}
 use Rattle.cyc_words.proofs.Booleans.{and_right}
 use Rattle.cyc_types.specs.declared.ty.Ty.{Ty as TyCode}
-use Rattle.cyc_types.specs.declared.typed.Operator.{Operator}
 use Rattle.cyc_types.specs.declared.typed.UnaryOperator.{UnaryOperator}
 use Rattle.cyc_types.specs.declared.typed.UnaryOperator.TheVariants as unary
 use Rattle.cyc_types.specs.declared.typed.LogicalOperator.{LogicalOperator}
@@ -30,8 +28,8 @@ use Rattle.cyc_lower.specs.declared.conditions.Tested.{Tested}
 use Rattle.cyc_lower.specs.inside.Slots.{Starts}
 use Rattle.cyc_lower.specs.inside.ControlCode.{Compared, with_zero, compared_or, compared_of, is_same, deciding_condition, deciding_jump, failing_jump, turned_test, all_test, are_tests, nulled_or, pointers_failing}
 use Rattle.cyc_lower.specs.inside.ExpressionCode.{value_operand}
-use Rattle.cyc_lower.specs.inside.Lowering.{first_operand, first_code, second_code, pair_code, condition_code, condition_of, others_code, last_condition, tests_code, behind_tests, choice_code, choice_of, branch_code, branch_of, compares_light, is_light_comparison}
-use Rattle.cyc_lower.specs.inside.Emission.{most_locals, is_test, failed, AreBefore, early_jumps, Aims, IsTested, IsEarly, IsBranch, IsSettled, other_code, other_condition, value_code, zero_condition, null_condition, pair_condition, null_operation, pair_operation, right_of}
+use Rattle.cyc_lower.specs.inside.Lowering.{first_operand, first_code, second_code, pair_code, condition_code, condition_of, others_code, last_condition, tests_code, behind_tests, choice_code, choice_of, branch_code, branch_of, compares_light}
+use Rattle.cyc_lower.specs.inside.Emission.{most_locals, failed, AreBefore, early_jumps, Aims, IsTested, IsEarly, IsBranch, IsSettled, other_code, other_condition, value_code, zero_condition, null_condition, pair_condition, null_operation, pair_operation, right_of}
 use Rattle.cyc_lower.proofs.emission.Emitting.{emitted_joined, Lowers, Remains, goes_on, all_made, no_shorter_than}
 
 -- ---- chains that are tested whole
@@ -66,12 +64,6 @@ compares_alone starts first (operation.Compute w o e ∷ operation.Compute w' u 
 compares_alone starts first (operation.Compute w o e ∷ operation.Test u x ∷ os) many = refl
 compares_alone starts first (operation.Compute w o e ∷ operation.Pointer u x ∷ os) many = refl
 compares_alone starts first (operation.Compute w o e ∷ operation.PointerPeek u n x ∷ os) many = refl
-
-pub compares_one : {w : Span} (starts : Starts) (first : Expression) (xs : List Operation) (x : Operation) (o : Operator) (e : Expr) → length xs ≡ 1 → Some x ≡ slice_get xs 0 → x ≡ operation.Compute w o e
-    → compares_light starts first (operations_of xs) ≡ is_light_comparison starts o first (view_expression e)
-compares_one starts first [] x o e single at is = absurd (omega (arith, single))
-compares_one starts first (y ∷ z ∷ xs) x o e single at is = absurd (omega (arith, single))
-compares_one starts first (y ∷ []) x o e single at is = ap (λ (z : Operation). compares_light starts first (operations_of (z ∷ []))) (sym (same_Some x y at) ∙ is)
 
 -- ---- locals that have these first slots
 
@@ -258,18 +250,6 @@ module _ (starts : Starts) where
             ∙ ap (λ (n : ℕ). (old ++ first) ++ all_others u behind t os n (condition_of starts a t)) (length-append old first)
             ∙ append_assoc old first (others_code starts u (operations_of os) (condition_of starts a t) behind (length old + length first) t),
       )
-
-  -- the operands are made once to know where they end, given up, and made for that place
-  pub given_up : (u : LogicalOperator) (a : Expression) (os : Operations) (old made left : List Instruction) (begin t : ℕ) → begin ≡ length old → made ≡ old ++ tests_code starts u a os 0 (length old) t → left ≡ take begin made → left ≡ old
-  given_up u a os old made left begin t begins is taken =
-      taken ∙ ap (λ (n : ℕ). take n made) begins ∙ ap (λ (l : List Instruction). take (length old) l) is ∙ take-append_seam old (tests_code starts u a os 0 (length old) t)
-
-  pub chain_made : (u : LogicalOperator) (a : Expression) (os : Operations) (answer : Condition) (old made left new : List Instruction) (behind t : ℕ) → made ≡ old ++ tests_code starts u a os 0 (length old) t → behind ≡ length made + 1 → left ≡ old
-      → (answer ≡ last_condition starts os (condition_of starts a t) t) × (new ≡ left ++ tests_code starts u a os behind (length left) t)
-      → (answer ≡ last_condition starts os (condition_of starts a t) t) × (new ≡ old ++ tests_code starts u a os (behind_tests starts u a os (length old) t) (length old) t)
-  chain_made u a os answer old made left new behind t is behind_is left_is (answers, made_is) =
-      let there : behind ≡ behind_tests starts u a os (length old) t = omega (arith, behind_is, ap (λ (l : List Instruction). length l) is, length-append old (tests_code starts u a os 0 (length old) t)) in
-      (answers, made_is ∙ ap (λ (l : List Instruction). l ++ tests_code starts u a os behind (length l) t) left_is ∙ ap (λ (n : ℕ). old ++ tests_code starts u a os n (length old) t) there)
 
   -- a condition that is a chain of tests, and one that is not
   pub chain_chosen : (u : LogicalOperator) (a : Expression) (os : Operations) (ty : Ty) (whole : Expression) (answer : Condition) (old new : List Instruction) (t : ℕ) → whole ≡ Binary a os ty → are_tests u os ≡ true
@@ -515,17 +495,6 @@ module _ (starts : Starts) where
   bare_tested u a t old new tested (last, code) made =
       let p = length old in
       same_tested (choice_of starts (turned_test u) a t) (branch_of starts u a t) (λ x. choice_code starts (turned_test u) a p t) (λ x. branch_code starts u a x p t) old new tested last (λ x. code x p) made
-
--- these are tests where the first is one and the others are
-pub all_test_step : (u : LogicalOperator) (x : Operation) (xs : List Operation) → all_test u (operations_of (x ∷ xs)) ≡ (is_test u x && all_test u (operations_of xs))
-all_test_step u (operation.Test o e) xs = refl
-all_test_step u (operation.Compute w o e) xs = refl
-all_test_step u (operation.Pointer o e) xs = refl
-all_test_step u (operation.PointerPeek n o e) xs = refl
-
-pub all_test_at : (u : LogicalOperator) (xs : List Operation) (i : ℕ) (x : Operation) → i < length xs → x ≡ get_or xs i x → all_test u (operations_of (drop i xs)) ≡ (is_test u x && all_test u (operations_of (drop (i + 1) xs)))
-all_test_at u xs i x inside at =
-    ap (λ (l : List Operation). all_test u (operations_of l)) (drop_more xs i x inside ∙ ap (λ (y : Operation). y ∷ drop (i + 1) xs) (sym at)) ∙ all_test_step u x (drop (i + 1) xs)
 
 pub some_tests : (u : LogicalOperator) (xs : List Operation) → (length xs == 0) ≡ false → are_tests u (operations_of xs) ≡ all_test u (operations_of xs)
 some_tests u [] some = absurd (let z : true ≡ false = some in cc)

@@ -17,7 +17,6 @@ use Rattle.cyc_types.specs.declared.typed.Expr.TheVariants as expr
 use Rattle.cyc_types.specs.declared.typed.Converted.{Converted as ConvertedCode}
 use Rattle.cyc_types.specs.declared.typed.Operation.{Operation}
 use Rattle.cyc_types.specs.declared.typed.Operation.TheVariants as operation
-use Rattle.cyc_types.specs.Numbered.{argument_count}
 use Rattle.cyc_types.specs.TypeView.{view_ty, view_value_type}
 use Rattle.cyc_types.specs.TypedTrees.{Expression, Call, Binary}
 use Rattle.cyc_types.specs.TypedTreeView.{view_expression, arguments_of, operations_of}
@@ -119,11 +118,6 @@ passed_on cs i slot first c inside at left =
     let here : drop i cs ≡ c ∷ drop (i + 1) cs = drop_more cs i c inside ∙ ap (λ (y : ConvertedCode). y ∷ drop (i + 1) cs) (sym at) in
     let words : all_passed (arguments_of (drop i cs)) ≡ words_of_kind c.to + all_passed (arguments_of (drop (i + 1) cs)) = ap (λ (l : List ConvertedCode). all_passed (arguments_of l)) here in
     omega (arith, left, words)
-
-pub passed_done : (cs : List ConvertedCode) (i slot first : ℕ) → length cs ≤ i → slot + all_passed (arguments_of (drop i cs)) ≡ first + all_passed (arguments_of cs) → slot ≡ first + all_passed (arguments_of cs)
-passed_done cs i slot first done left =
-    let none : all_passed (arguments_of (drop i cs)) ≡ 0 = ap (λ (l : List ConvertedCode). all_passed (arguments_of l)) (drop_all i cs done) in
-    omega (arith, left, none)
 
 pub call_viewed : (value : Expr) {w : Span} (f : Callee) (v : Vec ConvertedCode Heap) (t : ValueTypeCode) → value ≡ expr.Call w f v t → (items : List ConvertedCode) → items ≡ v.items
     → view_expression value ≡ Call f (arguments_of items) (view_value_type t)
@@ -233,7 +227,7 @@ made_begun starts old m1 m2 handle kind behind t is e1 e2 =
 -- the elements, whose loop begins at place head
 pub made_elements : (starts : Starts) (counters : List ℕ) (a : Expression) (old begun made filled patched new : List Instruction) (x : Instruction) (last : Condition) (kind : Kind) (head behind d t : ℕ) → behind ≡ t + 3
     → counters ≡ starts.counters ++ (behind - 1) ∷ [] → head ≡ length old → begun ≡ old ++ x ∷ []
-    → made ≡ begun ++ expression_code (record { locals = starts.locals; structs = starts.structs; raises = starts.raises; counters = counters; globals = starts.globals; scopes = starts.scopes }) a (length begun) behind behind
+    → made ≡ begun ++ expression_code (record { locals = starts.locals; tag_slot = starts.tag_slot; structs = starts.structs; raises = starts.raises; counters = counters; globals = starts.globals; scopes = starts.scopes }) a (length begun) behind behind
     → filled ≡ made ++ written_code kind head (behind - 1) behind (behind + words_of_kind kind) t → last ≡ last_element (behind - 2) (behind - 1)
     → patched ≡ set filled head (failing_jump last (length filled)) → new ≡ patched ++ restarted_code d (behind - 1) t
     → new ≡ old ++ elements_code kind (expression_code (with_counter starts (t + 2)) a (length old + 1) (t + 3) (t + 3)) (length old) d t
@@ -243,7 +237,7 @@ made_elements starts counters a old begun made filled patched new i last kind he
     let z : behind + words_of_kind kind ≡ t + 3 + words_of_kind kind = omega (arith, is) in
     let first : made ≡ begun ++ expression_code (with_counter starts (t + 2)) a (length begun) (t + 3) (t + 3)
     = e1
-    ∙ ap (λ (cs : List ℕ). begun ++ expression_code (record { locals = starts.locals; structs = starts.structs; raises = starts.raises; counters = cs; globals = starts.globals; scopes = starts.scopes }) a (length begun) behind behind) (counters_are ∙ ap (λ (n : ℕ). starts.counters ++ n ∷ []) y)
+    ∙ ap (λ (cs : List ℕ). begun ++ expression_code (record { locals = starts.locals; tag_slot = starts.tag_slot; structs = starts.structs; raises = starts.raises; counters = cs; globals = starts.globals; scopes = starts.scopes }) a (length begun) behind behind) (counters_are ∙ ap (λ (n : ℕ). starts.counters ++ n ∷ []) y)
     ∙ ap (λ (n : ℕ). begun ++ expression_code (with_counter starts (t + 2)) a (length begun) n n) is in
     let second : filled ≡ made ++ filled_code kind (length old) t
     = e2
@@ -291,8 +285,3 @@ words_next each old code new words first slot i below added (suc left, count, ma
 pub word_code_ends : (each : (global slot : ℕ) → Instruction) (old code : List Instruction) (words first slot i : ℕ) → words ≤ i → WordsLeft each old code words first slot i → code ≡ old ++ word_by_word each words first slot
 word_code_ends each old code words first slot i done (zero, count, made) = sym (append-nil code) ∙ made
 word_code_ends each old code words first slot i done (suc left, count, made) = absurd (omega (arith, count, done))
-
--- a list of fields has as many as it is long
-fields_counted : (cs : List ConvertedCode) → argument_count (arguments_of cs) ≡ length cs
-fields_counted [] = refl
-fields_counted (c ∷ cs) = ap suc (fields_counted cs)

@@ -19,7 +19,7 @@ use Rattle.cyc_plain.specs.inside.Straight.{At, HasAt}
 use Rattle.cyc_plain.proofs.Straight.{has_front, has_back}
 use Rattle.cyc_store.specs.declared.range.TheConstants.{HEAP, UNIQUE}
 use Rattle.cyc_meaning.specs.Values.{kind_of, is_thin, words_of_kind}
-use Rattle.cyc_meaning.specs.FrameCount.{operand_words}
+use Rattle.cyc_meaning.specs.FrameCount.{operand_words, words_of_all}
 use Rattle.cyc_lower.specs.inside.Slots.{counted, Types, starts_of, slot_of, global_of}
 use Rattle.cyc_lower.specs.inside.ValueCode.{converts_there, passed_words, operand_or, code_unless, code_unless_slot, next_slot, check_code, conversion_code, operator_code, truth_code, low_byte, test_code, is_in, copy_code, behind_left}
 use Rattle.cyc_lower.specs.inside.ValueCode.{pointer_code, pointer_instructions, address_code, count_code, span_of, loaded_code, kinds_passed, reached_code, followed_code, span_in, global_code, kind_behind, kind_passed, address_of_global, masks}
@@ -39,7 +39,7 @@ use Rattle.cyc_types.specs.declared.typed.Kind.{Kind}
 
 module _ (code : List Instruction) (b : Numbering) where
   mutual
-    pub expression_stands : (types : Types) (raised : BlocksStand code types.raises) → (a : Expression) (d t p q : ℕ) → Fits b types a → p + length (expression_code (starts_of types) a p d t) ≡ q → HasAt code p (expression_code (starts_of types) a p d t) → ExpressionAt code b types a d t p q
+    pub expression_stands : (types : Types) (raised : BlocksStand code types.raises (words_of_all types.locals)) → (a : Expression) (d t p q : ℕ) → Fits b types a → p + length (expression_code (starts_of types) a p d t) ≡ q → HasAt code p (expression_code (starts_of types) a p d t) → ExpressionAt code b types a d t p q
     expression_stands types raised (Number n) d t p q numbered end (here, none) = (here, end)
     expression_stands types raised NullPointer d t p q numbered end (here, none) = (here, end)
     expression_stands types raised HeapRegion d t p q numbered end (here, none) = (here, end)
@@ -185,7 +185,7 @@ module _ (code : List Instruction) (b : Numbering) where
         let (here, none) = has_back code p front _ has in
         (o, m, operand_by code b types raised (operand_of (starts_of types) a) _ inner (value_slot (starts_of types) a t) p m refl (has_front code p front _ has) (λ e h. expression_stands types raised a (value_slot (starts_of types) a t) t p m numbered e h), here, cut p q front _ end)
 
-    pub place_stands : (types : Types) (raised : BlocksStand code types.raises) → (x : Dereference) (t p q : ℕ) → FitsCell b types x → p + length (place_code (starts_of types) x p t) ≡ q → HasAt code p (place_code (starts_of types) x p t)
+    pub place_stands : (types : Types) (raised : BlocksStand code types.raises (words_of_all types.locals)) → (x : Dereference) (t p q : ℕ) → FitsCell b types x → p + length (place_code (starts_of types) x p t) ≡ q → HasAt code p (place_code (starts_of types) x p t)
         → PlaceAt code b types x (place_operand (starts_of types) x t) (place_offset (starts_of types) x) t p q
     place_stands types raised (Target k a ty) t p q (pointer, kind_is, wide, numbered) end has =
         let slot = value_slot (starts_of types) a t in
@@ -243,7 +243,7 @@ module _ (code : List Instruction) (b : Numbering) where
           refl,
         )
 
-    made_stands : (types : Types) (raised : BlocksStand code types.raises) → (i : Initial) (handle : Operand) (d t p q : ℕ) → FitsObject b types i → p + length (made_code (starts_of types) i handle p d t) ≡ q → HasAt code p (made_code (starts_of types) i handle p d t) → MadeAt code b types i handle d t p q
+    made_stands : (types : Types) (raised : BlocksStand code types.raises (words_of_all types.locals)) → (i : Initial) (handle : Operand) (d t p q : ℕ) → FitsObject b types i → p + length (made_code (starts_of types) i handle p d t) ≡ q → HasAt code p (made_code (starts_of types) i handle p d t) → MadeAt code b types i handle d t p q
     made_stands types raised (Plain kind a) handle d t p q (kind_is, numbered) end has =
         let front = expression_code (starts_of types) a p t t in
         let back = object_code handle (kind ∷ []) d t in
@@ -295,17 +295,17 @@ module _ (code : List Instruction) (b : Numbering) where
           ),
         )
 
-    pub initial_stands : (types : Types) (raised : BlocksStand code types.raises) → (c : Converted) (d t p q : ℕ) → FitsConverted b types c → p + length (initial_code (starts_of types) c p d t) ≡ q → HasAt code p (initial_code (starts_of types) c p d t) → InitialAt code b types c d t p q
+    pub initial_stands : (types : Types) (raised : BlocksStand code types.raises (words_of_all types.locals)) → (c : Converted) (d t p q : ℕ) → FitsConverted b types c → p + length (initial_code (starts_of types) c p d t) ≡ q → HasAt code p (initial_code (starts_of types) c p d t) → InitialAt code b types c d t p q
     initial_stands types raised (Convert from to a) d t p q (kind, wide, numbered) end has =
         initial_by code b types raised (converts_there from to) from to a d t p q kind wide refl (λ slot r e h. brought_by code b types raised (masks from to) a slot t p r (λ s u f g. expression_stands types raised a s t p u numbered f g) e h) end has
 
-    converted_stands : (types : Types) (raised : BlocksStand code types.raises) → (c : Converted) (t p q : ℕ) → FitsConverted b types c → p + length (converted_code (starts_of types) c p t) ≡ q → HasAt code p (converted_code (starts_of types) c p t) → ConvertedAt code b types c t p q
+    converted_stands : (types : Types) (raised : BlocksStand code types.raises (words_of_all types.locals)) → (c : Converted) (t p q : ℕ) → FitsConverted b types c → p + length (converted_code (starts_of types) c p t) ≡ q → HasAt code p (converted_code (starts_of types) c p t) → ConvertedAt code b types c t p q
     converted_stands types raised (Convert from to a) t p q (kind, wide, numbered) end has =
         let front = brought_code (starts_of types) (Convert from to a) p t t in
         let back = conversion_code (starts_of types) from to (span_of a) (operands.Slot t) (p + length front) in
         (p + length front, brought_by code b types raised (masks from to) a t t p (p + length front) (λ s u f g. expression_stands types raised a s t p u numbered f g) refl (has_front code p front back has), conversion_stands code b types raised from to (span_of a) (operands.Slot t) t (p + length front) q wide (λ narrow. refl) (cut p q front back end) (has_back code p front back has))
 
-    pub converted_operand_stands : (types : Types) (raised : BlocksStand code types.raises) → (c : Converted) (t p q : ℕ) → FitsConverted b types c → p + length (converted_operand_code (starts_of types) c p t) ≡ q → HasAt code p (converted_operand_code (starts_of types) c p t) → ConvertedOperandAt code b types c t (converted_operand (starts_of types) c t) p q
+    pub converted_operand_stands : (types : Types) (raised : BlocksStand code types.raises (words_of_all types.locals)) → (c : Converted) (t p q : ℕ) → FitsConverted b types c → p + length (converted_operand_code (starts_of types) c p t) ≡ q → HasAt code p (converted_operand_code (starts_of types) c p t) → ConvertedOperandAt code b types c t (converted_operand (starts_of types) c t) p q
     converted_operand_stands types raised (Convert from to a) t p q (kind, wide, numbered) end has =
         let slot = source_slot (starts_of types) (Convert from to a) t in
         let known = source_of (starts_of types) (Convert from to a) in
@@ -315,21 +315,21 @@ module _ (code : List Instruction) (b : Numbering) where
         let back = conversion_code (starts_of types) from to (span_of a) (converted_operand (starts_of types) (Convert from to a) t) m in
         (m, operand_by code b types raised known _ inner slot p m refl (has_front code p front back has) (λ e h. brought_by code b types raised (masks from to) a slot t p m (λ s u f g. expression_stands types raised a s t p u numbered f g) e h), conversion_stands code b types raised from to (span_of a) (converted_operand (starts_of types) (Convert from to a) t) t m q wide (λ narrow. source_brought code b types raised from to a t kind narrow) (cut p q front back end) (has_back code p front back has))
 
-    pub printed_stands : (types : Types) (raised : BlocksStand code types.raises) → (cs : Arguments) (o : Operand) (t p q : ℕ) → argument_count cs ≡ 1 → FitArguments b types cs → p + length (printed_code (starts_of types) cs p t) ≡ q → HasAt code p (printed_code (starts_of types) cs p t) → PrintedAt code b types cs t (printed_operand (starts_of types) cs o t) p q
+    pub printed_stands : (types : Types) (raised : BlocksStand code types.raises (words_of_all types.locals)) → (cs : Arguments) (o : Operand) (t p q : ℕ) → argument_count cs ≡ 1 → FitArguments b types cs → p + length (printed_code (starts_of types) cs p t) ≡ q → HasAt code p (printed_code (starts_of types) cs p t) → PrintedAt code b types cs t (printed_operand (starts_of types) cs o t) p q
     printed_stands types raised NoArguments o t p q single numbered end has = absurd (omega (arith, single))
     printed_stands types raised (MoreArguments c NoArguments) o t p q single (numbered, rest) end has =
         let front = converted_operand_code (starts_of types) c p t in
         converted_operand_stands types raised c t p q numbered (omega (arith, cut p q front [] end)) (has_front code p front [] has)
     printed_stands types raised (MoreArguments c (MoreArguments c' cs)) o t p q single numbered end has = absurd (omega (arith, single))
 
-    arguments_stand : (types : Types) (raised : BlocksStand code types.raises) → (cs : Arguments) (t p q : ℕ) → FitArguments b types cs → p + length (arguments_code (starts_of types) cs p t) ≡ q → HasAt code p (arguments_code (starts_of types) cs p t) → ArgumentsAt code b types cs t p q
+    arguments_stand : (types : Types) (raised : BlocksStand code types.raises (words_of_all types.locals)) → (cs : Arguments) (t p q : ℕ) → FitArguments b types cs → p + length (arguments_code (starts_of types) cs p t) ≡ q → HasAt code p (arguments_code (starts_of types) cs p t) → ArgumentsAt code b types cs t p q
     arguments_stand types raised NoArguments t p q numbered end has = omega (arith, end)
     arguments_stand types raised (MoreArguments c cs) t p q (numbered, rest) end has =
         let front = converted_code (starts_of types) c p t in
         let back = arguments_code (starts_of types) cs (p + length front) (t + passed_words c) in
         (p + length front, converted_stands types raised c t p (p + length front) numbered refl (has_front code p front back has), arguments_stand types raised cs (t + passed_words c) (p + length front) q rest (cut p q front back end) (has_back code p front back has))
 
-    operations_stand : (types : Types) (raised : BlocksStand code types.raises) → (os : Operations) (l : Operand) (d t p q left : ℕ) (ty : Ty) → FitOperations b types left ty os → IsLeft code b types raised os l d t → p + length (operations_code (starts_of types) os p l d t) ≡ q → HasAt code p (operations_code (starts_of types) os p l d t) → OperationsAt code b types os l d t p q
+    operations_stand : (types : Types) (raised : BlocksStand code types.raises (words_of_all types.locals)) → (os : Operations) (l : Operand) (d t p q left : ℕ) (ty : Ty) → FitOperations b types left ty os → IsLeft code b types raised os l d t → p + length (operations_code (starts_of types) os p l d t) ≡ q → HasAt code p (operations_code (starts_of types) os p l d t) → OperationsAt code b types os l d t p q
     operations_stand types raised NoOperations l d t p q words ty numbered left end has = (left, omega (arith, end))
     operations_stand types raised (ThenCompute o a os) l d t p q words ty (numbered, rest) left end has =
         let inner = expression_code (starts_of types) a p (value_slot (starts_of types) a (suc t)) (suc t) in
@@ -401,6 +401,6 @@ module _ (code : List Instruction) (b : Numbering) where
           operations_stand types raised os (operands.Slot next) d t s q (words_of ty) ty rest (next_left code b types raised os d t) (cut p q both back end) (has_back code p both back has),
         )
 
-  pub brought_stands : (types : Types) (raised : BlocksStand code types.raises) → (c : Converted) (d t p q : ℕ) → FitsConverted b types c → p + length (brought_code (starts_of types) c p d t) ≡ q → HasAt code p (brought_code (starts_of types) c p d t) → BroughtAt code b types c d t p q
+  pub brought_stands : (types : Types) (raised : BlocksStand code types.raises (words_of_all types.locals)) → (c : Converted) (d t p q : ℕ) → FitsConverted b types c → p + length (brought_code (starts_of types) c p d t) ≡ q → HasAt code p (brought_code (starts_of types) c p d t) → BroughtAt code b types c d t p q
   brought_stands types raised (Convert from to a) d t p q (kind, wide, numbered) end has =
       brought_by code b types raised (masks from to) a d t p q (λ slot r e h. expression_stands types raised a slot t p r numbered e h) end has

@@ -34,14 +34,13 @@ use Rattle.cyc_meaning.specs.Values.{words_of_kind, kind_of, is_thin}
 use Rattle.cyc_types.proofs.TypedTreeViewLemmas.{view_typed_fields}
 use Rattle.cyc_plain.specs.declared.instruction.BinaryOperator.TheVariants as plain_binary
 use Rattle.cyc_plain.specs.declared.instruction.Comparison.TheVariants as comparisons
-use Rattle.cyc_meaning.specs.Operators.{null_exception, array_bounds}
 use Rattle.cyc_plain.specs.declared.instruction.Operand.{Operand}
 use Rattle.cyc_plain.specs.declared.instruction.Operand.TheVariants as operands
 use Rattle.cyc_plain.specs.declared.instruction.Instruction.{Instruction}
 use Rattle.cyc_plain.specs.declared.instruction.Instruction.TheVariants as instructions
 use Rattle.cyc_lower.specs.inside.Slots.{slot_of, Starts, global_of}
 use Rattle.cyc_lower.specs.inside.ValueCode.{passed_words, kind_passed, all_passed, kinds_passed, converts_there, converted_by, moved_by, move_of, operand_or, code_unless, left_with, low_byte, next_slot, operator_code, compute_code, test_jump}
-use Rattle.cyc_lower.specs.inside.ValueCode.{truth_code, test_code, copy_code, address_code, addressed_by, reached_code, span_of, followed_code, span_in, code_unless_slot, global_code, masked_by, masks, check_code, inside_code, scaled_code, summed_code}
+use Rattle.cyc_lower.specs.inside.ValueCode.{truth_code, test_code, copy_code, address_code, addressed_by, reached_code, span_of, followed_code, span_in, code_unless_slot, global_code, masked_by, masks, inside_code, scaled_code, summed_code}
 use Rattle.cyc_lower.specs.inside.ObjectCode.{object_code, saved_code}
 use Rattle.cyc_lower.specs.inside.ExpressionCode.{source_of, source_slot, operand_of, left_of, slot_with, left_slot, value_operand, converted_operand, printed_operand, load_code, expression_code, value_slot, arguments_code}
 use Rattle.cyc_lower.specs.inside.ExpressionCode.{converted_code, converted_operand_code, printed_code, initial_code, operations_code, made_code, place_operand, place_offset, place_code, pointer_of, brought_code, is_simple}
@@ -399,19 +398,20 @@ module _ (starts : Starts) where
       ∙ ap (λ (z : DereferenceCode). Store (view_dereference z) (view_converted b'.value) (view_value_type ty)) (sym x_at)
       ∙ ap (λ (z : ConvertedCode). Store (view_dereference x) (view_converted z) (view_value_type ty)) (sym y_at)
 
-  -- an index is compared with a length, and what raises an exception is jumped over
+  -- an index is compared with a length, and what tells which exception is raised is jumped over
   pub made_inside : (old m1 m2 m3 : List Instruction) (n m behind here : ℕ) → behind ≡ n + 3 → here ≡ length old
       → m1 ≡ old ++ instructions.Branch comparisons.LessUnsigned (operands.Slot m) (operands.Slot (behind - 2)) (here + 3) ∷ []
-      → m2 ≡ m1 ++ check_code starts null_exception (operands.Slot n) → m3 ≡ m2 ++ instructions.Jump (starts.raises + array_bounds) ∷ [] → m3 ≡ old ++ inside_code starts n m (length old)
+      → m2 ≡ m1 ++ instructions.Binary plain_binary.NotEqual starts.tag_slot (operands.Slot n) (operands.Word 0) ∷ [] → m3 ≡ m2 ++ instructions.Jump (starts.raises + 1) ∷ [] → m3 ≡ old ++ inside_code starts n m (length old)
   made_inside old m1 m2 m3 n m behind here behind_is here_is e1 e2 e3 =
       let compare = instructions.Branch comparisons.LessUnsigned (operands.Slot m) (operands.Slot (n + 1)) (length old + 3) in
-      let jump = instructions.Jump (starts.raises + array_bounds) in
+      let question = instructions.Binary plain_binary.NotEqual starts.tag_slot (operands.Slot n) (operands.Word 0) in
+      let jump = instructions.Jump (starts.raises + 1) in
       let compared : m1 ≡ old ++ compare ∷ [] =
       e1
       ∙ ap (λ (x : ℕ). old ++ instructions.Branch comparisons.LessUnsigned (operands.Slot m) (operands.Slot x) (here + 3) ∷ []) (let second : behind - 2 ≡ n + 1 = omega (arith, behind_is) in second)
       ∙ ap (λ (x : ℕ). old ++ instructions.Branch comparisons.LessUnsigned (operands.Slot m) (operands.Slot (n + 1)) (x + 3) ∷ []) here_is in
-      let asked = emitted_joined old (compare ∷ []) (λ p. check_code starts null_exception (operands.Slot n)) m1 m2 compared e2 in
-      emitted_joined old (compare ∷ check_code starts null_exception (operands.Slot n)) (λ p. jump ∷ []) m2 m3 asked e3
+      let asked = emitted_joined old (compare ∷ []) (λ p. question ∷ []) m1 m2 compared e2 in
+      emitted_joined old (compare ∷ question ∷ []) (λ p. jump ∷ []) m2 m3 asked e3
 
   -- an access: the index is scaled first
   pub made_reached : (span : Option ℕ) (old m1 m2 m3 : List Instruction) (n m t distance : ℕ) → distance ≡ t + 3 → m1 ≡ old ++ scaled_code span m distance → m2 ≡ m1 ++ inside_code starts n m (length m1)

@@ -2,7 +2,7 @@
 -- is made for the length that it had with them elsewhere, has its blocks where its checks lead to.
 use Rattle.cyc_types.specs.typing.Expressions.{type_of_side}
 use Rattle.std.proofs.Common.{◌≡◌, ℕ, zero, suc, ◌+◌, Bool, true, false, List, [], ◌∷◌, ◌++◌, length, Option, None, Some, refl, sym, ap, ◌∙◌, arith, length-append}
-use Rattle.std.specs.Prelude.{if◌then◌else◌, is_some, ◌&&◌, ◌||◌}
+use Rattle.std.specs.Prelude.{if◌then◌else◌, is_some, ◌&&◌, ◌||◌, not}
 use Rattle.cyc_types.specs.declared.typed.Kind.{Kind}
 use Rattle.cyc_types.specs.declared.typed.Kind.TheVariants as kinds
 use Rattle.cyc_types.specs.declared.typed.Callee.TheVariants as callees
@@ -29,11 +29,11 @@ use Rattle.cyc_lower.specs.inside.ValueCode.{divisor_code, operator_code, pointe
 use Rattle.cyc_lower.specs.inside.ValueCode.{count_code, loaded_code, slot_or, kinds_passed, thinned_code, bounded_code, past_bounded, reached_operand, reached_code, word_by_word, load_word, global_code, masks, failing_comparison}
 use Rattle.cyc_lower.specs.inside.ObjectCode.{begun_code, filled_code, elements_code, ended_code, object_code, right_slot, saved_code, stores_code}
 use Rattle.cyc_lower.specs.inside.ControlCode.{outside_loops, if_code, other_place, failing_jump, holding_jump, deciding_jump, are_tests, compared_of, inside_loop, leave_code, try_code, clause_code, break_target, continue_target, kept_code}
-use Rattle.cyc_lower.specs.inside.ControlCode.{restored_code, behind_record, inside_try, inside_region, opened_code, closed_code, entry_code, entry_length, entered_code, body_target, is_nothing, over_code, over_length, turned_test}
+use Rattle.cyc_lower.specs.inside.ControlCode.{restored_code, behind_record, inside_try, inside_region, opened_code, closed_code, entry_code, entry_length, entered_code, body_target, is_nothing, over_code, over_length, turned_test, through_by, through_end, breaks}
 use Rattle.cyc_lower.specs.inside.ExpressionCode.{operand_of, left_of, value_slot, slot_with, left_slot, value_operand, source_of, source_slot, converted_operand, load_code, place_operand, place_offset, expression_code}
 use Rattle.cyc_lower.specs.inside.ExpressionCode.{place_code, made_code, arguments_code, converted_code, converted_operand_code, printed_code, initial_code, operations_code, pointer_of, brought_code, is_simple, are_simple}
 use Rattle.cyc_lower.specs.declared.operands.Condition.{Condition}
-use Rattle.cyc_lower.specs.inside.Lowering.{others_code, tests_code, behind_tests, choice_code, choice_of, branch_code, branch_of, raises_of, body_code, assignment_code, discarded_code, pair_code, condition_code, return_code}
+use Rattle.cyc_lower.specs.inside.Lowering.{others_code, tests_code, behind_tests, choice_code, choice_of, branch_code, branch_of, raises_of, body_code, assignment_code, discarded_code, pair_code, condition_code, return_code, goes_through}
 use Rattle.cyc_lower.specs.inside.Lowering.{declaration_code, statement_code, items_code, side_code, swap_code, thrown_code, caught_code, clauses_code, starts_with, read_side, write_side, exchange_code, is_light, compares_light, is_guard}
 use Rattle.cyc_plain.specs.declared.instruction.Instruction.TheVariants as instructions
 use Rattle.cyc_meaning.specs.Values.{is_thin, kind_of, words_of_kind}
@@ -97,6 +97,17 @@ entered_long guarded same condition others body inner jump other p q leaving out
     lengths_joined (entry_code guarded (condition p) jump r p) (_ ∷ ((body ++ condition r) ++ _ ∷ [])) (entry_code same (others q) other s q) (_ ∷ ((inner ++ others s) ++ _ ∷ []))
     (entries_long guarded same (condition p) (others q) jump other r s p q is (long p q))
     (ap suc (lengths_joined (body ++ condition r) (_ ∷ []) (inner ++ others s) (_ ∷ []) (lengths_joined body (condition r) inner (others s) first (long r s)) refl))
+
+through_size : (front : List Instruction) (leave : ℕ → Instruction) (body condition : List Instruction) (back : Instruction) (p : ℕ) → length (through_by front leave body condition back p) ≡ length front + length body + length condition + 3
+through_size front leave body condition back p =
+    let end = through_end front body condition p in
+    let rest = back ∷ instructions.Jump (end + 1) ∷ [] in
+    omega (arith, length-append front (leave end ∷ ((body ++ condition) ++ rest)), length-append (body ++ condition) rest, length-append body condition)
+
+through_long : (front other : List Instruction) (leave exit : ℕ → Instruction) (body inner condition again : List Instruction) (back turn : Instruction) (p q : ℕ) → length front ≡ length other → length body ≡ length inner → length condition ≡ length again
+    → length (through_by front leave body condition back p) ≡ length (through_by other exit inner again turn q)
+through_long front other leave exit body inner condition again back turn p q first second third =
+    omega (arith, first, second, third, through_size front leave body condition back p, through_size other exit inner again turn q)
 
 try_long : (a b x y : List Instruction) (t p q : ℕ) → length a ≡ length x → length b ≡ length y → length (try_code t a b p) ≡ length (try_code t x y q)
 try_long a b x y t p q first second = ap suc (lengths_joined a (_ ∷ b) x (_ ∷ y) first (ap suc second))
@@ -466,12 +477,31 @@ module _ (starts : Starts) (raises : ℕ) where
         (branch_long logical.AndThen a p q t) (statement_long s (m + 1) (n + 1) head leaving exits t) (statement_long u (m + 1 + length first + over_length last) (n + 1 + length same_first + over_length last) head leaving exits t)
     statement_long (While w a s) p q head leaving exits t =
         let same = other starts raises in
+        let others = record exits { head = head; leaving = leaving } in
         let l = p + entry_length (is_guard starts a) (choice_code starts logical.AndThen a p t) in
         let m = q + entry_length (is_guard same a) (choice_code same logical.AndThen a q t) in
         let around = inside_loop p l exits in
-        entered_long (is_guard starts a) (is_guard same a) (λ n. choice_code starts logical.AndThen a n t) (λ n. choice_code same logical.AndThen a n t) (statement_code starts s (body_target l) around t) (statement_code same s (body_target m) (record around { head = q; leaving = m }) t)
+        let front = choice_code starts logical.OrElse a p t in
+        let same_front = choice_code same logical.OrElse a q t in
+        let x = p + length front + 1 in
+        let y = q + length same_front + 1 in
+        let body = statement_code starts s x (inside_loop p p exits) t in
+        let inner = statement_code same s y (inside_loop q q others) t in
+        let again = choice_code starts logical.AndThen a (x + length body) t in
+        let same_again = choice_code same logical.AndThen a (y + length inner) t in
+        either_long (goes_through starts a s)
+        (through_by front (failing_jump (choice_of starts logical.OrElse a t)) body again (holding_jump (choice_of starts logical.AndThen a t) x) p)
+        (entered_code (is_guard starts a) (λ n. choice_code starts logical.AndThen a n t) (statement_code starts s (body_target l) around t) (holding_jump (choice_of starts logical.AndThen a t)) p l)
+        (through_by same_front (failing_jump (choice_of same logical.OrElse a t)) inner same_again (holding_jump (choice_of same logical.AndThen a t) y) q)
+        (entered_code (is_guard same a) (λ n. choice_code same logical.AndThen a n t) (statement_code same s (body_target m) (record around { head = q; leaving = m }) t) (holding_jump (choice_of same logical.AndThen a t)) q m)
+        (through_long front same_front (failing_jump (choice_of starts logical.OrElse a t)) (failing_jump (choice_of same logical.OrElse a t)) body inner again same_again (holding_jump (choice_of starts logical.AndThen a t) x) (holding_jump (choice_of same logical.AndThen a t) y) p q
+        (choice_long logical.OrElse a p q t) (statement_long s x y q q (inside_loop p p exits) t) (choice_long logical.AndThen a (x + length body) (y + length inner) t))
+        (entered_long (is_guard starts a) (is_guard same a) (λ n. choice_code starts logical.AndThen a n t) (λ n. choice_code same logical.AndThen a n t) (statement_code starts s (body_target l) around t) (statement_code same s (body_target m) (record around { head = q; leaving = m }) t)
         (holding_jump (choice_of starts logical.AndThen a t)) (holding_jump (choice_of same logical.AndThen a t)) p q l m (same_guard a)
-        (λ i j. choice_long logical.AndThen a i j t) (statement_long s (body_target l) (body_target m) q m around t)
+        (λ i j. choice_long logical.AndThen a i j t) (statement_long s (body_target l) (body_target m) q m around t))
+        ∙ ap (λ (guarded : Bool). length (if guarded && not (breaks s)
+        then through_by same_front (failing_jump (choice_of same logical.OrElse a t)) inner same_again (holding_jump (choice_of same logical.AndThen a t) y) q
+        else entered_code (is_guard same a) (λ n. choice_code same logical.AndThen a n t) (statement_code same s (body_target m) (record around { head = q; leaving = m }) t) (holding_jump (choice_of same logical.AndThen a t)) q m)) (same_guard a)
     statement_long (Return v) p q head leaving exits t = return_long v p q head leaving exits t
     statement_long Break p q head leaving exits t =
         lengths_joined (leave_code exits.in_loop) (instructions.Jump (break_target exits) ∷ []) (leave_code exits.in_loop) (instructions.Jump (break_target (record exits { head = head; leaving = leaving })) ∷ []) refl refl

@@ -1,19 +1,27 @@
 -- Code of loops that is made piece by piece, with two jumps that are written back: the one to the end, and the one to a condition that stands
 -- behind the body alone.
-use Rattle.std.proofs.Common.{◌≡◌, ℕ, ◌+◌, Bool, true, false, List, [], ◌∷◌, ◌++◌, length, set, refl, sym, ap, ◌∙◌, arith, append_assoc}
+use Rattle.std.proofs.Common.{◌≡◌, ℕ, ◌+◌, Bool, true, false, List, [], ◌∷◌, ◌++◌, length, set, refl, sym, ap, ◌∙◌, arith, append_assoc, subst}
 use Rattle.std.specs.Prelude.{if◌then◌else◌}
 use Rattle.std.proofs.lemmas.List.{length-append, length-set}
 use Rattle.std.proofs.Math.Seq.{set-append_seam}
 use Rattle.cyc_types.specs.declared.typed.LogicalOperator.TheVariants as logical
-use Rattle.cyc_types.specs.TypedTrees.{Expression, Statement}
+use Rattle.cyc_types.specs.TypedTrees.{Expression, Statement, While}
 use Rattle.cyc_plain.specs.declared.instruction.Instruction.{Instruction}
 use Rattle.cyc_plain.specs.declared.instruction.Instruction.TheVariants as instructions
 use Rattle.cyc_lower.specs.declared.operands.Condition.{Condition}
 use Rattle.cyc_lower.specs.declared.statements.Exits.{Exits}
 use Rattle.cyc_lower.specs.inside.Slots.{Starts}
-use Rattle.cyc_lower.specs.inside.ControlCode.{holding_jump, body_target, inside_loop, entry_code, entry_length, over_code, over_length}
-use Rattle.cyc_lower.specs.inside.Lowering.{is_guard, choice_code, choice_of, statement_code}
-use Rattle.cyc_lower.specs.inside.Emission.{begun_loop, entered_loop, loop_code}
+use Rattle.cyc_lower.specs.inside.ControlCode.{holding_jump, body_target, inside_loop, entry_code, entry_length, over_code, over_length, failing_jump, through_end}
+use Rattle.cyc_lower.specs.inside.Lowering.{is_guard, choice_code, choice_of, statement_code, goes_through}
+use Rattle.cyc_lower.specs.inside.Emission.{begun_loop, entered_loop, loop_code, through_loop}
+use Rattle.std.specs.declared.boxed.Box.{Box}
+use Rattle.std.specs.declared.alloc.Global.{Global as Heap}
+use Rattle.cyc_words.specs.declared.span.Span.{Span}
+use Rattle.cyc_syntax.specs.Symbols.{place_of_span}
+use Rattle.cyc_types.specs.declared.typed.Expr.{Expr}
+use Rattle.cyc_types.specs.declared.typed.Stmt.{Stmt}
+use Rattle.cyc_types.specs.declared.typed.Stmt.TheVariants as stmt
+use Rattle.cyc_types.specs.TypedTreeView.{view_expression, view_statement}
 
 pub entry_long : (guarded : Bool) (condition : List Instruction) (jump : ℕ → Instruction) (test p : ℕ) → length (entry_code guarded condition jump test p) ≡ entry_length guarded condition
 entry_long true condition jump test p = length-append condition (jump (p + length condition + 1 + 1) ∷ [])
@@ -141,3 +149,70 @@ module _ (starts : Starts) (a : Expression) (s : Statement) (exits : Exits) (d :
       ∙ ap (λ (b : List Instruction). old ++ (entry_code guarded condition jump r begin ++ (instructions.Jump (r + length (choice_code starts logical.AndThen a r d) + 1) ∷ ((b ++ after) ++ test ∷ [])))) body_is
       ∙ ap (λ (c : List Instruction). old ++ (entry_code guarded condition jump r begin ++ (instructions.Jump (r + length (choice_code starts logical.AndThen a r d) + 1) ∷ ((final ++ c) ++ test ∷ [])))) after_is
       ∙ ap (λ (i : Instruction). old ++ (entry_code guarded condition jump r begin ++ (instructions.Jump (r + length (choice_code starts logical.AndThen a r d) + 1) ∷ ((final ++ choice_code starts logical.AndThen a r d) ++ i ∷ [])))) test_is
+
+-- a loop whose condition in front leads to its end
+module _ (starts : Starts) (a : Expression) (s : Statement) (exits : Exits) (d : ℕ) (first last : Condition) (first_is : first ≡ choice_of starts logical.OrElse a d) (last_is : last ≡ choice_of starts logical.AndThen a d) (old : List Instruction) (y : Instruction) (m0 m1 m2 m3 m4 m5 m6 : List Instruction) (head over again end : ℕ) (here : head ≡ length old) where
+  pub made_through : m0 ≡ old ++ choice_code starts logical.OrElse a (length old) d → over ≡ length m0 → m1 ≡ m0 ++ y ∷ [] → again ≡ length m1 → m2 ≡ m1 ++ statement_code starts s (length m1) (inside_loop head head exits) d
+      → m3 ≡ m2 ++ choice_code starts logical.AndThen a (length m2) d → m4 ≡ m3 ++ holding_jump last again ∷ [] → m5 ≡ set m4 over (failing_jump first (length m4)) → end ≡ length m5 + 1 → m6 ≡ m5 ++ instructions.Jump end ∷ []
+      → m6 ≡ old ++ through_loop starts a s (length old) exits d
+  made_through e0 k0 e1 k1 e2 e3 e4 e5 k5 e6 =
+      let p = length old in
+      let front = choice_code starts logical.OrElse a p d in
+      let x = p + length front + 1 in
+      let body = statement_code starts s x (inside_loop p p exits) d in
+      let r = x + length body in
+      let condition = choice_code starts logical.AndThen a r d in
+      let back = holding_jump (choice_of starts logical.AndThen a d) x in
+      let finish = through_end front body condition p in
+      let leave = failing_jump (choice_of starts logical.OrElse a d) finish in
+      let inner = (body ++ condition) ++ back ∷ [] in
+      let l0 : length m0 ≡ p + length front = ap length e0 ∙ length-append old front in
+      let l1 : length m1 ≡ x = let e : length m1 ≡ length m0 + 1 = ap length e1 ∙ length-append m0 (y ∷ []) in omega (arith, e, l0) in
+      let b2 : m2 ≡ m1 ++ body
+      = e2
+      ∙ ap (λ (n : ℕ). m1 ++ statement_code starts s n (inside_loop head head exits) d) l1
+      ∙ ap (λ (n : ℕ). m1 ++ statement_code starts s x (inside_loop n n exits) d) here in
+      let l2 : length m2 ≡ r = let e : length m2 ≡ length m1 + length body = ap length b2 ∙ length-append m1 body in omega (arith, e, l1) in
+      let b3 : m3 ≡ m1 ++ (body ++ condition)
+      = e3 ∙ ap (λ (n : ℕ). m2 ++ choice_code starts logical.AndThen a n d) l2 ∙ ap (λ (l : List Instruction). l ++ condition) b2 ∙ append_assoc m1 body condition in
+      let turned : again ≡ x = k1 ∙ l1 in
+      let b4 : m4 ≡ m0 ++ (y ∷ inner)
+      = e4
+      ∙ ap (λ (n : ℕ). m3 ++ holding_jump last n ∷ []) turned
+      ∙ ap (λ (c : Condition). m3 ++ holding_jump c x ∷ []) last_is
+      ∙ ap (λ (l : List Instruction). l ++ back ∷ []) b3
+      ∙ append_assoc m1 (body ++ condition) (back ∷ [])
+      ∙ ap (λ (l : List Instruction). l ++ inner) e1
+      ∙ append_assoc m0 (y ∷ []) inner in
+      let l4 : length m4 ≡ finish
+      = let e : length m4 ≡ length m0 + length (y ∷ inner) = ap length b4 ∙ length-append m0 (y ∷ inner) in
+      let long : length inner ≡ length (body ++ condition) + 1 = length-append (body ++ condition) (back ∷ []) in
+      omega (arith, e, long, length-append body condition, l0) in
+      let b5 : m5 ≡ m0 ++ (leave ∷ inner)
+      = e5
+      ∙ ap (λ (n : ℕ). set m4 n (failing_jump first (length m4))) k0
+      ∙ ap (λ (n : ℕ). set m4 (length m0) (failing_jump first n)) l4
+      ∙ ap (λ (c : Condition). set m4 (length m0) (failing_jump c finish)) first_is
+      ∙ ap (λ (l : List Instruction). set l (length m0) leave) b4
+      ∙ set-append_seam m0 y inner leave in
+      let l5 : end ≡ finish + 1
+      = let e : length m5 ≡ length m4 = ap length e5 ∙ length-set m4 over (failing_jump first (length m4)) in omega (arith, e, l4, k5) in
+      let tail = instructions.Jump (finish + 1) ∷ [] in
+      e6
+      ∙ ap (λ (n : ℕ). m5 ++ instructions.Jump n ∷ []) l5
+      ∙ ap (λ (l : List Instruction). l ++ tail) b5
+      ∙ append_assoc m0 (leave ∷ inner) tail
+      ∙ ap (λ (l : List Instruction). m0 ++ (leave ∷ l)) (append_assoc (body ++ condition) (back ∷ []) tail)
+      ∙ ap (λ (l : List Instruction). l ++ (leave ∷ ((body ++ condition) ++ (back ∷ tail)))) e0
+      ∙ append_assoc old front (leave ∷ ((body ++ condition) ++ (back ∷ tail)))
+
+-- which of both it is
+module _ (starts : Starts) (value : Stmt) {w : Span} (e : Expr) (b : Box Stmt Heap) (is : value ≡ stmt.While w e b) (body : Stmt) (at : body ≡ b.value) (exits : Exits) (d : ℕ) (old new : List Instruction) where
+  while_viewed : (p : ℕ) → statement_code starts (While (place_of_span w) (view_expression e) (view_statement body)) p exits d ≡ statement_code starts (view_statement value) p exits d
+  while_viewed p = sym (ap (λ (x : Stmt). statement_code starts (view_statement x) p exits d) is ∙ ap (λ (z : Stmt). statement_code starts (While (place_of_span w) (view_expression e) (view_statement z)) p exits d) (sym at))
+
+  abbrev IsLoop : Bool → Type 0
+  IsLoop goes = new ≡ old ++ (if goes then through_loop starts (view_expression e) (view_statement body) (length old) exits d else loop_code starts (view_expression e) (view_statement body) (length old) exits d)
+
+  pub made_while : (goes : Bool) → goes ≡ goes_through starts (view_expression e) (view_statement body) → IsLoop goes → new ≡ old ++ statement_code starts (view_statement value) (length old) exits d
+  made_while goes goes_is made = subst IsLoop goes_is made ∙ ap (λ (l : List Instruction). old ++ l) (while_viewed (length old))

@@ -44,12 +44,13 @@ use Rattle.cyc_lower.proofs.place_steps.Sources.{IsApart}
 use Rattle.cyc_types.specs.declared.typed.UnaryOperator.TheVariants as unary
 use Rattle.cyc_plain.specs.declared.instruction.UnaryOperator.TheVariants as plain_unary
 use Rattle.cyc_plain.specs.declared.instruction.Request.TheVariants as requests
+use Rattle.cyc_meaning.specs.FrameCount.{words_of_all}
 
 -- the end of the second part
 pub cut : (p q : ℕ) (a b : List Instruction) → p + length (a ++ b) ≡ q → p + length a + length b ≡ q
 cut p q a b end = omega (arith, end, length-append a b)
 
-module _ (code : List Instruction) (b : Numbering) (types : Types) (raised : BlocksStand code types.raises) where
+module _ (code : List Instruction) (b : Numbering) (types : Types) (raised : BlocksStand code types.raises (words_of_all types.locals)) where
   -- ---- operands
 
   -- an operand without code, or code that stands here
@@ -96,7 +97,7 @@ module _ (code : List Instruction) (b : Numbering) (types : Types) (raised : Blo
   -- ---- expressions
 
   guard_stands : (tag : ℕ) (failing : Comparison) (l r : Operand) (p q : ℕ) → 1 ≤ tag → tag ≤ 4 → p + 1 ≡ q → HasAt code p (guard_code (starts_of types) tag failing l r) → GuardAt code b types tag failing l r p q
-  guard_stands tag failing l r p q some few end (jump, none) = (types.raises + tag, jump, raised p tag (instructions.Branch failing l r (types.raises + tag)) some few jump refl, end)
+  guard_stands tag failing l r p q some few end (jump, none) = (types.raises + 2 + tag, jump, raised.each p tag (instructions.Branch failing l r (types.raises + 2 + tag)) some few jump refl, end)
 
   pub freed_stands : (o : Operand) (p q : ℕ) → p + 2 ≡ q → HasAt code p (free_code o p) → FreedAt code b types o p q
   freed_stands o p q end (jump, (ask, none)) = (subst (λ t. At code p (jump_if_zero o t)) end jump, ask, omega (arith, end))
@@ -131,12 +132,13 @@ module _ (code : List Instruction) (b : Numbering) (types : Types) (raised : Blo
   summed_stands (Some bytes) n x t p q end (sum, none) = (sum, omega (arith, end))
 
   inside_stands : (n m p q : ℕ) → p + 3 ≡ q → HasAt code p (inside_code (starts_of types) n m p) → InsideAt code b types n m p q
-  inside_stands n m p q end (compare, (question, (jump, none))) = (
-    subst (λ (x : ℕ). At code p (instructions.Branch comparisons.LessUnsigned (operands.Slot m) (operands.Slot (n + 1)) x)) end compare,
-    (types.raises + null_exception, question, raised (p + 1) null_exception (instructions.Branch comparisons.Equal (operands.Slot n) (operands.Word 0) (types.raises + null_exception)) (omega arith) (omega arith) question refl),
-    (types.raises + array_bounds, subst (λ (x : ℕ). At code x (instructions.Jump (types.raises + array_bounds))) (let two : p + 1 + 1 ≡ p + 2 = omega arith in two) jump, raised (p + 1 + 1) array_bounds (instructions.Jump (types.raises + array_bounds)) (omega arith) (omega arith) jump refl),
-    end,
-  )
+  inside_stands n m p q end (compare, (question, (jump, none))) =
+      let last : At code (p + 2) (instructions.Jump (types.raises + 1)) = subst (λ (x : ℕ). At code x (instructions.Jump (types.raises + 1))) (let two : p + 1 + 1 ≡ p + 2 = omega arith in two) jump in (
+        subst (λ (x : ℕ). At code p (instructions.Branch comparisons.LessUnsigned (operands.Slot m) (operands.Slot (n + 1)) x)) end compare,
+        question,
+        (types.raises + 1, last, omega (arith, raised.within (p + 2) (instructions.Jump (types.raises + 1)) last (omega arith)), raised.told (p + 2) (instructions.Jump (types.raises + 1)) last refl),
+        end,
+      )
 
   pub reached_stands : (span : Option ℕ) (n m t p q : ℕ) → p + length (reached_code (starts_of types) span n m t p) ≡ q → HasAt code p (reached_code (starts_of types) span n m t p) → ReachedAt code b types span n m t p q
   reached_stands span n m t p q end has =

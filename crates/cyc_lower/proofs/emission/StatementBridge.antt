@@ -19,9 +19,9 @@ use Rattle.cyc_lower.specs.inside.Slots.{Types, starts_of, slot_of, global_of}
 use Rattle.cyc_lower.specs.inside.ValueCode.{passed_words, move_of, operand_or, slot_or, code_unless_slot, conversion_code, address_code, span_of, global_code, kind_passed}
 use Rattle.cyc_lower.specs.inside.ObjectCode.{right_slot, saved_code, load_at}
 use Rattle.cyc_lower.specs.inside.ControlCode.{failing_jump, holding_jump, break_target, continue_target, body_target, inside_loop, leave_code, other_jump, clause_code, kept_code, kept_code_in, restored_code, restored_code_in, behind_record}
-use Rattle.cyc_lower.specs.inside.ControlCode.{inside_try, closed_code, handlers_code, marks_code, try_code, opened_code, inside_region, dynamic_code, entry_code, entry_length, is_nothing, over_code, over_length}
+use Rattle.cyc_lower.specs.inside.ControlCode.{inside_try, closed_code, handlers_code, marks_code, try_code, opened_code, inside_region, dynamic_code, entry_code, entry_length, is_nothing, over_code, over_length, through_by, through_end, looped_code, breaks}
 use Rattle.cyc_lower.specs.inside.ExpressionCode.{source_of, operand_of, value_slot, converted_operand, printed_operand, expression_code, converted_operand_code, printed_code, place_operand, place_offset, place_code, brought_code}
-use Rattle.cyc_lower.specs.inside.Lowering.{assignment_code, assigned_operand, discarded_code, choice_code, choice_of}
+use Rattle.cyc_lower.specs.inside.Lowering.{assignment_code, assigned_operand, discarded_code, choice_code, choice_of, goes_through}
 use Rattle.cyc_lower.specs.inside.Lowering.{branch_code, branch_of, return_code, declaration_code, statement_code, items_code, results_of, side_code, read_side, write_side, exchange_code, swap_code, thrown_code, thrown_operand, caught_code, clauses_code, is_guard}
 use Rattle.cyc_lower.specs.declared.statements.Exits.{Exits}
 use Rattle.cyc_lower.specs.declared.statements.Opened.{Opened}
@@ -36,9 +36,17 @@ use Rattle.cyc_lower.proofs.emission.Loops.{entry_long, over_length_is}
 use Rattle.cyc_lower.proofs.emission.Blocks.{BlocksStand}
 use Rattle.cyc_lower.proofs.emission.OperandBridge.{cut, operand_by, returned_by, returned_brought, conversion_stands, each_stands, global_stands, load_stands, stores_stand, saved_stands, address_stands, blank_stands}
 use Rattle.cyc_lower.proofs.emission.ExpressionBridge.{expression_stands, place_stands, initial_stands, converted_operand_stands, printed_stands, brought_stands}
-use Rattle.cyc_lower.proofs.emission.ConditionBridge.{choice_follows, branch_stands}
+use Rattle.cyc_lower.proofs.emission.ConditionBridge.{choice_follows, branch_stands, choice_stands}
+use Rattle.cyc_meaning.specs.FrameCount.{words_of_all}
+use Rattle.std.specs.Prelude.{not, if◌then◌else◌}
+use Rattle.std.proofs.lemmas.Bool.{and_parts}
+use Rattle.cyc_lower.proofs.emission.Leaving.{leaving_free}
 
-module _ (code : List Instruction) (b : Numbering) (types : Types) (raised : BlocksStand code types.raises) where
+not_holds : (b : Bool) → not b ≡ true → b ≡ false
+not_holds false is = refl
+not_holds true is = absurd (let f : false ≡ true = is in cc)
+
+module _ (code : List Instruction) (b : Numbering) (types : Types) (raised : BlocksStand code types.raises (words_of_all types.locals)) where
   assignment_stands : (l : Lvalue) (c : Converted) (t p q : ℕ) → FitsPlace b types l (kind_passed c) → FitsConverted b types c → p + length (assignment_code (starts_of types) l c p t) ≡ q → HasAt code p (assignment_code (starts_of types) l c p t) → AssignmentAt code b types l c (assigned_operand (starts_of types) l c t) t p q
   assignment_stands (Local w n) c t p q (few, room) numbered end has = (refl, room, initial_stands code b types raised c (slot_of (starts_of types) n) t p q numbered end has)
   assignment_stands (Global n) c t p q room numbered end has =
@@ -89,7 +97,7 @@ module _ (code : List Instruction) (b : Numbering) (types : Types) (raised : Blo
   -- what leads into a loop
   entry_stands : (guarded : Bool) (a : Expression) (exits : Exits) (t p l r : ℕ) → Fits b types a → l ≡ p + entry_length guarded (choice_code (starts_of types) logical.AndThen a p t) → p < r
       → HasAt code p (entry_code guarded (choice_code (starts_of types) logical.AndThen a p t) (holding_jump (choice_of (starts_of types) logical.AndThen a t)) r p)
-      → EntryAt code b types a (inside_loop p l exits) t r
+      → EntryAt code b types a (inside_loop p l exits) (body_target l) t r
   entry_stands true a exits t p l r numbered at before has =
       let first = choice_code (starts_of types) logical.AndThen a p t in
       let m = p + length first in
@@ -256,6 +264,12 @@ module _ (code : List Instruction) (b : Numbering) (types : Types) (raised : Blo
   caught_stands None t p q numbered end has = omega (arith, end)
   caught_stands (Some n) t p q (few, room) end (here, none) = (few, room, here, end)
 
+  -- one of two codes
+  either_stands : (chosen : Bool) (x y : List Instruction) (p q : ℕ) (stands : Type 0) → p + length (if chosen then x else y) ≡ q → HasAt code p (if chosen then x else y)
+      → (chosen ≡ true → p + length x ≡ q → HasAt code p x → stands) → (p + length y ≡ q → HasAt code p y → stands) → stands
+  either_stands true x y p q stands end has first second = first refl end has
+  either_stands false x y p q stands end has first second = second end has
+
   mutual
     statement_stands : (s : Statement) (in_loop : Bool) (exits : Exits) (d p q : ℕ) → FitsStatement b types in_loop s → p + length (statement_code (starts_of types) s p exits d) ≡ q → HasAt code p (statement_code (starts_of types) s p exits d) → StatementAt code b types s exits d p q
     statement_stands (Block r js) in_loop exits d p q numbered end has = items_stand js in_loop exits d p q numbered end has
@@ -294,6 +308,39 @@ module _ (code : List Instruction) (b : Numbering) (types : Types) (raised : Blo
         over_stands Empty r q end has = inl (omega (arith, end))
         over_stands u r q end (jump, none) = inr (subst (λ x. At code r (instructions.Jump x)) end jump)
     statement_stands (While w a s) in_loop exits t p q (numbered_a, numbered_s) end has =
+        let front = choice_code (starts_of types) logical.OrElse a p t in
+        let x = p + length front + 1 in
+        let within = statement_code (starts_of types) s x (inside_loop p p exits) t in
+        let second = choice_code (starts_of types) logical.AndThen a (x + length within) t in
+        either_stands (goes_through (starts_of types) a s)
+        (through_by front (failing_jump (choice_of (starts_of types) logical.OrElse a t)) within second (holding_jump (choice_of (starts_of types) logical.AndThen a t) x) p)
+        (looped_code (is_guard (starts_of types) a) (λ n. choice_code (starts_of types) logical.AndThen a n t) (λ leaving. statement_code (starts_of types) s (body_target leaving) (inside_loop p leaving exits) t) (holding_jump (choice_of (starts_of types) logical.AndThen a t)) p)
+        p q (StatementAt code b types (While w a s) exits t p q) end has
+        (λ goes end has.
+        let none = not_holds (breaks s) (and_parts (is_guard (starts_of types) a) (not (breaks s)) goes).1 in
+        let finish = through_end front within second p in
+        let leave = failing_jump (choice_of (starts_of types) logical.OrElse a t) finish in
+        let rest = holding_jump (choice_of (starts_of types) logical.AndThen a t) x ∷ instructions.Jump (finish + 1) ∷ [] in
+        let inner = (within ++ second) ++ rest in
+        let (leaves, has_inner) = has_back code p front (leave ∷ inner) has in
+        let has_both = has_front code x (within ++ second) rest has_inner in
+        let r = x + length within in
+        let u = r + length second in
+        let long = length-append within second in
+        let place : x + length (within ++ second) ≡ u = omega (arith, long) in
+        let (back, (jump, nothing)) = subst (λ n. HasAt code n rest) place (has_back code x (within ++ second) rest has_inner) in
+        let end_is : finish + 1 ≡ q = omega (arith, end, length-append front (leave ∷ inner), length-append (within ++ second) rest, long) in
+        let over : At code (u + 1) (instructions.Jump q) = subst (λ n. At code (u + 1) (instructions.Jump n)) end_is jump in (
+          finish,
+          x,
+          r,
+          inl (choice_stands code b types raised a finish t p (p + length front) numbered_a refl (has_front code p front (leave ∷ inner) has) leaves),
+          subst (λ n. At code n (instructions.Jump q)) (let last : u + 1 ≡ finish = omega arith in last) over,
+          leaving_free code b types s (inside_loop p p exits) finish t x r none (statement_stands s true (inside_loop p p exits) t x r numbered_s refl (has_front code x within second has_both)),
+          (u + 1, choice_follows code b types raised a x t r u numbered_a refl (has_back code x within second has_both) back, inr over),
+          omega (arith, end_is),
+        ))
+        (λ end has.
         let guarded = is_guard (starts_of types) a in
         let first = choice_code (starts_of types) logical.AndThen a p t in
         let jump : ℕ → Instruction = λ n. holding_jump (choice_of (starts_of types) logical.AndThen a t) n in
@@ -314,14 +361,19 @@ module _ (code : List Instruction) (b : Numbering) (types : Types) (raised : Blo
         let (again, none) = has_back code (body_target l) (body ++ condition) test inner_at in
         let end_is : m + 1 ≡ q = omega (arith, end, whole, long, all, entered) in (
           l,
+          body_target l,
           r,
           entry_stands guarded a exits t p l r numbered_a refl (omega arith) (has_front code p entry (instructions.Jump (m + 1) ∷ inner) has),
           subst (λ x. At code l (instructions.Jump x)) end_is leave,
           statement_stands s true (inside_loop p l exits) t (body_target l) r numbered_s refl (has_front code (body_target l) body condition front_has),
-          subst (λ x. BranchesAt code b types a x (body_target l) t r) end_is
-              (choice_follows code b types raised a (body_target l) t r m numbered_a refl (has_back code (body_target l) body condition front_has) (subst (λ x. At code x (jump (body_target l))) (let e : body_target l + length (body ++ condition) ≡ m = omega (arith, long) in e) again)),
+          (
+            q,
+            subst (λ x. BranchesAt code b types a x (body_target l) t r) end_is
+                (choice_follows code b types raised a (body_target l) t r m numbered_a refl (has_back code (body_target l) body condition front_has) (subst (λ x. At code x (jump (body_target l))) (let e : body_target l + length (body ++ condition) ≡ m = omega (arith, long) in e) again)),
+            inl refl,
+          ),
           omega (arith, end_is),
-        )
+        ))
     statement_stands (Return v) in_loop exits d p q numbered end has = return_stands v exits d p q numbered end has
     statement_stands Break in_loop exits d p q numbered end has =
         let leave = leave_code exits.in_loop in

@@ -59,7 +59,7 @@ module _ (source : Program) where
       → (exits.in_loop ≡ opened_by source true g k) × (exits.in_function ≡ opened_by source false g k)
   record_left g exits p frames (Rest items ∷ k) (q, at, stack) = record_left g exits q frames k stack
   record_left g exits p frames (Join ∷ k) (q, at, stack) = record_left g exits q frames k stack
-  record_left g exits p frames (Loop condition body ∷ k) (outer, q, (loop_is, function_is, entry, leave, at_s, again, after), stack) = (loop_is, function_is ∙ (record_left g outer q frames k stack).1)
+  record_left g exits p frames (Loop condition body ∷ k) (outer, q, (b, loop_is, function_is, entry, leave, at_s, again, after), stack) = (loop_is, function_is ∙ (record_left g outer q frames k stack).1)
   record_left g exits p frames (CloseRegion region home ∷ k) (q, at, stack) = record_left g exits q frames k stack
   record_left g exits p frames (Handler handler ∷ k) (outer, q, is, leave, jump, stack) =
       let (in_loop, in_function) = record_left g outer q frames k stack in (

@@ -5,7 +5,6 @@ use Rattle.std.specs.Prelude.{◌==◌, nat_lt, if◌then◌else◌}
 use Rattle.std.proofs.lemmas.Bool.{le-leb, and_from, cases_Bool, eqb-true}
 use Rattle.std.proofs.Math.Nat.{le-max_left}
 use Rattle.cyc_words.specs.Word.{add_of}
-use Rattle.cyc_words.specs.Demand.{demand_of}
 use Rattle.cyc_words.proofs.Numbers.{max_one_within, nat_le-beyond}
 use Rattle.cyc_types.specs.declared.typed.Kind.{Kind}
 use Rattle.cyc_types.specs.declared.typed.Kind.TheVariants as kinds
@@ -30,14 +29,13 @@ use Rattle.cyc_meaning.specs.Values.{Thin, Operand as Kinded, Cell, kinds_of, is
 use Rattle.cyc_meaning.specs.Allocation.{writes_from, blanks_of, filled, makes_of}
 use Rattle.cyc_meaning.specs.Objects.{made_in, made_unique, created, created_in}
 use Rattle.cyc_meaning.specs.inside.Effects.{pages_of}
-use Rattle.cyc_meaning.specs.State.{Region, Owner, InRegion, Unique, World, Access, Found, Closed, Missing, region_at, counted, cell_at, written, Environment, MakePlain, MakeFields, ConvertTo, Write, Entry, Needs, Focus, Evaluating, Given, Writing, Running}
+use Rattle.cyc_meaning.specs.State.{Region, Owner, InRegion, Unique, World, Access, Found, Closed, Missing, region_at, cell_at, written, Environment, MakePlain, MakeFields, ConvertTo, Write, Entry, Needs, Focus, Evaluating, Given, Writing, Running}
 use Rattle.cyc_meaning.specs.Step.{wrong, stored, target_by, step}
 use Rattle.cyc_objects.specs.inside.Tables.{Placed, Tables, with_row, Grows}
 use Rattle.cyc_objects.specs.inside.Words.{bytes_of_kinds, before, Points, Is, AreBlank}
 use Rattle.cyc_objects.specs.inside.Related as objects
 use Rattle.cyc_objects.proofs.Places.{before-all, before-first, before-inside, before-joined, bytes-joined}
 use Rattle.cyc_objects.proofs.Values.{Grows-row}
-use Rattle.cyc_objects.proofs.RegionLemmas.{counted-same}
 use Rattle.cyc_objects.proofs.Making.{open-home, allocated, allocated-unique, refusal-allocate, refusal-unique, operands-blank, row-made, placed-range, room-fits}
 use Rattle.cyc_lower.proofs.slots.Widths.{kind_positive, wide_kind, Outside}
 use Rattle.cyc_lower.proofs.relation.code.Stands.{StoresAt, CellsAt, ObjectAt}
@@ -187,10 +185,6 @@ object_made : (a : Access World) (object : ℕ) (vs : List Kinded) (k : List Ent
 object_made (Found made) object vs k e w well = (made, refl)
 object_made Closed object vs k e w well = absurd (well refl)
 object_made Missing object vs k e w well = absurd (well refl)
-
--- the store asks for as many pages as the source
-demand_is : {t : Tables} {w : World} {s : StoreState} → objects.Related t w s → demand s ≡ pages_of w
-demand_is {t} {w} {s} related = ap (λ l. demand_of l s.classes) (sym (counted-same related.regions)) ∙ ap (demand_of (counted w.regions)) related.classes
 
 module _ (source : Program) (pages calls : ℕ) where
   -- ---- an object is made

@@ -1,9 +1,9 @@
 -- Accesses by fat pointers: the pointer is tested, its index is compared with its length, and the address of the cell at the index is
 -- computed. A pointer to a struct stands at the struct itself where the source does not go wrong.
 use Rattle.std.proofs.Common.{◌≡◌, ◌≢◌, ℕ, zero, suc, ◌+◌, ◌*◌, ◌≤◌, ◌<◌, Bool, true, false, List, [], ◌∷◌, ◌++◌, Option, None, Some, slice_get, refl, sym, ap, subst, ◌∙◌, arith, inl, inr}
-use Rattle.std.specs.Prelude.{◌==◌, ◌&&◌, nat_lt, nat_le, if◌then◌else◌, option_map}
+use Rattle.std.specs.Prelude.{◌==◌, ◌&&◌, nat_lt, nat_le, if◌then◌else◌, option_map, not}
 use Rattle.std.proofs.lemmas.Bool.{false_from_ne_true, eq-eqb, ne_eqb, eqb-true, cases_Bool, ltb-true, ltb-false, le-leb, lt-leb, and_parts}
-use Rattle.cyc_words.specs.Word.{add_of, mul_of, shl_of}
+use Rattle.cyc_words.specs.Word.{add_of, mul_of, shl_of, IsWord as IsNumber}
 use Rattle.cyc_words.proofs.Items.{slice_get-map}
 use Rattle.cyc_types.specs.declared.typed.Kind.{Kind}
 use Rattle.cyc_types.specs.declared.typed.Kind.TheVariants as kinds
@@ -41,9 +41,9 @@ use Rattle.cyc_lower.proofs.relation.contents.Moves.{put_elsewhere}
 use Rattle.cyc_lower.proofs.relation.code.Stands.{InsideAt, SteppedAt, ReachedBy, ReachedAt, FollowedAt, ValueAt}
 use Rattle.cyc_lower.proofs.relation.contents.HeldValues.{IsIn, IsLow, Holds, held, IsParts}
 use Rattle.cyc_lower.proofs.relation.simulation.Relation.{as_operand, DataIn, SharedAt, Matches, ReadyAt, as_right, in_parts}
-use Rattle.cyc_lower.proofs.relation.simulation.Stacks.{types_at, types_on, floor, ValueStack, PlaceStack, code_of, bounds_at, top}
+use Rattle.cyc_lower.proofs.relation.simulation.Stacks.{types_at, types_on, floor, ValueStack, PlaceStack, code_of, bounds_at, top, base_of}
 use Rattle.cyc_lower.proofs.relation.contents.Data.{Is-same, height-least, Holds-same, in_words}
-use Rattle.cyc_lower.proofs.relation.contents.HandlerData.{data_written}
+use Rattle.cyc_lower.proofs.relation.contents.HandlerData.{data_written, data_told}
 use Rattle.cyc_lower.proofs.relation.simulation.Accesses.{IsWell, is_fitting}
 use Rattle.cyc_lower.proofs.place_steps.PlaceWords.{narrow_element, byte_element, wide_element, stays}
 use Rattle.cyc_lower.proofs.relation.simulation.Matched.{IsMatched, silently, by_one}
@@ -51,6 +51,7 @@ use Rattle.cyc_lower.proofs.handler_steps.Handling.{raised}
 use Rattle.cyc_lower.proofs.pointer_steps.PointerSteps.{int_word, is_moved, outside_index}
 use Rattle.cyc_lower.proofs.relation.simulation.Paths.{Link, IsPath, end_of, end_joined, path_joined, is_quiet, by_path}
 use Rattle.cyc_lower.proofs.value_steps.ValueWords.{goes_wrong, branch_taken, branch_passed}
+use Rattle.cyc_plain.specs.inside.Operators.{truth}
 
 -- ---- the words of an access
 
@@ -129,6 +130,16 @@ elsewhere slots t far x y m out =
 scaled_elsewhere : (slots : Words) (t x m : ℕ) → Outside t 4 m → put slots (t + 3) x m ≡ slots m
 scaled_elsewhere slots t x m (inl short) = put-other slots (t + 3) m x (λ same. absurd (omega (arith, same, short)))
 scaled_elsewhere slots t x m (inr long) = put-other slots (t + 3) m x (λ same. absurd (omega (arith, same, long)))
+
+-- the exception that an access outside raises, by the first word of its pointer
+abbrev failing_tag : (word : ℕ) → ℕ
+failing_tag word = add_of (truth (not (word == 0))) null_exception
+
+null_tag : (word : ℕ) → word ≡ 0 → failing_tag word ≡ null_exception
+null_tag word is_zero = ap (λ (b : Bool). add_of (truth (not b)) null_exception) (eq-eqb word 0 is_zero)
+
+other_tag : (word : ℕ) → word ≢ 0 → failing_tag word ≡ array_bounds
+other_tag word some = ap (λ (b : Bool). add_of (truth (not b)) null_exception) (ne_eqb word 0 some)
 
 -- ---- the instructions of an access
 
@@ -278,31 +289,54 @@ module _ (source : Program) (pages calls : ℕ) where
     within_path : nat_lt (b.active.slots m) (b.active.slots (n + 1)) ≡ true → IsPath source b (within ∷ [])
     within_path less = (here.0, (λ choice. branch_taken b (nat_lt (b.active.slots m) (b.active.slots (n + 1))) u less), omega (arith, here.3), is_quiet b (at b u).active, tt)
 
-    -- null raises its exception
-    stops_null : (shared_behind : SharedAt source pages calls k e w b) → DataIn source shared_behind.tables b.active.slots k e w b → b.active.slots n ≡ 0 → nat_lt (b.active.slots m) (b.active.slots (n + 1)) ≡ false
-        → step source (Running focus k₀ e w) ≡ Running (Throwing null_exception 0) k e w → IsMatched source pages calls (Running focus k₀ e w) (plain.Running c)
-    stops_null shared_behind facts is_zero least does =
-        let (block, question, raise) = here.1 in
-        by_path_from focus k₀ e w c b (Running (Throwing null_exception 0) k e w) first (outside ∷ []) (instructions.Branch comparisons.Equal (operands.Slot n) (operands.Word 0) block) does shared path ends (outside_path least [] tt) question
-        (λ choice. subst (Matches source pages calls (Running (Throwing null_exception 0) k e w)) (sym (branch_taken (at b (b.active.next + 1)) (b.active.slots n == 0) block (eq-eqb (b.active.slots n) 0 is_zero)))
-        (raised source pages calls null_exception 0 k e w (at b block) (operands.Word null_exception) (operands.Word 0) (omega arith) shared_behind facts raise refl refl))
+    -- what tells which exception the access raises comes to the slot behind the locals, and then the number of the exception
+    abbrev tag_slot : ℕ
+    tag_slot = base_of source b.active.function
 
-    -- and an index past the length of any other pointer the other one
-    stops_past : (shared_behind : SharedAt source pages calls k e w b) → DataIn source shared_behind.tables b.active.slots k e w b → b.active.slots n ≢ 0 → nat_lt (b.active.slots m) (b.active.slots (n + 1)) ≡ false
-        → step source (Running focus k₀ e w) ≡ Running (Throwing array_bounds 0) k e w → IsMatched source pages calls (Running focus k₀ e w) (plain.Running c)
-    stops_past shared_behind facts some least does =
-        let (block, question, raised_null) = here.1 in
-        let (other, jump, raise) = here.2 in
-        let asked : Link = record { instruction = instructions.Branch comparisons.Equal (operands.Slot n) (operands.Word 0) block; behind = at b (b.active.next + 2) } in
-        by_path_from focus k₀ e w c b (Running (Throwing array_bounds 0) k e w) first (outside ∷ asked ∷ []) (instructions.Jump other) does shared path ends
-        (outside_path least (asked ∷ []) (
-          question,
-          (λ choice. branch_passed (at b (b.active.next + 1)) (b.active.slots n == 0) block (ne_eqb (b.active.slots n) 0 some) ∙ ap (λ i. plain.Running (at b i)) (let two : b.active.next + 1 + 1 ≡ b.active.next + 2 = omega arith in two)),
+    abbrev asked : Words
+    asked = put b.active.slots tag_slot (truth (not (b.active.slots n == 0)))
+
+    abbrev told : Words
+    told = put asked tag_slot (add_of (asked tag_slot) null_exception)
+
+    told_elsewhere : (i : ℕ) → Outside tag_slot 1 i → told i ≡ b.active.slots i
+    told_elsewhere i out = put-other asked tag_slot i (add_of (asked tag_slot) null_exception) (apart i out) ∙ put-other b.active.slots tag_slot i (truth (not (b.active.slots n == 0))) (apart i out)
+      where
+        apart : (i : ℕ) → Outside tag_slot 1 i → i ≢ tag_slot
+        apart i (inl short) same = absurd (omega (arith, same, short))
+        apart i (inr long) same = absurd (omega (arith, same, long))
+
+    told_tag : told tag_slot ≡ failing_tag (b.active.slots n)
+    told_tag = put-same asked tag_slot (add_of (asked tag_slot) null_exception) ∙ ap (λ (x : ℕ). add_of x null_exception) (put-same b.active.slots tag_slot (truth (not (b.active.slots n == 0))))
+
+    abbrev asking_links : List Link
+    asking_links =
+        record { instruction = instructions.Binary plain_binary.NotEqual tag_slot (operands.Slot n) (operands.Word 0); behind = at (with_slots b asked) (b.active.next + 2) }
+        ∷ record { instruction = instructions.Jump here.2.0; behind = at (with_slots b asked) here.2.0 }
+        ∷ []
+
+    asking_path : nat_lt (b.active.slots m) (b.active.slots (n + 1)) ≡ false → IsPath source b (outside ∷ asking_links)
+    asking_path least =
+        let (x, jump, on, told_there) = here.2 in
+        let third : Configuration = at (with_slots b asked) (b.active.next + 2) in
+        let fourth : Configuration = at (with_slots b asked) x in
+        outside_path least asking_links (
+          here.1,
+          (λ choice. ap (λ i. plain.Running (at (with_slots b asked) i)) (let two : b.active.next + 1 + 1 ≡ b.active.next + 2 = omega arith in two)),
           omega arith,
-          is_quiet (at b (b.active.next + 1)) (at b (b.active.next + 2)).active,
-          tt,
-        ))
-        jump (λ choice. raised source pages calls array_bounds 0 k e w (at b other) (operands.Word array_bounds) (operands.Word 0) (omega arith) shared_behind facts raise refl refl)
+          is_quiet (at b (b.active.next + 1)) third.active,
+          (jump, (λ choice. refl), on, is_quiet third fourth.active, tt),
+        )
+
+    -- an index past the length raises an exception: that of null, or the other one
+    stops_outside : (tag : ℕ) → IsNumber tag → failing_tag (b.active.slots n) ≡ tag → (shared_behind : SharedAt source pages calls k e w b) → DataIn source shared_behind.tables b.active.slots k e w b → nat_lt (b.active.slots m) (b.active.slots (n + 1)) ≡ false
+        → step source (Running focus k₀ e w) ≡ Running (Throwing tag 0) k e w → IsMatched source pages calls (Running focus k₀ e w) (plain.Running c)
+    stops_outside tag number tag_is shared_behind facts least does =
+        let (x, jump, on, (sum, (throw, none))) = here.2 in
+        let last : Configuration = at (with_slots b told) (x + 1) in
+        let told_facts = data_told source shared_behind.tables b.active.function b.active.base w.objects e.locals k b.active.slots told b.active.handlers b.globals b.frames told_elsewhere facts in
+        by_path_from focus k₀ e w c b (Running (Throwing tag 0) k e w) first (outside ∷ asking_links) (instructions.Binary plain_binary.Add tag_slot (operands.Slot tag_slot) (operands.Word null_exception)) does shared path ends (asking_path least) sum
+        (λ choice. raised source pages calls tag 0 k e w last (operands.Slot tag_slot) (operands.Word 0) number shared_behind told_facts throw (told_tag ∙ tag_is) refl)
 
     -- the access goes on
     goes_on : (next : State) → nat_lt (b.active.slots m) (b.active.slots (n + 1)) ≡ true → step source (Running focus k₀ e w) ≡ next → Matches source pages calls next (plain.Running (at b u))
@@ -437,30 +471,18 @@ module _ (source : Program) (pages calls : ℕ) where
             )))
 
     -- past the length
-    stops_there : (x : Value) (shared : SharedAt source pages calls k e w c) → DataIn source shared.tables c.active.slots k e w c → (n ≤ free) × (m < free + 3) → c.active.slots n ≢ 0 → nat_lt (c.active.slots m) (c.active.slots (n + 1)) ≡ false
+    stops_there : (tag : ℕ) (x : Value) → IsNumber tag → failing_tag (c.active.slots n) ≡ tag → (shared : SharedAt source pages calls k e w c) → DataIn source shared.tables c.active.slots k e w c → (n ≤ free) × (m < free + 3)
+        → nat_lt (c.active.slots m) (c.active.slots (n + 1)) ≡ false
         → ReachedAt (code_of source c.active.function) (bounds_at source c.active.function) (types_at source c.active.function) span_there n m free c.active.next q
-        → step source (Running (Given (given x)) waiting e w) ≡ Running (Throwing array_bounds 0) k e w → IsMatched source pages calls (Running (Given (given x)) waiting e w) (plain.Running c)
-    stops_there x shared facts low some least here does = by span_there here
+        → step source (Running (Given (given x)) waiting e w) ≡ Running (Throwing tag 0) k e w → IsMatched source pages calls (Running (Given (given x)) waiting e w) (plain.Running c)
+    stops_there tag x number tag_is shared facts low least here does = by span_there here
       where
         by : (span : Option ℕ) → ReachedAt (code_of source c.active.function) (bounds_at source c.active.function) (types_at source c.active.function) span n m free c.active.next q
             → IsMatched source pages calls (Running (Given (given x)) waiting e w) (plain.Running c)
-        by None here = stops_past (Given (given x)) waiting k e w c c [] tt refl n m here.1 shared (inside_first here) shared facts some least does
+        by None here = stops_outside (Given (given x)) waiting k e w c c [] tt refl n m here.1 shared (inside_first here) tag number tag_is shared facts least does
         by (Some bytes) here =
-            stops_past (Given (given x)) waiting k e w c (behind_scaling c bytes n m free q here low.0 low.1) (scaling c bytes n m free q here low.0 low.1) (scaling_path c bytes n m free q here low.0 low.1) refl n m here.1 shared here.3
-            shared (scaled_facts bytes shared facts) (λ zero. some (sym (pointer_stays c bytes n m free q here low.0 low.1) ∙ zero)) (below_stays c bytes n m free q here low.0 low.1 false least) does
-
-    -- null
-    stops_at_null : (x : Value) (shared : SharedAt source pages calls k e w c) → DataIn source shared.tables c.active.slots k e w c → (n ≤ free) × (m < free + 3) → c.active.slots n ≡ 0 → nat_lt (c.active.slots m) (c.active.slots (n + 1)) ≡ false
-        → ReachedAt (code_of source c.active.function) (bounds_at source c.active.function) (types_at source c.active.function) span_there n m free c.active.next q
-        → step source (Running (Given (given x)) waiting e w) ≡ Running (Throwing null_exception 0) k e w → IsMatched source pages calls (Running (Given (given x)) waiting e w) (plain.Running c)
-    stops_at_null x shared facts low is_zero least here does = by span_there here
-      where
-        by : (span : Option ℕ) → ReachedAt (code_of source c.active.function) (bounds_at source c.active.function) (types_at source c.active.function) span n m free c.active.next q
-            → IsMatched source pages calls (Running (Given (given x)) waiting e w) (plain.Running c)
-        by None here = stops_null (Given (given x)) waiting k e w c c [] tt refl n m here.1 shared (inside_first here) shared facts is_zero least does
-        by (Some bytes) here =
-            stops_null (Given (given x)) waiting k e w c (behind_scaling c bytes n m free q here low.0 low.1) (scaling c bytes n m free q here low.0 low.1) (scaling_path c bytes n m free q here low.0 low.1) refl n m here.1 shared here.3
-            shared (scaled_facts bytes shared facts) (pointer_stays c bytes n m free q here low.0 low.1 ∙ is_zero) (below_stays c bytes n m free q here low.0 low.1 false least) does
+            stops_outside (Given (given x)) waiting k e w c (behind_scaling c bytes n m free q here low.0 low.1) (scaling c bytes n m free q here low.0 low.1) (scaling_path c bytes n m free q here low.0 low.1) refl n m here.1 shared here.3
+            tag number (ap failing_tag (pointer_stays c bytes n m free q here low.0 low.1) ∙ tag_is) shared (scaled_facts bytes shared facts) (below_stays c bytes n m free q here low.0 low.1 false least) does
 
     pub follows_parts : (x : Value) → IsWell (step source (Running (Given (given x)) waiting e w)) → (shared : SharedAt source pages calls k e w c) → DataIn source shared.tables c.active.slots k e w c
         → IsParts shared.tables x c.active.slots n m → Holds shared.tables c.active.slots (floor source c.active.function k) (held k) → (n ≤ free) × (m < free + 3)
@@ -468,7 +490,7 @@ module _ (source : Program) (pages calls : ℕ) where
         → PlaceStack source c.active.function e.locals (reached_operand span_there n free) 0 q c.frames k
         → IsMatched source pages calls (Running (Given (given x)) waiting e w) (plain.Running c)
     follows_parts Null well shared facts is holds low here place =
-        stops_at_null Null shared facts low is.0 (false_from_ne_true (nat_lt (c.active.slots m) (c.active.slots (n + 1))) (λ less. omega (arith, is.1, ltb-true (c.active.slots m) (c.active.slots (n + 1)) less))) here
+        stops_there null_exception Null (omega arith) (null_tag (c.active.slots n) is.0) shared facts low (false_from_ne_true (nat_lt (c.active.slots m) (c.active.slots (n + 1))) (λ less. omega (arith, is.1, ltb-true (c.active.slots m) (c.active.slots (n + 1)) less))) here
         (arrives_so Null (Stops null_exception) well refl)
     follows_parts (Fat object start count index) well shared facts (part, count_is, index_is) holds low here place =
         let slots = c.active.slots in
@@ -483,7 +505,7 @@ module _ (source : Program) (pages calls : ℕ) where
               (subst (λ (y : Reach). leads_to w target y ≡ true) reach (leads_there x well)) facts holds low here place
           | inr least ↦
               let reach : followed x ≡ Stops array_bounds = ap (λ (b : Bool). if b then reaches.At object (start + index) else Stops array_bounds) (sym same ∙ least) in
-              stops_there x shared facts low some least here (arrives_so x (Stops array_bounds) well reach)
+              stops_there array_bounds x (omega arith) (other_tag (slots n) some) shared facts low least here (arrives_so x (Stops array_bounds) well reach)
         ]
     follows_parts x well shared facts is holds low here place = absurd is
 

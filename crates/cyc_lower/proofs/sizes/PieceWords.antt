@@ -160,8 +160,8 @@ taken_words zero code words = tt
 taken_words (suc n) [] words = tt
 taken_words (suc n) (i ∷ code) (first, rest) = (first, taken_words n code rest)
 
-pub blocks_words : HaveWords blocks
-blocks_words = ((omega arith, omega arith), ((omega arith, omega arith), ((omega arith, omega arith), ((omega arith, omega arith), tt))))
+pub blocks_words : (slot : ℕ) → HaveWords (blocks slot)
+blocks_words slot = ((tt, omega arith), ((tt, omega arith), ((omega arith, omega arith), ((omega arith, omega arith), ((omega arith, omega arith), ((omega arith, omega arith), tt))))))
 
 pub move_words : (words d : ℕ) (o : Operand) → IsOfWord o → HaveWords (move_of words d o ∷ [])
 move_words words d (operands.Word n) word = (word, tt)

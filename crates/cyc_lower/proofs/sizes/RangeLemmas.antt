@@ -15,10 +15,11 @@ use Rattle.cyc_words.proofs.Items.{slice_get_last_behind, slice_get_last_cases}
 use Rattle.cyc_meaning.specs.Values.{kind_of, words_of_kind}
 use Rattle.cyc_meaning.specs.FrameCount.{operand_words, converted_words, argument_words, words_of_all, initial_value_need}
 use Rattle.cyc_lower.specs.inside.Slots.{counted, Types, slot_in}
-use Rattle.cyc_lower.specs.inside.ValueCode.{all_passed, kind_passed, blocks}
-use Rattle.cyc_lower.specs.inside.Lowering.{spare_slots, results_of, target_of, farthest, with_blocks}
-use Rattle.cyc_lower.proofs.slots.Widths.{kind_positive, kind_few, type_words, kind_of_result, passed_is}
+use Rattle.cyc_lower.specs.inside.ValueCode.{all_passed, kind_passed, raising, blocks}
+use Rattle.cyc_lower.specs.inside.Lowering.{spare_slots, results_of, target_of, farthest, blocks_kept, with_blocks}
+use Rattle.cyc_lower.proofs.slots.Widths.{kind_few, type_words, kind_of_result, passed_is}
 use Rattle.cyc_lower.proofs.slots.Slots.{words_positive}
+use Rattle.cyc_meaning.specs.Operators.{null_exception, array_bounds, array_size, division_by_zero}
 
 -- ---- words
 
@@ -26,9 +27,6 @@ pub operand_positive : (t : ValueType) → 1 ≤ operand_words t
 operand_positive Void = omega arith
 operand_positive Null = omega arith
 operand_positive (Value t) = words_positive t
-
-converted_positive : (c : Converted) → 1 ≤ converted_words c
-converted_positive (Convert from to a) = omega (arith, kind_positive from)
 
 pub converted_least : (c : Converted) → words_of_kind (kind_passed c) ≤ converted_words c
 converted_least (Convert from to a) = omega arith
@@ -64,6 +62,10 @@ levels_inside r types levels slot inside l other found = elim (slice_get_last_ca
 ]
 
 -- ---- instructions
+
+-- behind the body of a function stand all blocks, and behind its locals a slot
+abbrev pub HasEnd : Routine → Types → Type 0
+HasEnd r types = (types.raises + 6 < length r.code) × (words_of_all types.locals < r.slots)
 
 -- what the functions of a program have, which the bounds of a function name
 pub record IsKnown (program : PlainProgram) (n : ℕ) (s : Signature) : Type 0 where
@@ -150,29 +152,38 @@ module _ (program : PlainProgram) (r : Routine) (longer : List Instruction) (loc
   all_cut [] least inside = tt
   all_cut (i ∷ code) least (first, rest) = (one_cut i (omega (arith, least)) first, all_cut code (omega (arith, least)) rest)
 
--- blocks name nothing that could be missing
-pub blocks_in : (program : PlainProgram) (r : Routine) (locals : List Ty) (n : ℕ) → AllByRecursion (IsIn program r locals) (take n blocks)
-blocks_in program r locals zero = tt
-blocks_in program r locals (suc zero) = ((tt, tt), tt)
-blocks_in program r locals (suc (suc zero)) = ((tt, tt), ((tt, tt), tt))
-blocks_in program r locals (suc (suc (suc zero))) = ((tt, tt), ((tt, tt), ((tt, tt), tt)))
-blocks_in program r locals (suc (suc (suc (suc zero)))) = ((tt, tt), ((tt, tt), ((tt, tt), ((tt, tt), tt))))
-blocks_in program r locals (suc (suc (suc (suc (suc n))))) = ((tt, tt), ((tt, tt), ((tt, tt), ((tt, tt), tt))))
+-- blocks name nothing that could be missing but a slot
+pub blocks_in : (program : PlainProgram) (r : Routine) (locals : List Ty) (slot n : ℕ) → slot < r.slots → AllByRecursion (IsIn program r locals) (take n (blocks slot))
+blocks_in program r locals slot zero room = tt
+blocks_in program r locals slot (suc zero) room = ((room, room, tt), tt)
+blocks_in program r locals slot (suc (suc zero)) room = ((room, room, tt), ((room, tt), tt))
+blocks_in program r locals slot (suc (suc (suc n))) room = ((room, room, tt), ((room, tt), by n))
+  where
+    by : (n : ℕ) → AllByRecursion (IsIn program r locals) (take (suc n) (raising null_exception ∷ raising array_bounds ∷ raising array_size ∷ raising division_by_zero ∷ []))
+    by zero = ((tt, tt), tt)
+    by (suc zero) = ((tt, tt), ((tt, tt), tt))
+    by (suc (suc zero)) = ((tt, tt), ((tt, tt), ((tt, tt), tt)))
+    by (suc (suc (suc zero))) = ((tt, tt), ((tt, tt), ((tt, tt), ((tt, tt), tt))))
+    by (suc (suc (suc (suc n)))) = ((tt, tt), ((tt, tt), ((tt, tt), ((tt, tt), tt))))
 
 -- how many of them stand where so many are to
-pub blocks_many : (n : ℕ) → min n 4 ≤ length (take n blocks)
-blocks_many n = omega (arith, length-take n blocks)
+pub blocks_many : (slot n : ℕ) → min n 6 ≤ length (take (blocks_kept n) (blocks slot))
+blocks_many slot zero = omega arith
+blocks_many slot (suc zero) = omega arith
+blocks_many slot (suc (suc n)) = omega (arith, length-take (suc (suc n)) (blocks slot))
 
 -- a function's code ends in what leaves it
-pub end_leaves : (body : List Instruction) (value n : ℕ) → IsSomeAnd (slice_get (with_blocks body value n) (length (with_blocks body value n) - 1)) (λ i. leaves i ≡ true)
-end_leaves body value n =
-    let end = instructions.Finish value ∷ take n blocks in
+pub end_leaves : (body : List Instruction) (slot n : ℕ) → IsSomeAnd (slice_get (with_blocks body slot (blocks_kept n)) (length (with_blocks body slot (blocks_kept n)) - 1)) (λ i. leaves i ≡ true)
+end_leaves body slot n =
+    let end = instructions.Finish slot ∷ take (blocks_kept n) (blocks slot) in
     subst (λ (o : Option Instruction). IsSomeAnd o (λ i. leaves i ≡ true)) (sym (slice_get_last_behind body end (omega arith))) (by n)
   where
-    by : (n : ℕ) → IsSomeAnd (slice_get (instructions.Finish value ∷ take n blocks) (length (instructions.Finish value ∷ take n blocks) - 1)) (λ i. leaves i ≡ true)
+    by : (n : ℕ) → IsSomeAnd (slice_get (instructions.Finish slot ∷ take (blocks_kept n) (blocks slot)) (length (instructions.Finish slot ∷ take (blocks_kept n) (blocks slot)) - 1)) (λ i. leaves i ≡ true)
     by zero = refl
     by (suc zero) = refl
     by (suc (suc zero)) = refl
     by (suc (suc (suc zero))) = refl
     by (suc (suc (suc (suc zero)))) = refl
-    by (suc (suc (suc (suc (suc n))))) = refl
+    by (suc (suc (suc (suc (suc zero))))) = refl
+    by (suc (suc (suc (suc (suc (suc zero)))))) = refl
+    by (suc (suc (suc (suc (suc (suc (suc n))))))) = refl

@@ -13,9 +13,9 @@ use Rattle.cyc_meaning.specs.FrameCount.{kept_by_items, frame_count, words_of_al
 use Rattle.cyc_plain.specs.declared.instruction.Instruction.{Instruction}
 use Rattle.cyc_plain.specs.declared.instruction.Instruction.TheVariants.{Finish}
 use Rattle.cyc_lower.specs.inside.Slots.{starts_from}
-use Rattle.cyc_lower.specs.inside.ValueCode.{first_temporary, slot_types, blocks}
+use Rattle.cyc_lower.specs.inside.ValueCode.{tag_slot, first_temporary, slot_types, blocks}
 use Rattle.cyc_lower.specs.inside.ControlCode.{outside_loops}
-use Rattle.cyc_lower.specs.inside.Lowering.{items_code, farthest, with_blocks, finished_code, function_code, raises_of, body_code, starts_with}
+use Rattle.cyc_lower.specs.inside.Lowering.{items_code, farthest, blocks_kept, with_blocks, finished_code, function_code, raises_of, body_code, starts_with}
 use Rattle.cyc_meaning.specs.Sizes.{max_functions, HasTooMany}
 use Rattle.cyc_frame_count.specs.inside.Needs.{most_frame_count}
 use Rattle.cyc_lower.specs.inside.Emission.{most_locals}
@@ -28,18 +28,18 @@ pub few_locals : (f : FunctionCode) → frame_count (view_function f) ≤ most_f
 few_locals f small = (omega (arith, small), omega (arith, small, slots-few (view_function f)))
 
 -- the code of a function's body, made again for the length that it had, with a return and the blocks behind it that something leads to
-pub function_made : (structs : List StructType) (globals : List ℕ) (scopes : Option ℕ) (h : Function) (locals : List ℕ) (free raises end : ℕ) (count kept : ℕ) (first body ended all code : List Instruction) → locals ≡ starts_from 0 (slot_types h) → free ≡ first_temporary h
-    → first ≡ items_code (record { locals = locals; structs = structs; raises = 0; counters = []; globals = globals; scopes = scopes }) h.body 0 outside_loops free → raises ≡ length first
-    → body ≡ items_code (record { locals = locals; structs = structs; raises = raises; counters = []; globals = globals; scopes = scopes }) h.body 0 outside_loops free
-    → count ≡ farthest body - raises → kept ≡ min count 4 → ended ≡ body ++ Finish free ∷ [] → end ≡ length ended + kept → all ≡ ended ++ blocks → code ≡ take end all → code ≡ function_code structs globals scopes h
-function_made structs globals scopes h locals free raises end count kept first body ended all code locals_is free_is first_is raises_is body_is count_is kept_is ended_is end_is all_is code_is =
+pub function_made : (structs : List StructType) (globals : List ℕ) (scopes : Option ℕ) (h : Function) (locals : List ℕ) (slot free raises end : ℕ) (count kept : ℕ) (first body ended all code : List Instruction) → locals ≡ starts_from 0 (slot_types h) → slot ≡ tag_slot h → free ≡ first_temporary h
+    → first ≡ items_code (record { locals = locals; tag_slot = slot; structs = structs; raises = 0; counters = []; globals = globals; scopes = scopes }) h.body 0 outside_loops free → raises ≡ length first
+    → body ≡ items_code (record { locals = locals; tag_slot = slot; structs = structs; raises = raises; counters = []; globals = globals; scopes = scopes }) h.body 0 outside_loops free
+    → count ≡ farthest body - raises → kept ≡ blocks_kept (min count 6) → ended ≡ body ++ Finish slot ∷ [] → end ≡ length ended + kept → all ≡ ended ++ blocks slot → code ≡ take end all → code ≡ function_code structs globals scopes h
+function_made structs globals scopes h locals slot free raises end count kept first body ended all code locals_is slot_is free_is first_is raises_is body_is count_is kept_is ended_is end_is all_is code_is =
     let made : first ≡ body_code (starts_with 0 structs globals scopes h) h =
-    first_is ∙ (λ i. items_code (record { locals = locals_is i; structs = structs; raises = 0; counters = []; globals = globals; scopes = scopes }) h.body 0 outside_loops (free_is i)) in
+    first_is ∙ (λ i. items_code (record { locals = locals_is i; tag_slot = slot_is i; structs = structs; raises = 0; counters = []; globals = globals; scopes = scopes }) h.body 0 outside_loops (free_is i)) in
     let known : raises ≡ raises_of structs globals scopes h = raises_is ∙ ap (λ (l : List Instruction). length l) made in
-    some_blocks body ended all code free count kept end ended_is all_is kept_is end_is code_is
-    ∙ ap (λ (n : ℕ). with_blocks body free n) count_is
-    ∙ ap (λ (l : List Instruction). finished_code l raises free) body_is
-    ∙ (λ i. finished_code (items_code (record { locals = locals_is i; structs = structs; raises = known i; counters = []; globals = globals; scopes = scopes }) h.body 0 outside_loops (free_is i)) (known i) (free_is i))
+    some_blocks body ended all code slot count kept end ended_is all_is kept_is end_is code_is
+    ∙ ap (λ (n : ℕ). with_blocks body slot (blocks_kept n)) count_is
+    ∙ ap (λ (l : List Instruction). finished_code l raises slot) body_is
+    ∙ (λ i. finished_code (items_code (record { locals = locals_is i; tag_slot = slot_is i; structs = structs; raises = known i; counters = []; globals = globals; scopes = scopes }) h.body 0 outside_loops (free_is i)) (known i) (slot_is i))
 
 -- ---- lists that are lowered element by element
 

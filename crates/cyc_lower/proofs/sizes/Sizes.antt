@@ -2,9 +2,9 @@
 -- and takes some eighty words.
 use Rattle.cyc_types.specs.typing.Expressions.{type_of_side}
 use Rattle.std.proofs.Common.{◌≡◌, ℕ, zero, suc, ◌+◌, ◌*◌, ◌≤◌, Bool, true, false, List, [], ◌∷◌, ◌++◌, ◌-◌, length, take, Option, None, Some, refl, arith, inl, inr}
-use Rattle.std.specs.Prelude.{◌&&◌, is_some, if◌then◌else◌, ◌||◌}
+use Rattle.std.specs.Prelude.{◌&&◌, is_some, if◌then◌else◌, ◌||◌, not}
 use Rattle.cyc_words.proofs.Booleans.{and_left, and_right}
-use Rattle.std.proofs.lemmas.Bool.{or_cases}
+use Rattle.std.proofs.lemmas.Bool.{or_cases, and_parts}
 use Rattle.cyc_types.specs.declared.typed.Kind.{Kind}
 use Rattle.cyc_types.specs.declared.typed.Callee.TheVariants as callees
 use Rattle.cyc_types.specs.declared.typed.UnaryOperator.TheVariants as unary
@@ -19,20 +19,22 @@ use Rattle.cyc_types.specs.Weight.{expression_weight, converted_weight, operatio
 use Rattle.cyc_plain.specs.declared.instruction.Comparison.{Comparison}
 use Rattle.cyc_plain.specs.declared.instruction.Operand.{Operand}
 use Rattle.cyc_plain.specs.declared.instruction.Operand.TheVariants as operands
+use Rattle.cyc_plain.specs.declared.instruction.Instruction.{Instruction}
 use Rattle.cyc_plain.specs.declared.instruction.Instruction.TheVariants as instructions
 use Rattle.cyc_plain.specs.inside.Program.{instruction_size, size}
 use Rattle.cyc_lower.specs.declared.statements.Exits.{Exits}
 use Rattle.cyc_lower.specs.inside.Slots.{slot_of, Starts, global_of}
 use Rattle.cyc_meaning.specs.Values.{kind_of, words_of_kind}
 use Rattle.cyc_lower.proofs.slots.Widths.{kind_few, type_words}
-use Rattle.cyc_lower.specs.inside.ValueCode.{passed_words, move_of, code_unless, slot_or, code_unless_slot, conversion_code, failing_comparison, left_with, first_temporary, blocks, span_of, word_by_word, global_code, blank_code, kind_passed}
+use Rattle.cyc_lower.specs.inside.ValueCode.{passed_words, move_of, code_unless, slot_or, code_unless_slot, conversion_code, failing_comparison, left_with, first_temporary, blocks, span_of, word_by_word, global_code, blank_code, kind_passed, tag_slot}
 use Rattle.cyc_lower.specs.inside.ObjectCode.{right_slot, saved_code, load_at}
 use Rattle.cyc_lower.specs.declared.operands.Condition.{Condition}
 use Rattle.cyc_lower.specs.inside.ControlCode.{compared_or, failing_jump, holding_jump, deciding_jump, are_tests, break_target, continue_target, body_target, outside_loops, inside_loop, leave_code, tag_operand, other_jump, clause_code, opened_code, closed_code}
 use Rattle.cyc_lower.specs.inside.ControlCode.{named_code, dynamic_code, kept_code, restored_code, behind_record, inside_try, inside_region, entry_code, entry_length, is_nothing, over_code, over_length, null_compared, pointers_failing, nulled_or, turned_test}
+use Rattle.cyc_lower.specs.inside.ControlCode.{through_by, through_end, entered_code, breaks}
 use Rattle.cyc_lower.specs.inside.ExpressionCode.{source_of, operand_of, value_slot, value_operand, converted_operand, printed_operand, expression_code, converted_operand_code, printed_code, slot_with, brought_code, is_simple}
-use Rattle.cyc_lower.specs.inside.Lowering.{assignment_code, discarded_code, first_code, second_code, pair_code, condition_code, condition_of, others_code, tests_code, behind_tests, choice_code, choice_of, branch_code, branch_of, return_code, declaration_code}
-use Rattle.cyc_lower.specs.inside.Lowering.{statement_code, items_code, lower_function, store_address_code, side_code, read_side, write_side, exchange_code, swap_code, caught_code, clauses_code, starts_with, raises_of, farthest, is_guard, is_light, compares_light}
+use Rattle.cyc_lower.specs.inside.Lowering.{assignment_code, discarded_code, first_code, second_code, pair_code, condition_code, condition_of, others_code, tests_code, behind_tests, choice_code, choice_of, branch_code, branch_of, return_code, declaration_code, blocks_kept}
+use Rattle.cyc_lower.specs.inside.Lowering.{statement_code, items_code, lower_function, store_address_code, side_code, read_side, write_side, exchange_code, swap_code, caught_code, clauses_code, starts_with, raises_of, farthest, is_guard, is_light, compares_light, goes_through}
 use Rattle.cyc_meaning.specs.Sizes.{size_per_weight}
 use Rattle.cyc_lower.proofs.sizes.PieceSizes.{code_size, code_size-append, cons, taken_size, unless_size, unless_slot_size, conversion_size, move_size, brought_by_size, load_of_size, stores_size, saved_size, blank_size, closed_size, opened_size, leave_size, kept_size, restored_size}
 use Rattle.cyc_lower.proofs.sizes.ExpressionSizes.{loads_size, saves_size, global_size, expression_size, store_address_size, initial_size, converted_operand_size, printed_size, light_size}
@@ -306,6 +308,10 @@ module _ (starts : Starts) where
         write_size y kind (right_slot x t) (t + 2),
       )
 
+  either_size : (chosen : Bool) (x y : List Instruction) (most : ℕ) → (chosen ≡ true → code_size x ≤ most) → code_size y ≤ most → code_size (if chosen then x else y) ≤ most
+  either_size true x y most first second = first refl
+  either_size false x y most first second = second
+
   mutual
     statement_size : (s : Statement) (p : ℕ) (exits : Exits) (d : ℕ) → code_size (statement_code starts s p exits d) ≤ size_per_weight * statement_weight s
     statement_size (Block r js) p exits d = omega (arith, items_size js p exits d)
@@ -333,6 +339,13 @@ module _ (starts : Starts) where
           else_size u r exits t (statement_size u r exits t),
         )
     statement_size (While w a s) p exits t =
+        let front = choice_code starts logical.OrElse a p t in
+        let x = p + length front + 1 in
+        let inside = statement_code starts s x (inside_loop p p exits) t in
+        let again = choice_code starts logical.AndThen a (x + length inside) t in
+        let end = through_end front inside again p in
+        let leave = failing_jump (choice_of starts logical.OrElse a t) end in
+        let tail = holding_jump (choice_of starts logical.AndThen a t) x ∷ instructions.Jump (end + 1) ∷ [] in
         let guarded = is_guard starts a in
         let l = p + entry_length guarded (choice_code starts logical.AndThen a p t) in
         let body = statement_code starts s (body_target l) (inside_loop p l exits) t in
@@ -342,7 +355,21 @@ module _ (starts : Starts) where
         let test = holding_jump (choice_of starts logical.AndThen a t) (body_target l) ∷ [] in
         let rest = (body ++ condition) ++ test in
         let exit = instructions.Jump (m + length condition + 1) in
-        omega (
+        either_size (goes_through starts a s)
+        (through_by front (failing_jump (choice_of starts logical.OrElse a t)) inside again (holding_jump (choice_of starts logical.AndThen a t) x) p)
+        (entered_code guarded (λ n. choice_code starts logical.AndThen a n t) body (holding_jump (choice_of starts logical.AndThen a t)) p l)
+        (size_per_weight * statement_weight (While w a s))
+        (λ goes. omega (
+          arith,
+          code_size-append front (leave ∷ ((inside ++ again) ++ tail)),
+          cons leave ((inside ++ again) ++ tail),
+          code_size-append (inside ++ again) tail,
+          code_size-append inside again,
+          guard_choice_size logical.OrElse a p t (and_parts guarded (not (breaks s)) goes).0,
+          guard_choice_size logical.AndThen a (x + length inside) t (and_parts guarded (not (breaks s)) goes).0,
+          statement_size s x (inside_loop p p exits) t,
+        ))
+        (omega (
           arith,
           code_size-append entry (exit ∷ rest),
           cons exit rest,
@@ -350,7 +377,7 @@ module _ (starts : Starts) where
           code_size-append body condition,
           tested_loop_size guarded a p m t refl,
           statement_size s (body_target l) (inside_loop p l exits) t,
-        )
+        ))
     statement_size (Return v) p exits d = return_size v p exits d
     statement_size Break p exits d = omega (arith, code_size-append (leave_code exits.in_loop) (instructions.Jump (break_target exits) ∷ []), leave_size exits.in_loop)
     statement_size Continue p exits d = omega (arith, code_size-append (leave_code exits.in_loop) (instructions.Jump (continue_target exits) ∷ []), leave_size exits.in_loop)
@@ -431,6 +458,7 @@ function_size structs globals scopes h =
     let d = first_temporary h in
     let starts = starts_with (raises_of structs globals scopes h) structs globals scopes h in
     let body = items_code starts h.body 0 outside_loops d in
-    let count = farthest body - raises_of structs globals scopes h in
-    let some = take count blocks in
-    omega (arith, code_size-append body (instructions.Finish d ∷ some), cons (instructions.Finish d) some, taken_size count blocks, items_size starts h.body 0 outside_loops d)
+    let end = tag_slot h in
+    let kept = blocks_kept (farthest body - raises_of structs globals scopes h) in
+    let some = take kept (blocks end) in
+    omega (arith, code_size-append body (instructions.Finish end ∷ some), cons (instructions.Finish end) some, taken_size kept (blocks end), items_size starts h.body 0 outside_loops d)

@@ -27,23 +27,24 @@ use Rattle.cyc_lower.specs.inside.ValueCode.{passed_words, operand_or, slot_or, 
 use Rattle.cyc_lower.specs.inside.ObjectCode.{right_slot, load_at}
 use Rattle.cyc_lower.specs.declared.operands.Condition.{Condition}
 use Rattle.cyc_lower.specs.inside.ControlCode.{failing_jump, holding_jump, deciding_jump, are_tests, body_target, inside_loop, leave_code, tag_operand, clause_code, opened_code, closed_code, named_code, dynamic_code, handlers_code, marks_code, kept_code, kept_code_in}
+use Rattle.cyc_lower.specs.inside.ControlCode.{through_by, through_end, looped_code}
 use Rattle.cyc_lower.specs.inside.ControlCode.{restored_code, restored_code_in, behind_record, behind_record_in, inside_try, inside_region, outermost, entry_code, entry_length, is_nothing, over_code, over_length, null_compared, pointers_failing, nulled_or, turned_test}
 use Rattle.cyc_lower.specs.inside.ExpressionCode.{source_of, operand_of, value_slot, slot_with, value_operand, converted_operand, printed_operand, expression_code, converted_operand_code, printed_code, brought_code, is_simple}
 use Rattle.cyc_lower.specs.inside.Lowering.{spare_slots, assignment_code, discarded_code, first_operand, first_code, second_code, pair_code, condition_code, condition_of, others_code, last_condition, tests_code, behind_tests, choice_code, choice_of, branch_code}
-use Rattle.cyc_lower.specs.inside.Lowering.{branch_of, return_code, declaration_code, statement_code, items_code, results_of, side_code, read_side, write_side, exchange_code, swap_code, thrown_code, thrown_operand, caught_code, clauses_code, is_guard}
+use Rattle.cyc_lower.specs.inside.Lowering.{branch_of, return_code, declaration_code, statement_code, items_code, results_of, side_code, read_side, write_side, exchange_code, swap_code, thrown_code, thrown_operand, caught_code, clauses_code, is_guard, goes_through}
 use Rattle.cyc_lower.proofs.slots.Widths.{kind_positive, kind_few, type_words, words_in, HasRoom, keeps_wide}
 use Rattle.cyc_lower.proofs.relation.code.Fitting.{FitsPlace, Fits, FitOperations, FitsConverted, FitsReturn, FitsInitial, FitsStatement, FitItems, FitsSide, FitsThrown, FitsCaught, FitClauses}
 use Rattle.cyc_types.specs.typing.Expressions.{type_of_side}
 use Rattle.cyc_lower.proofs.slots.Slots.{words_positive, global-room, global-inside}
 use Rattle.cyc_lower.specs.declared.statements.Opened.{Opened}
 use Rattle.cyc_lower.proofs.emission.Loops.{entry_long, over_length_is}
-use Rattle.cyc_lower.proofs.sizes.RangeLemmas.{operand_positive, converted_few, results_few, IsKnown, AreGlobals}
+use Rattle.cyc_lower.proofs.sizes.RangeLemmas.{operand_positive, converted_few, results_few, IsKnown, AreGlobals, HasEnd}
 use Rattle.cyc_lower.proofs.sizes.ValueRanges.{AreIn, append, unless_in, unless_slot_in, move_in, conversion_in, loads_in, global_in, assigned_in, stores_in, addressed_in, stored_in, load_of_in, blank_in}
 use Rattle.cyc_lower.proofs.sizes.ValueRoom.{kind_at, HasOperand, slot_fits, value_room, value_in, converted_room, printed_value_in, slot_with_in, left_with_in}
 use Rattle.cyc_lower.proofs.emission.Conditions.{tests_same, branch_same}
 use Rattle.cyc_lower.proofs.sizes.ExpressionRanges.{expression_in, place_in, initial_in, converted_operand_in, printed_in, brought_in}
 
-module _ (program : PlainProgram) (r : Routine) (b : Numbering) (types : Types) (locals : (n : ℕ) → n < b.locals → slot_of (starts_of types) n + words_in types.locals n ≤ r.slots) (levels : (l slot : ℕ) → slice_get types.counters l ≡ Some slot → slot < r.slots) (globals : AreGlobals program types.globals) (called : (n : ℕ) (s : Signature) → slice_get b.functions n ≡ Some s → IsKnown program n s) (results : r.results ≡ results_of b.result) (behind : types.raises + 4 < length r.code) (no_return : All (λ i. is_return i ≡ false) r.code) where
+module _ (program : PlainProgram) (r : Routine) (b : Numbering) (types : Types) (locals : (n : ℕ) → n < b.locals → slot_of (starts_of types) n + words_in types.locals n ≤ r.slots) (levels : (l slot : ℕ) → slice_get types.counters l ≡ Some slot → slot < r.slots) (globals : AreGlobals program types.globals) (called : (n : ℕ) (s : Signature) → slice_get b.functions n ≡ Some s → IsKnown program n s) (results : r.results ≡ results_of b.result) (behind : HasEnd r types) (no_return : All (λ i. is_return i ≡ false) r.code) where
   assignment_in : (l : Lvalue) (c : Converted) (p t : ℕ) → FitsPlace b types l (kind_passed c) → FitsConverted b types c → t + converted_words c ≤ r.slots → t + converted_need c ≤ r.slots → p + length (assignment_code (starts_of types) l c p t) < length r.code → AreIn program r b types locals levels globals called results behind (assignment_code (starts_of types) l c p t)
   assignment_in (Local w n) c p t (within, own) numbered free few short = initial_in program r b called results types locals levels globals behind c p (slot_of (starts_of types) n) t numbered (omega (arith, locals n within, own)) free few short
   assignment_in (Global n) c p t within numbered free few short =
@@ -426,6 +427,12 @@ module _ (program : PlainProgram) (r : Routine) (b : Numbering) (types : Types) 
   over_in true target inside = tt
   over_in false target inside = (inside, tt)
 
+  either_in : (chosen : Bool) (x y : List Instruction) (p : ℕ) → p + length (if chosen then x else y) < length r.code
+      → (p + length x < length r.code → AreIn program r b types locals levels globals called results behind x) → (p + length y < length r.code → AreIn program r b types locals levels globals called results behind y)
+      → AreIn program r b types locals levels globals called results behind (if chosen then x else y)
+  either_in true x y p short first second = first short
+  either_in false x y p short first second = second short
+
   mutual
     statement_in : (s : Statement) (in_loop : Bool) (p : ℕ) (exits : Exits) (t : ℕ) → FitsStatement b types in_loop s → (in_loop ≡ true → (exits.head < length r.code) × (exits.leaving < length r.code)) → HasExits exits → t + kept_by s + statement_need s + spare_slots ≤ r.slots → p + length (statement_code (starts_of types) s p exits t) < length r.code → AreIn program r b types locals levels globals called results behind (statement_code (starts_of types) s p exits t)
     statement_in (Block n js) in_loop p exits t numbered around outside few short = items_in js in_loop p exits t numbered around outside few short
@@ -453,6 +460,31 @@ module _ (program : PlainProgram) (r : Routine) (b : Numbering) (types : Types) 
         ((left, right, inside), statement_in s in_loop (m + 1) exits t numbered_s around outside (omega (arith, few)) (omega (arith, short, long, long_front, long_back, long_over, same))))
         (append program r b types locals levels globals called results behind over second (over_in last (q + length second) (omega (arith, short, long, long_front, long_back, long_over, same))) (statement_in u in_loop q exits t numbered_u around outside (omega (arith, few)) (omega (arith, short, long, long_front, long_back, long_over, same))))
     statement_in (While w a s) in_loop p exits t (numbered_a, numbered_s) around outside few short =
+        let front = choice_code (starts_of types) logical.OrElse a p t in
+        let x = p + length front + 1 in
+        let within = statement_code (starts_of types) s x (inside_loop p p exits) t in
+        let other = choice_code (starts_of types) logical.AndThen a (x + length within) t in
+        let finish = through_end front within other p in
+        let exit = failing_jump (choice_of (starts_of types) logical.OrElse a t) finish in
+        let tail = holding_jump (choice_of (starts_of types) logical.AndThen a t) x ∷ instructions.Jump (finish + 1) ∷ [] in
+        let long_through = length-append front (exit ∷ ((within ++ other) ++ tail)) in
+        let long_inner = length-append (within ++ other) tail in
+        let long_body = length-append within other in
+        let (fails_left, fails_right) = chosen_in logical.OrElse a t numbered_a (omega (arith, few)) in
+        let (holds_left, holds_right) = chosen_in logical.AndThen a t numbered_a (omega (arith, few)) in
+        either_in (goes_through (starts_of types) a s)
+        (through_by front (failing_jump (choice_of (starts_of types) logical.OrElse a t)) within other (holding_jump (choice_of (starts_of types) logical.AndThen a t) x) p)
+        (looped_code (is_guard (starts_of types) a) (λ q. choice_code (starts_of types) logical.AndThen a q t) (λ leaving. statement_code (starts_of types) s (body_target leaving) (inside_loop p leaving exits) t) (holding_jump (choice_of (starts_of types) logical.AndThen a t)) p)
+        p short
+        (λ short. append program r b types locals levels globals called results behind front (exit ∷ ((within ++ other) ++ tail)) (choice_in logical.OrElse a p t numbered_a (omega (arith, few)) (omega (arith, short, long_through))) (
+          (fails_left, fails_right, omega (arith, short, long_through, long_inner, long_body)),
+          append program r b types locals levels globals called results behind (within ++ other) tail
+              (append program r b types locals levels globals called results behind within other
+              (statement_in s true x (inside_loop p p exits) t numbered_s (λ looping. (omega (arith, short, long_through), omega (arith, short, long_through))) ((tt, tt), outside.1) (omega (arith, few)) (omega (arith, short, long_through, long_inner, long_body)))
+              (choice_in logical.AndThen a (x + length within) t numbered_a (omega (arith, few)) (omega (arith, short, long_through, long_inner, long_body))))
+              ((holds_left, holds_right, omega (arith, short, long_through, long_inner, long_body)), (omega (arith, short, long_through, long_inner, long_body), tt)),
+        ))
+        (λ short.
         let guarded = is_guard (starts_of types) a in
         let first = choice_code (starts_of types) logical.AndThen a p t in
         let jump : ℕ → Instruction = λ n. holding_jump (choice_of (starts_of types) logical.AndThen a t) n in
@@ -476,7 +508,7 @@ module _ (program : PlainProgram) (r : Routine) (b : Numbering) (types : Types) 
               (statement_in s true (body_target l) inside t numbered_s (λ looping. (omega (arith, short, long, long_front, whole, entered), omega (arith, short, long, long_front, whole, entered))) ((tt, tt), outside.1) (omega (arith, few)) (omega (arith, short, long, long_front, whole, entered)))
               (choice_in logical.AndThen a m t numbered_a (omega (arith, few)) (omega (arith, short, long, long_front, whole, entered))))
               ((left, right, omega (arith, short, long, long_front, whole, entered)), tt),
-        )
+        ))
     statement_in (Return v) in_loop p exits t numbered around outside few short = return_in v p exits t numbered outside (omega (arith, few)) short
     statement_in Break in_loop p exits t numbered around outside few short = append program r b types locals levels globals called results behind (leave_code exits.in_loop) _ (leave_in exits.in_loop outside.0) (omega (arith, (around numbered).0, (around numbered).1), tt)
     statement_in Continue in_loop p exits t numbered around outside few short = append program r b types locals levels globals called results behind (leave_code exits.in_loop) _ (leave_in exits.in_loop outside.0) (omega (arith, (around numbered).0, (around numbered).1), tt)

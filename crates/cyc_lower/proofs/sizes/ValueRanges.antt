@@ -44,12 +44,12 @@ use Rattle.cyc_lower.specs.inside.Lowerable.{is_converted, is_pointer}
 use Rattle.cyc_lower.proofs.emission.Lengths.{past_long}
 use Rattle.cyc_lower.proofs.value_steps.ValueWords.{as_wide}
 use Rattle.cyc_lower.proofs.slots.Slots.{words_positive, global-room, global-inside}
-use Rattle.cyc_lower.proofs.sizes.RangeLemmas.{operand_positive, IsKnown, AreGlobals, IsIn}
+use Rattle.cyc_lower.proofs.sizes.RangeLemmas.{operand_positive, IsKnown, AreGlobals, IsIn, HasEnd}
 use Rattle.cyc_plain.specs.declared.instruction.UnaryOperator.TheVariants as plain_unary
 use Rattle.cyc_plain.specs.declared.instruction.Request.TheVariants as requests
 use Rattle.cyc_lower.proofs.sizes.ValueRoom.{kind_at, HasOperand, operand_in, given_needs, slot_fits, value_room, value_in, source_fits, less_operand, brought_room, converted_room}
 
-module _ (program : PlainProgram) (r : Routine) (b : Numbering) (types : Types) (locals : (n : ℕ) → n < b.locals → slot_of (starts_of types) n + words_in types.locals n ≤ r.slots) (levels : (l slot : ℕ) → slice_get types.counters l ≡ Some slot → slot < r.slots) (globals : AreGlobals program types.globals) (called : (n : ℕ) (s : Signature) → slice_get b.functions n ≡ Some s → IsKnown program n s) (results : r.results ≡ results_of b.result) (behind : types.raises + 4 < length r.code) where
+module _ (program : PlainProgram) (r : Routine) (b : Numbering) (types : Types) (locals : (n : ℕ) → n < b.locals → slot_of (starts_of types) n + words_in types.locals n ≤ r.slots) (levels : (l slot : ℕ) → slice_get types.counters l ≡ Some slot → slot < r.slots) (globals : AreGlobals program types.globals) (called : (n : ℕ) (s : Signature) → slice_get b.functions n ≡ Some s → IsKnown program n s) (results : r.results ≡ results_of b.result) (behind : HasEnd r types) where
   abbrev pub AreIn : List Instruction → Type 0
   AreIn code = AllByRecursion (IsIn program r types.locals) code
 
@@ -76,7 +76,7 @@ module _ (program : PlainProgram) (r : Routine) (b : Numbering) (types : Types) 
       by false = record { some = kind_positive kind; few = kind_few kind; destination_in_range = room; source_in_range = inside }
 
   guard_in : (tag : ℕ) (failing : Comparison) (o m : Operand) → tag ≤ 4 → IsOperand r o → IsOperand r m → AreIn (guard_code (starts_of types) tag failing o m)
-  guard_in tag failing o m few left right = ((left, right, omega (arith, few, behind)), tt)
+  guard_in tag failing o m few left right = ((left, right, omega (arith, few, behind.0)), tt)
 
   pub free_in : (o : Operand) (p : ℕ) → IsOperand r o → p + 2 < length r.code → AreIn (free_code o p)
   free_in o p inside short = ((inside, tt, short), (record { answer_in_range = omega arith; first_in_range = inside; second_in_range = tt }, tt))
@@ -113,7 +113,7 @@ module _ (program : PlainProgram) (r : Routine) (b : Numbering) (types : Types) 
   summed_in (Some bytes) n x t first distance room = ((room, first, distance), tt)
 
   inside_in : (n m p : ℕ) → n + 2 ≤ r.slots → m < r.slots → p + 3 < length r.code → AreIn (inside_code (starts_of types) n m p)
-  inside_in n m p first index short = ((index, omega (arith, first), omega (arith, short)), ((omega (arith, first), tt, omega (arith, behind)), (omega (arith, behind), tt)))
+  inside_in n m p first index short = ((index, omega (arith, first), omega (arith, short)), ((behind.1, omega (arith, first), tt), (omega (arith, behind.0), tt)))
 
   pub reached_in : (span : Option ℕ) (n m t p : ℕ) → n + 2 ≤ r.slots → m < r.slots → t + 3 < r.slots → p + length (reached_code (starts_of types) span n m t p) < length r.code → AreIn (reached_code (starts_of types) span n m t p)
   reached_in span n m t p first index room short =

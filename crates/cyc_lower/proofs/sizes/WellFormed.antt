@@ -13,9 +13,9 @@ use Rattle.std.proofs.lemmas.List.Elements.{All-from_recursion}
 use Rattle.cyc_words.proofs.Lists.{all_append}
 use Rattle.cyc_meaning.specs.FrameCount.{words_of_all}
 use Rattle.cyc_lower.specs.inside.Slots.{starts_of, global_types}
-use Rattle.cyc_lower.specs.inside.ValueCode.{first_temporary, blocks, slot_types}
+use Rattle.cyc_lower.specs.inside.ValueCode.{tag_slot, first_temporary, blocks, slot_types}
 use Rattle.cyc_lower.specs.inside.ControlCode.{outside_loops}
-use Rattle.cyc_lower.specs.inside.Lowering.{types_of, items_code, results_of, lower_function, lower_program, globals_of, scopes_of, function_code, farthest, with_blocks}
+use Rattle.cyc_lower.specs.inside.Lowering.{types_of, items_code, results_of, lower_function, lower_program, globals_of, scopes_of, function_code, farthest, with_blocks, blocks_kept}
 use Rattle.cyc_lower.proofs.relation.code.Fitting.{FitItems, AreFitting, IsFitting}
 use Rattle.cyc_lower.specs.inside.Words.{AreOfWordsItems, AreOfWordsFunctions, IsOfWordsProgram}
 use Rattle.cyc_lower.proofs.sizes.WordLemmas.{body_has_no_return}
@@ -52,25 +52,26 @@ module _ (source : Program) (is_fitting : IsFitting source) where
   code_in : (h : Function) → AreOfWordsItems h.body → FitItems (numbering_of (length source.globals) (signatures_of source.functions) h) (types_of source.structs (global_types source.globals) (scopes_of source) h) false h.body
       → AllByRecursion (IsIn (lower_program source) (lower_function source.structs (globals_of source) (scopes_of source) h) (slot_types h)) (function_code source.structs (globals_of source) (scopes_of source) h)
   code_in h words numbered_body =
-      let d = first_temporary h in
+      let d = tag_slot h in
       let scopes = scopes_of source in
       let r = lower_function source.structs (globals_of source) scopes h in
       let b = numbering_of (length source.globals) (signatures_of source.functions) h in
       let types = types_of source.structs (global_types source.globals) scopes h in
-      let body = items_code (starts_of types) h.body 0 outside_loops d in
+      let body = items_code (starts_of types) h.body 0 outside_loops (first_temporary h) in
       let count = farthest body - types.raises in
-      let end = instructions.Finish d ∷ take count blocks in
-      let all = with_blocks body d 4 in
+      let kept = blocks_kept count in
+      let end = instructions.Finish d ∷ take kept (blocks d) in
+      let all = with_blocks body d 6 in
       let whole : Routine = record r { code = all } in
       let placed = body_long source.structs (globals_of source) scopes h in
-      let long = length-append body (instructions.Finish d ∷ blocks) in
+      let long = length-append body (instructions.Finish d ∷ blocks d) in
       let short = length-append body end in
-      let inside = items_in (lower_program source) whole b types (λ n within. omega (arith, slot-room types n (omega (arith, within, slot_types-many h)))) (λ l slot there. absurd (none-some slot there)) known_globals known_functions refl (omega (arith, long, placed)) (body_has_no_return source.structs (globals_of source) scopes h 4 words)
-      h.body false 0 outside_loops d numbered_body (λ inside. absurd (let f : false ≡ true = inside in cc)) ((tt, tt), (tt, tt)) (omega arith) (omega (arith, long)) in
-      let reaches : (t : ℕ) → t ≤ farthest body → t < length all → t < length r.code = λ t least within. omega (arith, least, within, long, short, placed, blocks_many count) in
+      let inside = items_in (lower_program source) whole b types (λ n within. omega (arith, slot-room types n (omega (arith, within, slot_types-many h)))) (λ l slot there. absurd (none-some slot there)) known_globals known_functions refl (omega (arith, long, placed), omega arith) (body_has_no_return source.structs (globals_of source) scopes h 6 words)
+      h.body false 0 outside_loops (first_temporary h) numbered_body (λ inside. absurd (let f : false ≡ true = inside in cc)) ((tt, tt), (tt, tt)) (omega arith) (omega (arith, long)) in
+      let reaches : (t : ℕ) → t ≤ farthest body → t < length all → t < length r.code = λ t least within. omega (arith, least, within, long, short, placed, blocks_many d count) in
       all_append (IsIn (lower_program source) r (slot_types h)) body end
-      (all_cut (lower_program source) r all (slot_types h) (farthest body) reaches (body_has_no_return source.structs (globals_of source) scopes h count words) body (omega arith) inside)
-      (omega (arith, results_few h.result), blocks_in (lower_program source) r (slot_types h) count)
+      (all_cut (lower_program source) r all (slot_types h) (farthest body) reaches (body_has_no_return source.structs (globals_of source) scopes h kept words) body (omega arith) inside)
+      (omega (arith, results_few h.result), blocks_in (lower_program source) r (slot_types h) d kept (omega arith))
 
   function_well : (h : Function) → AreOfWordsItems h.body → FitItems (numbering_of (length source.globals) (signatures_of source.functions) h) (types_of source.structs (global_types source.globals) (scopes_of source) h) false h.body → IsRoutine (lower_program source) (lower_function source.structs (globals_of source) (scopes_of source) h)
   function_well h words numbered_body =
@@ -83,7 +84,7 @@ module _ (source : Program) (is_fitting : IsFitting source) where
         results = omega (arith, results_few h.result);
         frame = omega (arith, slots-few h);
         instructions = All-from_recursion (IsInRange (lower_program source) r) code (code_in_range (lower_program source) r (slot_types h) code (code_in h words numbered_body));
-        last = end_leaves body (first_temporary h) (farthest body - types.raises);
+        last = end_leaves body (tag_slot h) (farthest body - types.raises);
       }
 
   -- it takes the addresses of locals alone

@@ -29,14 +29,14 @@ use Rattle.std.proofs.lemmas.List.Elements.{All-from_recursion}
 use Rattle.cyc_words.proofs.Members.{All_at, all_weaker}
 use Rattle.cyc_types.specs.Types.{words_of, Ty}
 use Rattle.cyc_meaning.specs.Values.{words_of_kind, kind_of}
-use Rattle.cyc_lower.specs.inside.ValueCode.{passed_words, code_unless, slot_or, code_unless_slot, left_with, conversion_code, failing_comparison, first_temporary, blocks, span_of, word_by_word, kind_passed, masks}
+use Rattle.cyc_lower.specs.inside.ValueCode.{passed_words, code_unless, slot_or, code_unless_slot, left_with, conversion_code, failing_comparison, first_temporary, blocks, span_of, word_by_word, kind_passed, masks, tag_slot}
 use Rattle.cyc_lower.specs.inside.ObjectCode.{right_slot, load_at}
 use Rattle.cyc_lower.specs.declared.operands.Condition.{Condition}
 use Rattle.cyc_lower.specs.inside.ControlCode.{compared_of, deciding_jump, are_tests, outside_loops, inside_loop, leave_code, clause_code, opened_code, closed_code, named_code, dynamic_code, handlers_code, marks_code, kept_code, kept_code_in, restored_code}
-use Rattle.cyc_lower.specs.inside.ControlCode.{restored_code_in, behind_record, inside_try, inside_region, body_target, entry_code, entry_length, holding_jump, is_nothing, over_code, other_place, null_compared, pointers_failing, nulled_or, turned_test}
+use Rattle.cyc_lower.specs.inside.ControlCode.{restored_code_in, behind_record, inside_try, inside_region, body_target, entry_code, entry_length, holding_jump, is_nothing, over_code, other_place, null_compared, pointers_failing, nulled_or, turned_test, through_by, failing_jump, entered_code}
 use Rattle.cyc_lower.specs.inside.ExpressionCode.{source_of, operand_of, value_slot, value_operand, converted_operand, expression_code, converted_operand_code, printed_code, slot_with, brought_code, is_simple}
-use Rattle.cyc_lower.specs.inside.Lowering.{assignment_code, discarded_code, first_code, second_code, pair_code, condition_code, condition_of, others_code, last_condition, tests_code, behind_tests, choice_code, choice_of}
-use Rattle.cyc_lower.specs.inside.Lowering.{branch_code, branch_of, return_code, declaration_code, statement_code, items_code, initial_word, lower_function, lower_program, store_address_code, caught_code, clauses_code}
+use Rattle.cyc_lower.specs.inside.Lowering.{assignment_code, discarded_code, first_code, second_code, pair_code, condition_code, condition_of, others_code, last_condition, tests_code, behind_tests, choice_code, choice_of, goes_through}
+use Rattle.cyc_lower.specs.inside.Lowering.{branch_code, branch_of, return_code, declaration_code, statement_code, items_code, initial_word, lower_function, lower_program, store_address_code, caught_code, clauses_code, blocks_kept}
 use Rattle.cyc_lower.specs.inside.Lowering.{function_code, side_code, read_side, write_side, exchange_code, swap_code, globals_of, lower_globals, starts_with, raises_of, scopes_of, body_code, farthest, with_blocks, is_guard}
 use Rattle.cyc_lower.proofs.slots.Widths.{kind_few}
 use Rattle.cyc_lower.specs.declared.statements.Opened.{Opened}
@@ -264,6 +264,10 @@ module _ (starts : Starts) where
   entry_words true a p t test words = append (choice_code starts logical.AndThen a p t) _ (choice_words logical.AndThen a p t words) (choice_word logical.AndThen a t words, tt)
   entry_words false a p t test words = (tt, tt)
 
+  either_words : (chosen : Bool) (x y : List Instruction) → HaveWords x → HaveWords y → HaveWords (if chosen then x else y)
+  either_words true x y first second = first
+  either_words false x y first second = second
+
   mutual
     statement_words : (s : Statement) (p : ℕ) (exits : Exits) (t : ℕ) → IsOfWordsStatement s → HaveWords (statement_code starts s p exits t)
     statement_words (Block r js) p exits t words = items_words js p exits t words
@@ -281,15 +285,25 @@ module _ (starts : Starts) where
         (append condition (_ ∷ first_part) (branch_words logical.AndThen a q p t first) (branch_word logical.AndThen a t first, statement_words s (p + length (branch_code starts logical.AndThen a 0 p t) + 1) exits t second))
         (append over second_part (over_words last (q + length second_part)) (statement_words u q exits t third))
     statement_words (While w a s) p exits t (first, second) =
-        let guarded = is_guard starts a in
-        let l = p + entry_length guarded (choice_code starts logical.AndThen a p t) in
+        let front = choice_code starts logical.OrElse a p t in
+        let x = p + length front + 1 in
+        let inside = statement_code starts s x (inside_loop p p exits) t in
+        let again = choice_code starts logical.AndThen a (x + length inside) t in
+        let l = p + entry_length (is_guard starts a) (choice_code starts logical.AndThen a p t) in
         let body = statement_code starts s (body_target l) (inside_loop p l exits) t in
         let r = body_target l + length body in
         let condition = choice_code starts logical.AndThen a r t in
-        append (entry_code guarded (choice_code starts logical.AndThen a p t) (holding_jump (choice_of starts logical.AndThen a t)) r p) _ (entry_words guarded a p t r first) (
+        either_words (goes_through starts a s)
+        (through_by front (failing_jump (choice_of starts logical.OrElse a t)) inside again (holding_jump (choice_of starts logical.AndThen a t) x) p)
+        (entered_code (is_guard starts a) (λ n. choice_code starts logical.AndThen a n t) body (holding_jump (choice_of starts logical.AndThen a t)) p l)
+        (append front _ (choice_words logical.OrElse a p t first) (
+          choice_word logical.OrElse a t first,
+          append (inside ++ again) _ (append inside again (statement_words s x (inside_loop p p exits) t second) (choice_words logical.AndThen a (x + length inside) t first)) (choice_word logical.AndThen a t first, (tt, tt)),
+        ))
+        (append (entry_code (is_guard starts a) (choice_code starts logical.AndThen a p t) (holding_jump (choice_of starts logical.AndThen a t)) r p) _ (entry_words (is_guard starts a) a p t r first) (
           tt,
           append (body ++ condition) _ (append body condition (statement_words s (body_target l) (inside_loop p l exits) t second) (choice_words logical.AndThen a r t first)) (choice_word logical.AndThen a t first, tt),
-        )
+        ))
     statement_words (Return v) p exits t words = return_words v p exits t words
     statement_words Break p exits t words = append (leave_code exits.in_loop) _ (leave_words exits.in_loop) (tt, tt)
     statement_words Continue p exits t words = append (leave_code exits.in_loop) _ (leave_words exits.in_loop) (tt, tt)
@@ -343,17 +357,18 @@ module _ (starts : Starts) where
 
 -- the code of a function with so many blocks behind it
 abbrev pub body_with : (structs : List StructType) (globals : List ℕ) (scopes : Option ℕ) (h : Function) (count : ℕ) → List Instruction
-body_with structs globals scopes h count = with_blocks (body_code (starts_with (raises_of structs globals scopes h) structs globals scopes h) h) (first_temporary h) count
+body_with structs globals scopes h count = with_blocks (body_code (starts_with (raises_of structs globals scopes h) structs globals scopes h) h) (tag_slot h) count
 
 body_words : (structs : List StructType) (globals : List ℕ) (scopes : Option ℕ) (h : Function) (n : ℕ) → AreOfWordsItems h.body → HaveWords (body_with structs globals scopes h n)
 body_words structs globals scopes h n words =
     let d = first_temporary h in
+    let end = tag_slot h in
     let starts = starts_with (raises_of structs globals scopes h) structs globals scopes h in
-    append (items_code starts h.body 0 outside_loops d) (instructions.Finish d ∷ take n blocks) (items_words starts h.body 0 outside_loops d words) (tt, taken_words n blocks blocks_words)
+    append (items_code starts h.body 0 outside_loops d) (instructions.Finish end ∷ take n (blocks end)) (items_words starts h.body 0 outside_loops d words) (tt, taken_words n (blocks end) (blocks_words end))
 
 function_has_words : (structs : List StructType) (globals : List ℕ) (scopes : Option ℕ) (h : Function) → AreOfWordsItems h.body → HaveWords (function_code structs globals scopes h)
 function_has_words structs globals scopes h words =
-    body_words structs globals scopes h (farthest (body_code (starts_with (raises_of structs globals scopes h) structs globals scopes h) h) - raises_of structs globals scopes h) words
+    body_words structs globals scopes h (blocks_kept (farthest (body_code (starts_with (raises_of structs globals scopes h) structs globals scopes h) h) - raises_of structs globals scopes h)) words
 
 -- no function returns while handlers are open
 pub body_has_no_return : (structs : List StructType) (globals : List ℕ) (scopes : Option ℕ) (h : Function) (n : ℕ) → AreOfWordsItems h.body → All (λ i. is_return i ≡ false) (body_with structs globals scopes h n)

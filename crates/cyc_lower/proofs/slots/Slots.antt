@@ -13,7 +13,7 @@ use Rattle.cyc_types.specs.Types as types
 use Rattle.cyc_types.specs.TypedTrees.{StructType, Function, GlobalVariable}
 use Rattle.cyc_meaning.specs.FrameCount.{words_of_all}
 use Rattle.cyc_lower.specs.inside.Slots.{global_types, slot_in, starts_from, Types, starts_of, slot_of, global_of}
-use Rattle.cyc_lower.specs.inside.ValueCode.{slot_types, first_temporary}
+use Rattle.cyc_lower.specs.inside.ValueCode.{slot_types, tag_slot, first_temporary}
 use Rattle.cyc_lower.specs.inside.Lowering.{lower_global, lower_globals}
 use Rattle.cyc_lower.proofs.slots.Widths.{kind_positive, words_in, HasRoom, HasGlobal, kind_in}
 use Rattle.cyc_meaning.specs.Values.{kind_of}
@@ -90,27 +90,6 @@ low-from (t ∷ ts) slot (suc n) = omega (arith, low-from ts (slot + words_of t)
 
 pub slot-low : (ts : Types) (n : ℕ) → slot_of (starts_of ts) n ≤ words_of_all ts.locals
 slot-low ts n = omega (arith, low-from ts.locals 0 n)
-
-pub slot-inside : (ts : Types) (n : ℕ) → n < length ts.locals → slot_of (starts_of ts) n < words_of_all ts.locals
-slot-inside ts n inside =
-    let (t, at) = type-there ts.locals n inside in
-    omega (arith, starts-are ts n inside, slot-below ts.locals n t at, words_positive t)
-
-slot-before : (ts : Types) (n m : ℕ) → n < m → m < length ts.locals → slot_of (starts_of ts) n < slot_of (starts_of ts) m
-slot-before ts n m less inside =
-    let (t, at) = type-there ts.locals n (omega (arith, less, inside)) in
-    let (u, there) = type-there ts.locals m inside in
-    omega (arith, starts-are ts n (omega (arith, less, inside)), starts-are ts m inside, locals-apart ts.locals n m t u less at there, words_positive t)
-
--- two locals have two slots
-pub slot-other : (ts : Types) (n m : ℕ) → n < length ts.locals → m < length ts.locals → n ≢ m → slot_of (starts_of ts) n ≢ slot_of (starts_of ts) m
-slot-other ts n m inside there other same = elim (cases_lt n m) [
-  | inl less ↦ absurd (omega (arith, same, slot-before ts n m less there))
-  | inr most ↦ elim (cases_lt m n) [
-    | inl less ↦ absurd (omega (arith, same, slot-before ts m n less inside))
-    | inr least ↦ other (omega (arith, most, least))
-  ]
-]
 
 -- the words of a local end before those of the next begin, and all do before the first temporary
 pub words-there : (ts : List Ty) (n : ℕ) (t : Ty) → slice_get ts n ≡ Some t → words_in ts n ≡ words_of t
@@ -214,16 +193,17 @@ starts-append slot (t ∷ ts) us =
     ∙ ap (λ (n : ℕ). starts_from (slot + words_of t) ts ++ starts_from n us) (let e : slot + words_of t + words_of_all ts ≡ slot + words_of_all (t ∷ ts) = omega arith in e))
 
 -- the locals' slots are their words
-pub slots-few : (h : Function) → first_temporary h ≡ words_of_all h.parameters + words_of_all h.locals
+pub slots-few : (h : Function) → tag_slot h ≡ words_of_all h.parameters + words_of_all h.locals
 slots-few h = words-append h.parameters h.locals
 
 -- the slots of the parameters, and behind them those of the other locals
-pub slots-made : (h : Function) (behind free : ℕ) (first all : List ℕ) → behind ≡ words_of_all h.parameters → first ≡ starts_from 0 h.parameters
-    → free ≡ behind + words_of_all h.locals → all ≡ first ++ starts_from behind h.locals → (all ≡ starts_from 0 (slot_types h)) × (free ≡ first_temporary h)
-slots-made h behind free first all behind_is first_is free_is all_is = (
+pub slots-made : (h : Function) (behind end : ℕ) (first all : List ℕ) → behind ≡ words_of_all h.parameters → first ≡ starts_from 0 h.parameters
+    → end ≡ behind + words_of_all h.locals → all ≡ first ++ starts_from behind h.locals → (all ≡ starts_from 0 (slot_types h)) × (end ≡ tag_slot h) × (end + 1 ≡ first_temporary h)
+slots-made h behind end first all behind_is first_is end_is all_is = (
   all_is
       ∙ ap (λ (l : List ℕ). l ++ starts_from behind h.locals) first_is
       ∙ ap (λ (n : ℕ). starts_from 0 h.parameters ++ starts_from n h.locals) (let e : behind ≡ 0 + words_of_all h.parameters = omega (arith, behind_is) in e)
       ∙ sym (starts-append 0 h.parameters h.locals),
-  omega (arith, free_is, behind_is, words-append h.parameters h.locals),
+  omega (arith, end_is, behind_is, words-append h.parameters h.locals),
+  omega (arith, end_is, behind_is, words-append h.parameters h.locals),
 )

@@ -100,7 +100,7 @@ module _ (source : Program) (pages calls : ℕ) where
       by_two source pages calls (at c p) (ap (λ (z : Option Bool). looped z a s k e w) zero) shared shared here (λ choice. ap (λ (n : ℕ). plain.Running (at c n)) is) jump
       (other_place (code_of source c.active.function) c.active.next p (instructions.Branch comparison l r target) (instructions.Jump q) here jump (λ same. let f : instructions.Branch comparison l r target ≡ instructions.Jump q = same in cc))
       (λ choice. (shared, behind_statement outer facts stack))
-  decided_given v false p (Needs (Test a s) ∷ k) e w c shared facts zero holds leads (exits, outer, m, q, (loop_is, function_is, entry, leave, at_s, again, after), is, stack) =
+  decided_given v false p (Needs (Test a s) ∷ k) e w c shared facts zero holds leads (exits, outer, m, q, (b, loop_is, function_is, entry, leave, at_s, again, after), is, stack) =
       goes_on (Running (Executing s) (Loop a s ∷ k) e w) c p (ap (λ (z : Option Bool). looped z a s k e w) zero) shared leads (
         shared,
         facts,
@@ -108,7 +108,7 @@ module _ (source : Program) (pages calls : ℕ) where
           exits,
           m,
           subst (λ i. StatementAt (code_of source c.active.function) (bounds_at source c.active.function) (types_at source c.active.function) s exits (floor source c.active.function k) i m) is at_s,
-          (outer, q, (loop_is, function_is, entry, leave, at_s, again, after), stack),
+          (outer, q, (b, loop_is, function_is, entry, leave, at_s, again, after), stack),
         ),
       )
   decided_given v fails p k e w c shared facts zero holds leads stack = absurd stack

@@ -32,7 +32,7 @@ use Rattle.cyc_objects.specs.inside.Tables.{Tables}
 use Rattle.cyc_objects.specs.inside.Words.{Is}
 use Rattle.cyc_objects.proofs.Pointers.{not-null, part-not-null, same_value}
 use Rattle.cyc_lower.proofs.relation.contents.HeldValues.{IsWord, IsIn}
-use Rattle.cyc_lower.proofs.relation.contents.Data.{in_words, IsWord-is, one_word, points_in, null_at, points_at}
+use Rattle.cyc_lower.proofs.relation.contents.Data.{in_words, IsWord-is, points_in, null_at, points_at}
 use Rattle.cyc_lower.proofs.relation.simulation.Accesses.{IsWell}
 use Rattle.cyc_words.proofs.Integers.{not_int_le}
 
@@ -84,21 +84,10 @@ module _ (t : Tables) where
   int_in kind a slots (operands.Slot n) is = int_at kind a slots n is
   int_in kind a slots (operands.Word w) is = int_is kind a slots (operands.Word w) is
 
-  -- it has one word, and as a char it is below 256
-  pub int_words : (kind : Kind) (a : ℕ) (words : Words) (p : ℕ) → Is t kind (Int a) words p → words_of_kind kind ≡ 1
-  int_words kinds.Int a words p is = refl
-  int_words kinds.Char a words p is = refl
-  int_words kind a words p is = absurd is
-
   pub char_low : (a : ℕ) (slots : Words) (o : Operand) → IsIn t (of_kind kinds.Char (Int a)) slots o → a % 256 ≡ a
   char_low a slots o is =
       let (words, p, same, is_it) = in_words t (of_kind kinds.Char (Int a)) slots o is in
       omega (arith, is_it.1)
-
-  -- a value of one word is told by it
-  pub first_word : (v : Kinded) (slots : Words) (o : Operand) → words_of_kind v.kind ≡ 1 → IsIn t v slots o → IsWord t v.kind v.value (operand_word slots o)
-  first_word v slots (operands.Slot n) single is = one_word t v.kind v.value slots n single is
-  first_word v slots (operands.Word w) single is = is
 
   -- the address of a cell is not 0
   pub not_zero : (kind : Kind) (object offset : ℕ) (slots : Words) (o : Operand) → IsIn t (of_kind kind (Thin object offset)) slots o → (operand_word slots o == 0) ≡ false

@@ -1,11 +1,12 @@
 -- The code of conditions, branches, loops, regions, ways out of a statement, and handlers.
-use Rattle.std.specs.Prelude.{ℕ, ◌+◌, Bool, true, false, ◌&&◌, List, [], ◌∷◌, ◌++◌, length, Option, None, Some, ◌%◌, ◌^◌}
+use Rattle.std.specs.Prelude.{ℕ, ◌+◌, Bool, true, false, ◌&&◌, ◌||◌, List, [], ◌∷◌, ◌++◌, length, Option, None, Some, ◌%◌, ◌^◌}
 use Rattle.cyc_types.specs.declared.typed.UnaryOperator.TheVariants as unary
 use Rattle.cyc_types.specs.declared.typed.LogicalOperator.{LogicalOperator}
 use Rattle.cyc_types.specs.declared.typed.LogicalOperator.TheVariants as logical
 use Rattle.cyc_types.specs.declared.typed.PointerOperator.{PointerOperator}
 use Rattle.cyc_types.specs.declared.typed.PointerOperator.TheVariants as pointers
-use Rattle.cyc_types.specs.TypedTrees.{Expression, Number, NullPointer, Unary, Binary, Statement, Empty, Operations, NoOperations, ThenCompute, ThenTest, ThenPointer, ThenPointerPeek}
+use Rattle.cyc_types.specs.TypedTrees.{Expression, Number, NullPointer, Unary, Binary, Operations, NoOperations, ThenCompute, ThenTest, ThenPointer, ThenPointerPeek}
+use Rattle.cyc_types.specs.TypedTrees.{Statement, Block, Empty, If, Break, Try, Items, NoItems, MoreItems, Execute, Clauses, NoClauses, Default, Case}
 use Rattle.cyc_plain.specs.declared.instruction.Comparison.{Comparison}
 use Rattle.cyc_plain.specs.declared.instruction.Comparison.TheVariants as comparisons
 use Rattle.cyc_plain.specs.declared.instruction.Operand.{Operand}
@@ -182,6 +183,38 @@ entered_code guarded condition body jump p leaving =
 abbrev pub looped_code : (guarded : Bool) → (condition body : ℕ → List Instruction) → (jump : ℕ → Instruction) → (p : ℕ) → List Instruction
 looped_code guarded condition body jump p =
     entered_code guarded condition (body (p + entry_length guarded (condition p))) jump p (p + entry_length guarded (condition p))
+
+-- A loop with such a condition, and no `break`, at place p. The condition in front leads to the loop's end where it fails, and so the run
+-- goes on into the body. At the end stands a jump to the next place, which has no lines, where a `break` would go.
+abbrev pub through_end : (front body condition : List Instruction) → (p : ℕ) → ℕ
+through_end front body condition p = p + length front + 1 + length body + length condition + 1
+
+abbrev pub through_by : (front : List Instruction) → (leave : ℕ → Instruction) → (body condition : List Instruction) → (back : Instruction) → (p : ℕ) → List Instruction
+through_by front leave body condition back p =
+    front ++ (leave (through_end front body condition p) ∷ ((body ++ condition) ++ (back ∷ instructions.Jump (through_end front body condition p + 1) ∷ [])))
+
+abbrev pub through_code : (front : List Instruction) → (leave : ℕ → Instruction) → (body condition : ℕ → List Instruction) → (jump : ℕ → Instruction) → (p : ℕ) → List Instruction
+through_code front leave body condition jump p =
+    through_by front leave (body (p + length front + 1)) (condition (p + length front + 1 + length (body (p + length front + 1)))) (jump (p + length front + 1)) p
+
+-- a statement that may leave the loop around it by a `break`
+abbrev mutual
+  pub breaks : Statement → Bool
+  breaks (Block r js) = items_break js
+  breaks (If a s t) = breaks s || breaks t
+  breaks (Try s cs) = breaks s || clauses_break cs
+  breaks Break = true
+  breaks s = false
+
+  pub items_break : Items → Bool
+  items_break NoItems = false
+  items_break (MoreItems (Execute s) js) = breaks s || items_break js
+  items_break (MoreItems i js) = items_break js
+
+  pub clauses_break : Clauses → Bool
+  clauses_break NoClauses = false
+  clauses_break (Default r js) = items_break js
+  clauses_break (Case n x r js cs) = items_break js || clauses_break cs
 
 -- ---- regions
 

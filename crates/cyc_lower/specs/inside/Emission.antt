@@ -20,7 +20,8 @@ use Rattle.cyc_plain.specs.declared.instruction.Instruction.TheVariants.{WriteBy
 use Rattle.cyc_frame_count.specs.inside.Needs.{most_frame_count}
 use Rattle.cyc_lower.specs.inside.Slots.{Starts, slot_of}
 use Rattle.cyc_lower.specs.inside.ValueCode.{code_unless, slot_or, code_unless_slot, conversion_code, compute_code, test_code, behind_left, pointer_code, span_of, failing_comparison}
-use Rattle.cyc_lower.specs.inside.ControlCode.{is_same, deciding_condition, deciding_jump, failing_jump, holding_jump, inside_loop, tag_operand, clause_code, opened_code, named_code, dynamic_code, inside_region, entry_code, looped_code, body_target, null_compared, pointers_failing}
+use Rattle.cyc_lower.specs.inside.ControlCode.{is_same, deciding_condition, deciding_jump, failing_jump, holding_jump, inside_loop, tag_operand, clause_code, opened_code, named_code, dynamic_code, inside_region, entry_code, looped_code, body_target, null_compared, pointers_failing, through_code}
+use Rattle.cyc_lower.specs.inside.ControlCode.{breaks}
 use Rattle.cyc_lower.specs.inside.ExpressionCode.{operand_of, source_of, source_slot, printed_operand, printed_code, left_of, value_slot, left_slot, value_operand, expression_code, brought_code, are_simple, is_simple}
 use Rattle.cyc_lower.specs.inside.Lowering.{is_guard, first_operand, condition_code, choice_code, choice_of, tests_code, last_condition, branch_code, branch_of, statement_code, declaration_code, condition_of, thrown_operand, thrown_code, caught_code, items_code, clauses_code}
 use Rattle.cyc_meaning.specs.FrameCount.{frame_count}
@@ -43,12 +44,17 @@ Gives answer result old new code = IfOk result (λ given. (given ≡ answer) × 
 
 -- where things begin, as the code has it
 abbrev pub view_starts : StartsCode → Starts
-view_starts starts = record { locals = starts.locals.now; structs = map view_struct starts.structs.now; raises = starts.raises; counters = starts.counters.now; globals = starts.globals.now; scopes = starts.scopes }
+view_starts starts = record { locals = starts.locals.now; tag_slot = starts.tag_slot; structs = map view_struct starts.structs.now; raises = starts.raises; counters = starts.counters.now; globals = starts.globals.now; scopes = starts.scopes }
 
 -- Slots are numbers that a word holds: a function has fewer locals than this, and of its temporaries no more are in use than
 -- there are instructions before.
 abbrev pub most_locals : ℕ
 most_locals = 2 ^ 32
+
+-- whether an item of a block leaves the loop around it by a `break`
+abbrev pub item_breaks : Item → Bool
+item_breaks (item.Execute s) = breaks (view_statement s)
+item_breaks i = false
 
 -- this expression is a chain of these operators
 abbrev pub IsChain : (whole first : Expression) → Operations → Type 0
@@ -234,7 +240,12 @@ module _ (starts : Starts) where
   abbrev pub then_code : Expression → Statement → (p : ℕ) → Exits → (t : ℕ) → List Instruction
   then_code a s p exits t = statement_code starts (If a s Empty) p exits t
 
-  -- a loop
+  -- a loop whose condition may have little code, and whose body has no break
+  abbrev pub through_loop : Expression → Statement → (p : ℕ) → Exits → (t : ℕ) → List Instruction
+  through_loop a s p exits t =
+      through_code (choice_code starts logical.OrElse a p t) (failing_jump (choice_of starts logical.OrElse a t)) (λ q. statement_code starts s q (inside_loop p p exits) t) (λ q. choice_code starts logical.AndThen a q t) (holding_jump (choice_of starts logical.AndThen a t)) p
+
+  -- any other loop
   abbrev pub loop_code : Expression → Statement → (p : ℕ) → Exits → (t : ℕ) → List Instruction
   loop_code a s p exits t =
       looped_code (is_guard starts a) (λ q. choice_code starts logical.AndThen a q t) (λ leaving. statement_code starts s (body_target leaving) (inside_loop p leaving exits) t) (holding_jump (choice_of starts logical.AndThen a t)) p

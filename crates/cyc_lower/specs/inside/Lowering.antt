@@ -3,7 +3,7 @@
 -- is read on the way. Else it writes to the slots from t on alone. Numbers and locals are operands where they are used.
 --
 -- A value has as many slots as its kind has words, one behind the other, and a global as many words.
-use Rattle.std.specs.Prelude.{ℕ, suc, ◌+◌, Bool, false, List, [], ◌∷◌, ◌++◌, length, map, replicate, ◌-◌, Option, None, Some, true, ◌||◌, ◌&&◌, is_some, if◌then◌else◌, max, take}
+use Rattle.std.specs.Prelude.{ℕ, zero, suc, ◌+◌, Bool, false, List, [], ◌∷◌, ◌++◌, length, map, replicate, ◌-◌, Option, None, Some, true, ◌||◌, ◌&&◌, is_some, if◌then◌else◌, max, take, not}
 use Rattle.std.specs.List.{list_any}
 use Rattle.cyc_words.specs.declared.span.Span.{Span}
 use Rattle.cyc_syntax.specs.Symbols.{Place}
@@ -29,10 +29,10 @@ use Rattle.cyc_meaning.specs.FrameCount.{frame_count, items_need, words_of_all, 
 use Rattle.cyc_lower.specs.inside.Slots.{Types, Starts, starts_from, slot_of, global_of, global_types}
 use Rattle.cyc_lower.specs.declared.operands.Condition.{Condition}
 use Rattle.cyc_lower.specs.declared.statements.Exits.{Exits}
-use Rattle.cyc_lower.specs.inside.ValueCode.{slot_types, first_temporary, operand_or, code_unless, slot_or, code_unless_slot, left_with, blocks, failing_comparison, move_of, conversion_code, span_of, addressed_by, word_by_word, global_code, passed_words, kind_passed, blank_code}
+use Rattle.cyc_lower.specs.inside.ValueCode.{slot_types, tag_slot, first_temporary, operand_or, code_unless, slot_or, code_unless_slot, left_with, blocks, failing_comparison, move_of, conversion_code, span_of, addressed_by, word_by_word, global_code, passed_words, kind_passed, blank_code}
 use Rattle.cyc_lower.specs.inside.ObjectCode.{stores_code, stored_by, load_at, right_slot}
 use Rattle.cyc_lower.specs.inside.ControlCode.{compared_of, negated_condition, turned_test, failing_jump, holding_jump, deciding_jump, are_tests, if_code, break_target, continue_target, named_code, opened_code, closed_code, dynamic_code, leave_code}
-use Rattle.cyc_lower.specs.inside.ControlCode.{behind_record, kept_code, tag_operand, handled_code, clause_code, goes_on, outside_loops, inside_loop, inside_try, inside_region, body_target, looped_code, is_nothing, other_place}
+use Rattle.cyc_lower.specs.inside.ControlCode.{behind_record, kept_code, tag_operand, handled_code, clause_code, goes_on, outside_loops, inside_loop, inside_try, inside_region, body_target, looped_code, is_nothing, other_place, through_code, breaks}
 use Rattle.cyc_lower.specs.inside.ExpressionCode.{operand_of, value_slot, slot_with, value_operand, source_of, converted_operand, printed_operand, place_operand, place_offset, load_code, expression_code, place_code, converted_operand_code, printed_code, initial_code, brought_code, is_simple}
 
 module _ (starts : Starts) where
@@ -163,6 +163,10 @@ module _ (starts : Starts) where
   is_guard (Binary a os ty) = is_simple starts (Binary a os ty) || compares_light a os
   is_guard a = is_light a
 
+  -- a loop whose condition has little code, and whose body has no `break`
+  abbrev pub goes_through : Expression → Statement → Bool
+  goes_through a s = is_guard a && not (breaks s)
+
   -- A value is returned from a slot: that of a local, or t. It is converted before handlers are closed.
   abbrev pub return_code : Option Converted → (p : ℕ) → Exits → (t : ℕ) → List Instruction
   return_code None p exits t = leave_code exits.in_function ++ instructions.Finish t ∷ []
@@ -232,7 +236,9 @@ module _ (starts : Starts) where
         (statement_code u (other_place (is_nothing u) (branch_code logical.AndThen a 0 p t) (statement_code s (p + length (branch_code logical.AndThen a 0 p t) + 1) exits t) p) exits t)
         p
     statement_code (While w a s) p exits t =
-        looped_code (is_guard a) (λ q. choice_code logical.AndThen a q t) (λ leaving. statement_code s (body_target leaving) (inside_loop p leaving exits) t) (holding_jump (choice_of logical.AndThen a t)) p
+        if goes_through a s
+        then through_code (choice_code logical.OrElse a p t) (failing_jump (choice_of logical.OrElse a t)) (λ q. statement_code s q (inside_loop p p exits) t) (λ q. choice_code logical.AndThen a q t) (holding_jump (choice_of logical.AndThen a t)) p
+        else looped_code (is_guard a) (λ q. choice_code logical.AndThen a q t) (λ leaving. statement_code s (body_target leaving) (inside_loop p leaving exits) t) (holding_jump (choice_of logical.AndThen a t)) p
     statement_code (Return v) p exits t = return_code v p exits t
     statement_code Break p exits t = leave_code exits.in_loop ++ instructions.Jump (break_target exits) ∷ []
     statement_code Continue p exits t = leave_code exits.in_loop ++ instructions.Jump (continue_target exits) ∷ []
@@ -270,7 +276,7 @@ module _ (starts : Starts) where
 -- By which the code of a function is made, in a program with these structs, whose globals have these first words, where blocks stand
 -- behind this place, and where a `try` keeps how many lexical regions are open, if it does.
 abbrev pub starts_with : (raises : ℕ) → List StructType → (globals : List ℕ) → (scopes : Option ℕ) → Function → Starts
-starts_with raises structs globals scopes h = record { locals = starts_from 0 (slot_types h); structs = structs; raises = raises; counters = []; globals = globals; scopes = scopes }
+starts_with raises structs globals scopes h = record { locals = starts_from 0 (slot_types h); tag_slot = tag_slot h; structs = structs; raises = raises; counters = []; globals = globals; scopes = scopes }
 
 -- the code of its body
 abbrev pub body_code : Starts → Function → List Instruction
@@ -297,16 +303,20 @@ farthest (i ∷ is) = max (target_of i) (farthest is)
 
 -- A body's code ends in a return, which is the end of a void function. In any other it is never reached, and stands there so that no
 -- code runs off its end. Behind it stand blocks, so many of them.
-abbrev pub with_blocks : (body : List Instruction) → (value count : ℕ) → List Instruction
-with_blocks body value count = body ++ instructions.Finish value ∷ take count blocks
+abbrev pub with_blocks : (body : List Instruction) → (slot count : ℕ) → List Instruction
+with_blocks body slot count = body ++ instructions.Finish slot ∷ take count (blocks slot)
 
--- as far as something leads to them
-abbrev pub finished_code : (body : List Instruction) → (raises value : ℕ) → List Instruction
-finished_code body raises value = with_blocks body value (farthest body - raises)
+-- as far as something leads to them, of which the first two are one
+abbrev pub blocks_kept : (farthest : ℕ) → ℕ
+blocks_kept (suc zero) = 2
+blocks_kept n = n
+
+abbrev pub finished_code : (body : List Instruction) → (raises slot : ℕ) → List Instruction
+finished_code body raises slot = with_blocks body slot (blocks_kept (farthest body - raises))
 
 abbrev pub function_code : List StructType → (globals : List ℕ) → (scopes : Option ℕ) → Function → List Instruction
 function_code structs globals scopes h =
-    finished_code (body_code (starts_with (raises_of structs globals scopes h) structs globals scopes h) h) (raises_of structs globals scopes h) (first_temporary h)
+    finished_code (body_code (starts_with (raises_of structs globals scopes h) structs globals scopes h) h) (raises_of structs globals scopes h) (tag_slot h)
 
 -- the words that a function returns
 abbrev pub results_of : Option Ty → ℕ
@@ -320,8 +330,8 @@ span_of_place p = record { line = p.line; column = p.column }
 abbrev pub spare_slots : ℕ
 spare_slots = 3
 
--- its slots are the locals, the records of its handlers, as many temporaries as its expressions need, and those of one value more,
--- such as what it returns
+-- its slots are the locals and the one behind them, the records of its handlers, as many temporaries as its expressions need, and those of
+-- one value more, such as what it returns
 abbrev pub lower_function : List StructType → (globals : List ℕ) → (scopes : Option ℕ) → Function → Routine
 lower_function structs globals scopes h = record {
   name = span_of_place h.place;

@@ -8,6 +8,7 @@ use Rattle.cyc_types.specs.declared.typed.Kind.TheVariants as kinds
 use Rattle.cyc_types.specs.Types.{Ty, words_of}
 use Rattle.cyc_types.specs.TypedTrees.{StructType, GlobalVariable}
 use Rattle.cyc_meaning.specs.Values.{kind_of, bytes_of_kind}
+use Rattle.cyc_meaning.specs.FrameCount.{words_of_all}
 
 -- the first slot of a local of this number
 abbrev pub slot_in : List Ty → ℕ → ℕ
@@ -34,11 +35,12 @@ pub record Types : Type 0 where
   pub globals : List Ty
   pub scopes : Option ℕ
 
--- What tells where things begin: the first slots of a function's locals, the structs of its program, for their fields, the place
--- behind which the blocks stand that raise exceptions, the slots of counters, the first words of globals, and where a `try` keeps how many
--- lexical regions are open.
+-- What tells where things begin: the first slots of a function's locals, and the one behind them, the structs of its program, for their
+-- fields, the place behind which the blocks stand that raise exceptions, the slots of counters, the first words of globals, and where a
+-- `try` keeps how many lexical regions are open.
 pub record Starts : Type 0 where
   pub locals : List ℕ
+  pub tag_slot : ℕ
   pub structs : List StructType
   pub raises : ℕ
   pub counters : List ℕ
@@ -46,14 +48,14 @@ pub record Starts : Type 0 where
   pub scopes : Option ℕ
 
 abbrev pub starts_of : Types → Starts
-starts_of types = record { locals = starts_from 0 types.locals; structs = types.structs; raises = types.raises; counters = types.counters; globals = starts_from 0 types.globals; scopes = types.scopes }
+starts_of types = record { locals = starts_from 0 types.locals; tag_slot = words_of_all types.locals; structs = types.structs; raises = types.raises; counters = types.counters; globals = starts_from 0 types.globals; scopes = types.scopes }
 
 -- for the elements of an array, whose counter has this slot
 abbrev pub counted : Types → (slot : ℕ) → Types
 counted types slot = record { locals = types.locals; structs = types.structs; raises = types.raises; counters = types.counters ++ slot ∷ []; globals = types.globals; scopes = types.scopes }
 
 abbrev pub with_counter : Starts → (slot : ℕ) → Starts
-with_counter starts slot = record { locals = starts.locals; structs = starts.structs; raises = starts.raises; counters = starts.counters ++ slot ∷ []; globals = starts.globals; scopes = starts.scopes }
+with_counter starts slot = record { locals = starts.locals; tag_slot = starts.tag_slot; structs = starts.structs; raises = starts.raises; counters = starts.counters ++ slot ∷ []; globals = starts.globals; scopes = starts.scopes }
 
 -- where a cell of a kind begins, behind so many bytes: a word, since it is wrapped
 abbrev pub begins_word : Kind → (at : ℕ) → ℕ

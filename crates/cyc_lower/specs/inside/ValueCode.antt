@@ -35,9 +35,13 @@ use Rattle.cyc_meaning.specs.Parts.{target_of, target_by, target_of_value}
 abbrev pub slot_types : Function → List Ty
 slot_types h = h.parameters ++ h.locals
 
--- the first slot behind the locals of a function
+-- Behind the locals of a function is the slot in which an access that fails leaves what tells which exception it raises.
+abbrev pub tag_slot : Function → ℕ
+tag_slot h = words_of_all (slot_types h)
+
+-- and behind that the first slot for temporaries
 abbrev pub first_temporary : Function → ℕ
-first_temporary h = words_of_all (slot_types h)
+first_temporary h = tag_slot h + 1
 
 -- the low 8 bits of a word
 abbrev pub low_byte : Operand → (d : ℕ) → Instruction
@@ -152,13 +156,19 @@ jump_if_nonzero o target = instructions.Branch comparisons.NotEqual o (operands.
 abbrev pub raising : (tag : ℕ) → Instruction
 raising tag = instructions.Throw (operands.Word tag) (operands.Word 0)
 
--- Such an instruction stands behind a function's body for each exception that the language itself raises, in the order of their tags.
-abbrev pub blocks : List Instruction
-blocks = raising null_exception ∷ raising array_bounds ∷ raising array_size ∷ raising division_by_zero ∷ []
+-- What raises the exception of an access by a fat pointer, where a slot holds 0 if the pointer is null, and else 1: so that has the number
+-- of the one exception, or that of the next.
+abbrev pub telling : (slot : ℕ) → List Instruction
+telling slot = instructions.Binary plain_binary.Add slot (operands.Slot slot) (operands.Word null_exception) ∷ instructions.Throw (operands.Slot slot) (operands.Word 0) ∷ []
+
+-- It stands behind a function's body, and behind it such an instruction for each exception that the language itself raises, in the order
+-- of their tags.
+abbrev pub blocks : (slot : ℕ) → List Instruction
+blocks slot = telling slot ++ (raising null_exception ∷ raising array_bounds ∷ raising array_size ∷ raising division_by_zero ∷ [])
 
 -- where this comparison of two operands holds, an exception is raised
 abbrev pub guard_code : Starts → (tag : ℕ) → Comparison → (l r : Operand) → List Instruction
-guard_code starts tag failing l r = instructions.Branch failing l r (starts.raises + tag) ∷ []
+guard_code starts tag failing l r = instructions.Branch failing l r (starts.raises + 2 + tag) ∷ []
 
 -- where a word is 0
 abbrev pub check_code : Starts → (tag : ℕ) → Operand → List Instruction
@@ -210,12 +220,12 @@ summed_code None n x t = []
 summed_code (Some bytes) n x t = instructions.Binary plain_binary.Add t (operands.Slot n) (operands.Slot x) ∷ []
 
 -- At place p the index in slot m is compared with the length behind slot n, which is 0 where the pointer is null: so the pointer is only
--- asked for where the index is not below it, to tell which exception that is.
+-- asked for where the index is not below it, to tell which exception that is. All accesses of a function go on to what raises it.
 abbrev pub inside_code : Starts → (n m p : ℕ) → List Instruction
 inside_code starts n m p =
     instructions.Branch comparisons.LessUnsigned (operands.Slot m) (operands.Slot (n + 1)) (p + 3)
-    ∷ instructions.Branch comparisons.Equal (operands.Slot n) (operands.Word 0) (starts.raises + null_exception)
-    ∷ instructions.Jump (starts.raises + array_bounds)
+    ∷ instructions.Binary plain_binary.NotEqual starts.tag_slot (operands.Slot n) (operands.Word 0)
+    ∷ instructions.Jump (starts.raises + 1)
     ∷ []
 
 -- An access at place p by a fat pointer whose first words are in slot n and the next, and whose index is in slot m. The number of bytes

@@ -6,15 +6,15 @@ use Rattle.cyc_types.specs.declared.ty.Ty.{Ty}
 use Rattle.cyc_meaning.specs.FrameCount.{items_need, kept_by_items, words_of_all}
 use Rattle.cyc_lower.specs.inside.ValueCode.{first_temporary}
 use Rattle.cyc_lower.specs.inside.ControlCode.{outside_loops}
-use Rattle.cyc_lower.specs.inside.Lowering.{function_code, items_code, span_of_place}
+use Rattle.cyc_lower.specs.inside.Lowering.{function_code, items_code, blocks_kept, span_of_place}
 use Rattle.cyc_lower.proofs.sizes.Routines.{few_locals, function_made}
 use Rattle.cyc_lower.proofs.functions.lower_function.Goals as goal
 
 pub lower_body-requires : goal.lower_body-requires
-lower_body-requires c = omega (arith, (few_locals c.args.function.now c.requires).1, c.in_ok-locals.ensures.1)
+lower_body-requires c = omega (arith, (few_locals c.args.function.now c.requires).1, c.in_ok-locals.ensures.2)
 
 pub lower_body-requires-2 : goal.lower_body-requires-2
-lower_body-requires-2 c = omega (arith, (few_locals c.args.function.now c.requires).1, c.in_ok-locals.ensures.1)
+lower_body-requires-2 c = omega (arith, (few_locals c.args.function.now c.requires).1, c.in_ok-locals.ensures.2)
 
 pub words_of_all-requires : goal.words_of_all-requires
 words_of_all-requires c =
@@ -25,21 +25,21 @@ pub overflow_add-result : goal.overflow_add-result
 overflow_add-result c =
     let f = c.args.function.now in
     let kept = ap (λ (js : List Item). kept_by_items (items_of js)) c.deref-4.ensures.value in
-    omega (arith, (few_locals f c.requires).1, c.in_ok-locals.ensures.1, c.requires, kept, c.kept_by_items.ensures)
+    omega (arith, (few_locals f c.requires).1, c.in_ok-locals.ensures.2, c.requires, kept, c.kept_by_items.ensures)
 
 pub overflow_add-result-2 : goal.overflow_add-result-2
 overflow_add-result-2 c =
     let f = c.args.function.now in
     let kept = ap (λ (js : List Item). kept_by_items (items_of js)) c.deref-4.ensures.value in
     let body = ap (λ (js : List Item). items_need (items_of js)) c.deref-5.ensures.value in
-    omega (arith, (few_locals f c.requires).1, c.in_ok-locals.ensures.1, c.requires, kept, c.kept_by_items.ensures, body, c.items_need.ensures)
+    omega (arith, (few_locals f c.requires).1, c.in_ok-locals.ensures.2, c.requires, kept, c.kept_by_items.ensures, body, c.items_need.ensures)
 
 pub overflow_add-result-3 : goal.overflow_add-result-3
 overflow_add-result-3 c =
     let f = c.args.function.now in
     let kept = ap (λ (js : List Item). kept_by_items (items_of js)) c.deref-4.ensures.value in
     let body = ap (λ (js : List Item). items_need (items_of js)) c.deref-5.ensures.value in
-    omega (arith, (few_locals f c.requires).1, c.in_ok-locals.ensures.1, c.requires, kept, c.kept_by_items.ensures, body, c.items_need.ensures)
+    omega (arith, (few_locals f c.requires).1, c.in_ok-locals.ensures.2, c.requires, kept, c.kept_by_items.ensures, body, c.items_need.ensures)
 
 pub returns : goal.returns
 returns c =
@@ -48,19 +48,20 @@ returns c =
     let structs = map view_struct c.args.structs.now in
     let globals = c.args.globals.now in
     let scopes = c.args.scopes in
+    let slot = c.in_ok-locals.tag_slot in
     let free = c.in_ok-locals.free in
     let raises = c.place-raises.result in
     let parameters : c.words_of_all.result ≡ words_of_all h.parameters = c.words_of_all.ensures ∙ ap (λ (ts : List Ty). words_of_all (map view_ty ts)) c.deref-3.ensures.value in
     let body = ap (λ (js : List Item). items_need (items_of js)) c.deref-5.ensures.value in
     let kept = ap (λ (js : List Item). kept_by_items (items_of js)) c.deref-4.ensures.value in
-    let slots : free + c.kept_by_items.result + c.items_need.result + 3 ≡ first_temporary h + kept_by_items h.body + items_need h.body + 3 = omega (arith, c.in_ok-locals.ensures.1, c.kept_by_items.ensures, kept, c.items_need.ensures, body) in
+    let slots : free + c.kept_by_items.result + c.items_need.result + 3 ≡ first_temporary h + kept_by_items h.body + items_need h.body + 3 = omega (arith, c.in_ok-locals.ensures.2, c.kept_by_items.ensures, kept, c.items_need.ensures, body) in
     let code : c.take_back.new.self.code.items ≡ function_code structs globals scopes h =
-    function_made structs globals scopes h c.in_ok-locals.locals.items free raises (c.place.result + c.min-count.result) c.saturating_sub.result c.min-count.result c.in_ok-lower_body.field-0.code.items c.in_ok-emitter.emitter.code.items c.emit.new.self.code.items c.lower_blocks.new.self.code.items c.take_back.new.self.code.items
-    c.in_ok-locals.ensures.0 c.in_ok-locals.ensures.1
-    (c.in_ok-lower_body.ensures ∙ ap (λ (l : List ℕ). items_code (record { locals = l; structs = structs; raises = 0; counters = []; globals = globals; scopes = scopes }) h.body 0 outside_loops free) c.deref.ensures.value)
+    function_made structs globals scopes h c.in_ok-locals.locals.items slot free raises (c.place.result + c.blocks_kept-count.result) c.saturating_sub.result c.blocks_kept-count.result c.in_ok-lower_body.field-0.code.items c.in_ok-emitter.emitter.code.items c.emit.new.self.code.items c.lower_blocks.new.self.code.items c.take_back.new.self.code.items
+    c.in_ok-locals.ensures.0 c.in_ok-locals.ensures.1 c.in_ok-locals.ensures.2
+    (c.in_ok-lower_body.ensures ∙ ap (λ (l : List ℕ). items_code (record { locals = l; tag_slot = slot; structs = structs; raises = 0; counters = []; globals = globals; scopes = scopes }) h.body 0 outside_loops free) c.deref.ensures.value)
     c.place-raises.ensures
-    (c.in_ok-emitter.ensures ∙ ap (λ (l : List ℕ). items_code (record { locals = l; structs = structs; raises = raises; counters = []; globals = globals; scopes = scopes }) h.body 0 outside_loops free) c.deref-2.ensures.value)
-    (c.saturating_sub.ensures ∙ ap (λ (n : ℕ). n - raises) c.farthest.ensures) c.min-count.ensures c.in_ok-emit.ensures (ap (λ (n : ℕ). n + c.min-count.result) c.place.ensures) c.in_ok-lower_blocks.ensures c.take_back.ensures in
+    (c.in_ok-emitter.ensures ∙ ap (λ (l : List ℕ). items_code (record { locals = l; tag_slot = slot; structs = structs; raises = raises; counters = []; globals = globals; scopes = scopes }) h.body 0 outside_loops free) c.deref-2.ensures.value)
+    (c.saturating_sub.ensures ∙ ap (λ (n : ℕ). n - raises) c.farthest.ensures) (c.blocks_kept-count.ensures ∙ ap blocks_kept c.min.ensures) c.in_ok-emit.ensures (ap (λ (n : ℕ). n + c.blocks_kept-count.result) c.place.ensures) c.in_ok-lower_blocks.ensures c.take_back.ensures in
     λ i. record {
       name = span_of_place h.place;
       parameters = parameters i;

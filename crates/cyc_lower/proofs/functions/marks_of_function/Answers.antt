@@ -3,4 +3,4 @@ use Rattle.cyc_lower.proofs.sizes.Routines.{few_locals}
 use Rattle.cyc_lower.proofs.functions.marks_of_function.Goals as goal
 
 pub lower_body-requires : goal.lower_body-requires
-lower_body-requires c = omega (arith, (few_locals c.args.function.now c.requires).1, c.in_ok-locals.ensures.1)
+lower_body-requires c = omega (arith, (few_locals c.args.function.now c.requires).1, c.in_ok-locals.ensures.2)

@@ -26,8 +26,8 @@ returns c =
     let behind = c.in_ok-behind.behind in
     let first = c.add_locals.new.starts.items in
     let words = ap (λ (ts : List Ty). words_of_all (map view_ty ts)) parameters in
-    slots-made h behind c.in_ok-free.free first c.add_locals-2.new.starts.items
+    slots-made h behind c.in_ok-end.end first c.add_locals-2.new.starts.items
     (omega (arith, c.in_ok-behind.ensures.0, words))
     (c.in_ok-behind.ensures.1 ∙ ap (λ (l : List ℕ). l ++ starts_from 0 (map view_ty c.deref.result.now)) c.new-starts.ensures.items ∙ ap (λ (ts : List Ty). starts_from 0 (map view_ty ts)) parameters)
-    (c.in_ok-free.ensures.0 ∙ ap (λ (ts : List Ty). behind + words_of_all (map view_ty ts)) locals)
-    (c.in_ok-free.ensures.1 ∙ ap (λ (ts : List Ty). first ++ starts_from behind (map view_ty ts)) locals)
+    (c.in_ok-end.ensures.0 ∙ ap (λ (ts : List Ty). behind + words_of_all (map view_ty ts)) locals)
+    (c.in_ok-end.ensures.1 ∙ ap (λ (ts : List Ty). first ++ starts_from behind (map view_ty ts)) locals)

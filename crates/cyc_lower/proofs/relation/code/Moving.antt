@@ -1,6 +1,6 @@
 -- Stores through pointers change slots of calls that wait, but neither where these go on nor what stands behind their locals: so what is said
 -- of the control stack and its code stays.
-use Rattle.std.proofs.Common.{◌≡◌, ℕ, Bool, true, false, suc, ◌+◌, ◌≤◌, ◌<◌, List, [], ◌∷◌, length, Option, Some, refl, sym, ap, subst, ◌∙◌, arith, inl, inr, zero, set, slice_get, option_map}
+use Rattle.std.proofs.Common.{◌≡◌, ℕ, Bool, true, false, suc, ◌+◌, ◌≤◌, ◌<◌, List, [], ◌∷◌, length, Option, Some, refl, sym, ap, subst, arith, inl, inr, zero, set, slice_get, option_map}
 use Rattle.std.specs.Prelude.{option_map, not}
 use Rattle.cyc_types.specs.declared.typed.Kind.{Kind}
 use Rattle.cyc_types.specs.declared.typed.Kind.TheVariants as kinds
@@ -41,25 +41,6 @@ module _ (source : Program) where
   pub like_same : (frames : List Frame) → Like frames frames
   like_same [] = tt
   like_same (f ∷ frames) = ((f.caller.slots, refl, (λ n least. refl)), like_same frames)
-
-  pub like_then : (frames others last : List Frame) → Like frames others → Like others last → Like frames last
-  like_then [] [] [] first second = tt
-  like_then [] [] (j ∷ last) first second = absurd second
-  like_then [] (h ∷ others) last first second = absurd first
-  like_then (f ∷ frames) [] last first second = absurd first
-  like_then (f ∷ frames) (h ∷ others) [] first second = absurd second
-  like_then (f ∷ frames) (h ∷ others) (j ∷ last) ((slots, is, same), first) ((words, also, still), second) = (
-    by h is also still,
-    like_then frames others last first second,
-  )
-    where
-      by : (x : Frame) → x ≡ record f { caller = record f.caller { slots = slots } } → j ≡ record x { caller = record x.caller { slots = words } } → ((n : ℕ) → base_of source x.caller.function ≤ n → words n ≡ x.caller.slots n)
-          → (slots : Words) × (j ≡ record f { caller = record f.caller { slots = slots } }) × ((n : ℕ) → base_of source f.caller.function ≤ n → slots n ≡ f.caller.slots n)
-      by x x_is j_is still = (
-        words,
-        j_is ∙ ap (λ (y : Frame). let z : Frame = record y { caller = record y.caller { slots = words } } in z) x_is,
-        λ n least. subst (λ (y : Frame). (m : ℕ) → base_of source y.caller.function ≤ m → words m ≡ y.caller.slots m) x_is still n least ∙ same n least,
-      )
 
   -- a word of a local is written
   pub like_set : (frames : List Frame) (i : ℕ) (f : Frame) (slot word : ℕ) → slice_get frames i ≡ Some f → slot < base_of source f.caller.function → Like frames (set frames i (with_slot_of f slot word))

@@ -24,19 +24,20 @@ use Rattle.cyc_plain.specs.declared.instruction.Operand.TheVariants as operands
 use Rattle.cyc_plain.specs.declared.instruction.Request.TheVariants as requests
 use Rattle.cyc_plain.specs.declared.instruction.Instruction.{Instruction}
 use Rattle.cyc_plain.specs.declared.instruction.Instruction.TheVariants as instructions
-use Rattle.cyc_plain.specs.inside.Straight.{At}
+use Rattle.cyc_plain.specs.inside.Straight.{At, HasAt}
 use Rattle.cyc_store.specs.declared.range.TheConstants.{MOST_BLOCK_WORDS, HEAP, UNIQUE}
 use Rattle.cyc_meaning.specs.Operators.{array_size, null_exception, division_by_zero, array_bounds}
 use Rattle.cyc_meaning.specs.Values.{is_thin, words_of_kind, bytes_of_kind, begins, behind, bytes_from, words_for, kind_of}
 use Rattle.cyc_lower.specs.declared.statements.Exits.{Exits}
 use Rattle.cyc_lower.specs.inside.Slots.{counted, Types, starts_of, slot_of, field_of, global_of}
 use Rattle.cyc_lower.specs.inside.ValueCode.{binary_operator, failing_comparison, left_with, next_slot, is_in, move_of, test_jump, converts_there, passed_words, all_passed, kinds_passed, low_byte, behind_left, pointer_operator, raising}
-use Rattle.cyc_lower.specs.inside.ValueCode.{jump_if_zero, span_of, span_in, followed_operand, scale_of, reached_operand, load_word, store_word, address_of_global, unary_instruction, keeps_words, masks, kind_passed, load_of, store_of}
+use Rattle.cyc_lower.specs.inside.ValueCode.{jump_if_zero, span_of, span_in, followed_operand, scale_of, reached_operand, load_word, store_word, address_of_global, unary_instruction, keeps_words, masks, kind_passed, load_of, store_of, telling}
 use Rattle.cyc_lower.specs.inside.ObjectCode.{most_elements, slots_of_kinds}
-use Rattle.cyc_lower.specs.inside.ControlCode.{opposite, compared_of, continue_target, body_target, null_compared, pointers_failing}
+use Rattle.cyc_lower.specs.inside.ControlCode.{opposite, compared_of, continue_target, null_compared, pointers_failing}
 use Rattle.cyc_lower.specs.inside.ExpressionCode.{operand_of, source_of, source_slot, left_of, value_slot, slot_with, left_slot, pointer_of, is_simple}
 use Rattle.cyc_lower.proofs.slots.Widths.{given, HasRoom, HasField, HasGlobal, words_in}
 use Rattle.cyc_types.specs.declared.typed.UnaryOperator.TheVariants as unary
+use Rattle.cyc_meaning.specs.FrameCount.{words_of_all}
 
 -- an instruction for each of so many words stands here, by its number in the globals and its slot
 abbrev pub EachAt : (code : List Instruction) → (each : (global slot : ℕ) → Instruction) → (words first slot p q : ℕ) → Type 0
@@ -148,12 +149,12 @@ module _ (code : List Instruction) (bounds : Numbering) (types : Types) where
   SummedAt None n x t p q = p ≡ q
   SummedAt (Some bytes) n x t p q = At code p (instructions.Binary plain_binary.Add t (operands.Slot n) (operands.Slot x)) × (p + 1 ≡ q)
 
-  -- an index is compared with a length, and what raises an exception is jumped over: that of null where the pointer is null
+  -- an index is compared with a length, and what tells which exception is raised is jumped over: by the pointer's first word
   abbrev pub InsideAt : (n m p q : ℕ) → Type 0
   InsideAt n m p q =
       At code p (instructions.Branch comparisons.LessUnsigned (operands.Slot m) (operands.Slot (n + 1)) q)
-      × ((x : ℕ) × At code (p + 1) (instructions.Branch comparisons.Equal (operands.Slot n) (operands.Word 0) x) × At code x (raising null_exception))
-      × ((x : ℕ) × At code (p + 2) (instructions.Jump x) × At code x (raising array_bounds)) × (p + 3 ≡ q)
+      × At code (p + 1) (instructions.Binary plain_binary.NotEqual (words_of_all types.locals) (operands.Slot n) (operands.Word 0))
+      × ((x : ℕ) × At code (p + 2) (instructions.Jump x) × (p + 2 < x) × HasAt code x (telling (words_of_all types.locals))) × (p + 3 ≡ q)
 
   -- an access by a fat pointer whose first words are in slot n and the next, and whose index is in slot m
   abbrev pub ReachedAt : (span : Option ℕ) → (n m t p q : ℕ) → Type 0
@@ -499,11 +500,10 @@ module _ (code : List Instruction) (bounds : Numbering) (types : Types) where
         (f : ℕ) × (h : ℕ) × BranchesAt b f h t p × TestsAt os true t f goes × TestsAt os false t h goes
     TestsAt os fails t p goes = ⊥
 
-  -- What leads into a loop with these ways out: its condition, and a jump over the next instruction where it holds, or a jump to the condition
-  -- behind its body.
-  abbrev pub EntryAt : Expression → Exits → (t test : ℕ) → Type 0
-  EntryAt a exits t test =
-      BranchesAt a exits.leaving (body_target exits.leaving) t (continue_target exits)
+  -- What leads into a loop with these ways out, whose body stands at a place: its condition, or a jump to the condition behind its body.
+  abbrev pub EntryAt : Expression → Exits → (body t test : ℕ) → Type 0
+  EntryAt a exits body t test =
+      BranchesAt a exits.leaving body t (continue_target exits)
       ⊎ (At code (continue_target exits) (instructions.Jump test) × (continue_target exits < test))
 
   -- the only operator on pointers of a condition: the left one is compared with null, or with the right one

@@ -21,7 +21,7 @@ use Rattle.cyc_lower.specs.declared.statements.Opened.{Opened}
 use Rattle.cyc_lower.specs.inside.Slots.{Types, starts_of, slot_of, global_of}
 use Rattle.cyc_lower.specs.inside.ValueCode.{move_of, span_of, kind_passed}
 use Rattle.cyc_lower.specs.inside.ObjectCode.{right_slot, load_at}
-use Rattle.cyc_lower.specs.inside.ControlCode.{break_target, continue_target, body_target, inside_loop, inside_try, behind_record_in, tag_operand, other_jump, goes_on, inside_region}
+use Rattle.cyc_lower.specs.inside.ControlCode.{break_target, continue_target, inside_loop, inside_try, behind_record_in, tag_operand, other_jump, goes_on, inside_region}
 use Rattle.cyc_lower.specs.inside.ExpressionCode.{operand_of, source_of}
 use Rattle.cyc_lower.specs.inside.Lowering.{results_of}
 use Rattle.cyc_lower.proofs.slots.Widths.{kind_of_result, HasRoom, HasGlobal, HasLocal}
@@ -143,8 +143,8 @@ module _ (code : List Instruction) (bounds : Numbering) (types : Types) where
     StatementAt (If a s u) exits t p q =
         (f : ℕ) × (h : ℕ) × (r : ℕ) × BranchesAt code bounds types a f h t p × StatementAt s exits t h r × OverAt code r q × StatementAt u exits t f q
     StatementAt (While w a s) exits t p q =
-        (l : ℕ) × (r : ℕ) × EntryAt code bounds types a (inside_loop p l exits) t r × At code l (instructions.Jump q)
-        × StatementAt s (inside_loop p l exits) t (body_target l) r × BranchesAt code bounds types a q (body_target l) t r × (l < q)
+        (l : ℕ) × (b : ℕ) × (r : ℕ) × EntryAt code bounds types a (inside_loop p l exits) b t r × At code l (instructions.Jump q)
+        × StatementAt s (inside_loop p l exits) t b r × ((f : ℕ) × BranchesAt code bounds types a f b t r × OverAt code f q) × (l < q)
     StatementAt (Return v) exits t p q = ReturnAt v exits t p
     StatementAt Break exits t p q = (m : ℕ) × LeaveAt exits.in_loop p m × At code m (instructions.Jump (break_target exits))
     StatementAt Continue exits t p q = (m : ℕ) × LeaveAt exits.in_loop p m × At code m (instructions.Jump (continue_target exits))

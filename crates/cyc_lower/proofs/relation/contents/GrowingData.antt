@@ -3,18 +3,16 @@ use Rattle.std.proofs.Common.{◌≡◌, ℕ, ◌+◌, List, [], ◌∷◌, leng
 use Rattle.cyc_types.specs.TypedTrees.{Program}
 use Rattle.cyc_plain.specs.inside.State.{Words, Frame}
 use Rattle.cyc_plain.specs.declared.limits.TheConstants.{GLOBALS_BASE}
-use Rattle.cyc_types.specs.declared.typed.Kind.{Kind}
 use Rattle.cyc_types.specs.declared.typed.Kind.TheVariants as kinds
-use Rattle.cyc_meaning.specs.Values.{Value, Operand, words_of_kind}
+use Rattle.cyc_meaning.specs.Values.{Operand, words_of_kind}
 use Rattle.cyc_meaning.specs.State.{Object}
 use Rattle.cyc_lower.specs.inside.Slots.{starts_of, slot_of, global_of, global_types, Types}
 use Rattle.cyc_lower.specs.inside.Lowering.{scopes_of}
-use Rattle.cyc_plain.specs.declared.instruction.Operand.{Operand as Place}
 use Rattle.cyc_plain.specs.declared.instruction.Operand.TheVariants as operands
 use Rattle.cyc_objects.specs.inside.Tables.{Tables, Grows, Row, Placed}
 use Rattle.cyc_objects.proofs.Values.{Is-grows}
 use Rattle.cyc_lower.proofs.relation.places.Known.{global-row_grows, first_word}
-use Rattle.cyc_lower.proofs.relation.contents.HeldValues.{CallSlots, row_of, IsWord, IsIn, Waiting, height, Holds, HoldsFrom, LocalsHold, IsCharAt}
+use Rattle.cyc_lower.proofs.relation.contents.HeldValues.{CallSlots, row_of, Waiting, height, Holds, HoldsFrom, LocalsHold, IsCharAt}
 use Rattle.cyc_lower.proofs.relation.simulation.Stacks.{call_slots, FramesHold, DataAt, types_at, starts_at, base_of}
 use Rattle.cyc_lower.proofs.relation.simulation.Shared.{AreOfVariables}
 use Rattle.cyc_lower.specs.inside.ValueCode.{variable_bytes}
@@ -22,19 +20,6 @@ use Rattle.cyc_lower.specs.inside.ValueCode.{variable_bytes}
 -- ---- tables that grow
 
 module _ (t u : Tables) (grows : Grows t u) where
-  pub IsWord-grows : (kind : Kind) (v : Value) (word : ℕ) → IsWord t kind v word → IsWord u kind v word
-  IsWord-grows kinds.Char v word is = Is-grows grows kinds.Char v (λ (i : ℕ). word) 0 is
-  IsWord-grows kinds.Int v word is = Is-grows grows kinds.Int v (λ (i : ℕ). word) 0 is
-  IsWord-grows kinds.Nullable v word is = Is-grows grows kinds.Nullable v (λ (i : ℕ). word) 0 is
-  IsWord-grows kinds.NonNull v word is = Is-grows grows kinds.NonNull v (λ (i : ℕ). word) 0 is
-  IsWord-grows kinds.Handle v word is = Is-grows grows kinds.Handle v (λ (i : ℕ). word) 0 is
-  IsWord-grows kinds.Key v word is = Is-grows grows kinds.Key v (λ (i : ℕ). word) 0 is
-  IsWord-grows kind v word is = absurd is
-
-  pub IsIn-grows : (v : Operand) (slots : Words) (o : Place) → IsIn t v slots o → IsIn u v slots o
-  IsIn-grows v slots (operands.Slot n) is = Is-grows grows v.kind v.value slots n is
-  IsIn-grows v slots (operands.Word w) is = IsWord-grows v.kind v.value w is
-
   pub Holds-grows : (slots : Words) (base : ℕ) (vs : List Operand) → Holds t slots base vs → Holds u slots base vs
   Holds-grows slots base [] holds = tt
   Holds-grows slots base (v ∷ vs) (is, holds) = (Is-grows grows v.kind v.value slots (height base vs) is, Holds-grows slots base vs holds)

@@ -20,14 +20,20 @@ record-least : (scopes : Option ℕ) (slot : ℕ) → slot + RECORD_WORDS ≤ be
 record-least None slot = omega arith
 record-least (Some place) slot = omega arith
 
--- temporaries begin behind the locals
+-- temporaries begin behind the locals, and the slot behind those
+behind-above : (k : List Entry) (scopes : Option ℕ) (slot : ℕ) → slot < behind_records k scopes slot
+behind-above [] scopes slot = omega arith
+behind-above (Handler handler ∷ k) scopes slot = omega (arith, behind-above k scopes slot, record-least scopes (behind_records k scopes slot))
+behind-above (CloseLexical region ∷ k) scopes slot = omega (arith, behind-above k scopes slot)
+behind-above (Caller e ∷ k) scopes slot = omega arith
+behind-above (Main ∷ k) scopes slot = omega arith
+behind-above (entry ∷ k) scopes slot = behind-above k scopes slot
+
 pub behind-least : (k : List Entry) (scopes : Option ℕ) (slot : ℕ) → slot ≤ behind_records k scopes slot
-behind-least [] scopes slot = omega arith
-behind-least (Handler handler ∷ k) scopes slot = omega (arith, behind-least k scopes slot, record-least scopes (behind_records k scopes slot))
-behind-least (CloseLexical region ∷ k) scopes slot = omega (arith, behind-least k scopes slot)
-behind-least (Caller e ∷ k) scopes slot = omega arith
-behind-least (Main ∷ k) scopes slot = omega arith
-behind-least (entry ∷ k) scopes slot = behind-least k scopes slot
+behind-least k scopes slot = omega (arith, behind-above k scopes slot)
+
+floor-above : (source : Program) (g : ℕ) (k : List Entry) → base_of source g < floor source g k
+floor-above source g k = behind-above k (scopes_of source) (base_of source g)
 
 pub floor-least : (source : Program) (g : ℕ) (k : List Entry) → base_of source g ≤ floor source g k
 floor-least source g k = behind-least k (scopes_of source) (base_of source g)
@@ -42,14 +48,14 @@ record_kept None slots other slot many same kept = tt
 record_kept (Some place) slots other slot many same kept = same (omega arith) ∙ kept
 
 module _ (source : Program) where
-  -- slots that are equal between the locals and the temporaries have the same records
-  pub handlers_same : (g : ℕ) (slots other : Words) (handlers : List plain.Handler) (frames : List Frame) (k : List Entry)
-      → ((n : ℕ) → base_of source g ≤ n → n < floor source g k → other n ≡ slots n) → HandlersStand source g slots handlers frames k → HandlersStand source g other handlers frames k
-  handlers_same g slots other handlers frames [] same stand = absurd stand
-  handlers_same g slots other [] frames (Handler handler ∷ k) same stand = absurd stand
-  handlers_same g slots other (plain.Caught ∷ handlers) frames (Handler handler ∷ k) same stand = absurd stand
-  handlers_same g slots other (plain.Open index first contents ∷ handlers) frames (Handler handler ∷ k) same (is, (zeroth, second, third, fourth), kept, catches, rest) =
-      let least = floor-least source g k in
+  -- slots that are equal between the one behind the locals and the temporaries have the same records
+  handlers_above : (g : ℕ) (slots other : Words) (handlers : List plain.Handler) (frames : List Frame) (k : List Entry)
+      → ((n : ℕ) → base_of source g < n → n < floor source g k → other n ≡ slots n) → HandlersStand source g slots handlers frames k → HandlersStand source g other handlers frames k
+  handlers_above g slots other handlers frames [] same stand = absurd stand
+  handlers_above g slots other [] frames (Handler handler ∷ k) same stand = absurd stand
+  handlers_above g slots other (plain.Caught ∷ handlers) frames (Handler handler ∷ k) same stand = absurd stand
+  handlers_above g slots other (plain.Open index first contents ∷ handlers) frames (Handler handler ∷ k) same (is, (zeroth, second, third, fourth), kept, catches, rest) =
+      let least = floor-above source g k in
       let inside = record_below source g k in (
         is,
         (
@@ -60,13 +66,17 @@ module _ (source : Program) where
         ),
         record_kept (scopes_of source) slots other (floor source g k) (scopes_in k) (λ inside. same (floor source g k + RECORD_WORDS) (omega (arith, least)) inside) kept,
         catches,
-        handlers_same g slots other handlers frames k (λ n from to. same n from (omega (arith, to, inside))) rest,
+        handlers_above g slots other handlers frames k (λ n from to. same n from (omega (arith, to, inside))) rest,
       )
-  handlers_same g slots other handlers frames (Caller e ∷ k) same stand = stand
-  handlers_same g slots other handlers frames (Main ∷ k) same stand = stand
-  handlers_same g slots other handlers frames (CloseLexical region ∷ k) same (marked, stand) =
-      (same (floor source g k) (floor-least source g k) (omega arith) ∙ marked, handlers_same g slots other handlers frames k (λ n from to. same n from (omega (arith, to))) stand)
-  handlers_same g slots other handlers frames (entry ∷ k) same stand = handlers_same g slots other handlers frames k same stand
+  handlers_above g slots other handlers frames (Caller e ∷ k) same stand = stand
+  handlers_above g slots other handlers frames (Main ∷ k) same stand = stand
+  handlers_above g slots other handlers frames (CloseLexical region ∷ k) same (marked, stand) =
+      (same (floor source g k) (floor-above source g k) (omega arith) ∙ marked, handlers_above g slots other handlers frames k (λ n from to. same n from (omega (arith, to))) stand)
+  handlers_above g slots other handlers frames (entry ∷ k) same stand = handlers_above g slots other handlers frames k same stand
+
+  pub handlers_same : (g : ℕ) (slots other : Words) (handlers : List plain.Handler) (frames : List Frame) (k : List Entry)
+      → ((n : ℕ) → base_of source g ≤ n → n < floor source g k → other n ≡ slots n) → HandlersStand source g slots handlers frames k → HandlersStand source g other handlers frames k
+  handlers_same g slots other handlers frames k same stand = handlers_above g slots other handlers frames k (λ n from to. same n (omega (arith, from)) to) stand
 
   -- a local is written
   pub handlers_beside : (g : ℕ) (slots after : Words) (handlers : List plain.Handler) (frames : List Frame) (k : List Entry) (n many : ℕ) → n + many ≤ base_of source g
@@ -82,6 +92,16 @@ module _ (source : Program) where
   data_written t g base objects locals k slots after handlers globals frames n many above same (facts, stand) = (
     data_above t source g base objects locals (callers k) slots after globals frames n many (omega (arith, above, floor-least source g k)) same facts,
     handlers_same g slots after handlers frames k (λ m from to. same m (inl (omega (arith, to, above)))) stand,
+  )
+
+  -- the slot behind the locals is written
+  pub data_told : (t : Tables) (g base : ℕ) (objects : List Object) (locals : ℕ → Option ℕ) (k : List Entry) (slots after : Words) (handlers : List plain.Handler) (globals : Words) (frames : List Frame)
+      → ((m : ℕ) → Outside (base_of source g) 1 m → after m ≡ slots m)
+      → DataAt source t g base objects locals (callers k) slots globals frames × HandlersStand source g slots handlers frames k
+      → DataAt source t g base objects locals (callers k) after globals frames × HandlersStand source g after handlers frames k
+  data_told t g base objects locals k slots after handlers globals frames same (facts, stand) = (
+    data_above t source g base objects locals (callers k) slots after globals frames (base_of source g) 1 (omega arith) same facts,
+    handlers_above g slots after handlers frames k (λ m from to. same m (inr (omega (arith, from)))) stand,
   )
 
   -- each frame is a call, and the running one is one more

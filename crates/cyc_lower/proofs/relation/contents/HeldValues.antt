@@ -231,14 +231,14 @@ GlobalsHold t types objects words =
     × ((v : Kinded) → contents objects number ≡ Some v → Is t v.kind v.value words (global_of (starts_of types) number) × HasGlobal types number v.kind)
     × (IsCharAt t number → words (global_of (starts_of types) number) < 256)
 
--- The first temporary of the running call, whose locals end at a slot: what is kept of the handlers that it has open and of its lexical
--- regions stands between.
+-- The first temporary of the running call, whose locals end at a slot: that slot, what is kept of the handlers that it has open and of its
+-- lexical regions stand between.
 abbrev pub behind_records : List Entry → (scopes : Option ℕ) → (slot : ℕ) → ℕ
-behind_records [] scopes slot = slot
+behind_records [] scopes slot = slot + 1
 behind_records (Handler clauses ∷ k) scopes slot = behind_record_in scopes (behind_records k scopes slot)
 behind_records (CloseLexical region ∷ k) scopes slot = behind_records k scopes slot + 1
-behind_records (Caller e ∷ k) scopes slot = slot
-behind_records (Main ∷ k) scopes slot = slot
+behind_records (Caller e ∷ k) scopes slot = slot + 1
+behind_records (Main ∷ k) scopes slot = slot + 1
 behind_records (entry ∷ k) scopes slot = behind_records k scopes slot
 
 -- how many lexical regions are open, of all calls

@@ -1,5 +1,5 @@
 -- What slots hold after a value has been moved.
-use Rattle.std.proofs.Common.{◌≡◌, ℕ, ◌+◌, ◌<◌, ◌≤◌, Bool, true, false, refl, sym, ap, ◌∙◌, arith, inl, inr}
+use Rattle.std.proofs.Common.{◌≡◌, ℕ, ◌+◌, ◌<◌, ◌≤◌, Bool, true, false, refl, ap, ◌∙◌, arith, inl, inr}
 use Rattle.std.proofs.lemmas.Bool.{eqb-true}
 use Rattle.std.specs.Prelude.{◌==◌, if◌then◌else◌}
 use Rattle.cyc_plain.specs.declared.instruction.Operand.{Operand}
@@ -67,7 +67,3 @@ moved_is t v slots d (operands.Slot n) is = by (words_of_kind v.kind == 1) refl
     by : (b : Bool) → (words_of_kind v.kind == 1) ≡ b → Is t v.kind v.value (if b then put slots d (slots n) else copied slots n (words_of_kind v.kind) slots d) d
     by true told = Is-same t v.kind v.value slots (put slots d (slots n)) n d (one true told refl) is
     by false told = copied_is t v slots slots n (words_of_kind v.kind) d (omega arith) is
-
--- a value that is copied to where it is stays as it was
-pub put_again : (slots : Words) (d w many m : ℕ) → 1 ≤ many → Outside d many m → slots m ≡ put slots d w m
-put_again slots d w many m some out = sym (put_elsewhere slots d w many m some out)

@@ -11,13 +11,12 @@ use Rattle.cyc_plain.specs.declared.instruction.Instruction.{Instruction}
 use Rattle.cyc_plain.specs.declared.instruction.Instruction.TheVariants as instructions
 use Rattle.cyc_plain.specs.inside.Memory.{pins, is_pinned}
 use Rattle.cyc_plain.specs.inside.Program.{no_routine}
-use Rattle.cyc_meaning.specs.FrameCount.{words_of_all}
 use Rattle.cyc_lower.specs.inside.Slots.{slot_in}
 use Rattle.cyc_lower.specs.inside.Words.{AreOfWordsFunctions, IsOfWordsProgram}
 use Rattle.cyc_lower.specs.inside.Lowering.{globals_of, lower_function, scopes_of}
 use Rattle.cyc_lower.proofs.relation.code.Fitting.{AreFitting, IsFitting}
 use Rattle.cyc_lower.proofs.relation.simulation.Stacks.{code_of, local_types, types_at}
-use Rattle.cyc_lower.proofs.slots.Slots.{slot-below, locals-apart}
+use Rattle.cyc_lower.proofs.slots.Slots.{locals-apart}
 use Rattle.cyc_lower.proofs.sizes.RangeLemmas.{TakesLocal}
 use Rattle.cyc_lower.proofs.sizes.WellFormed.{function_takes}
 
@@ -55,11 +54,6 @@ module _ (locals : List Ty) where
         let p = pinned_local code slot rest behind in
         record { number = p.number; of_type = p.of_type; there = p.there; from = p.from; below = p.below; whole = λ other from below. or_right (pins i other) (is_pinned code other) (p.whole other from below) }
   ]
-
-  -- it is a slot of the locals
-  pub pinned-low : (code : List Instruction) (slot : ℕ) → AllByRecursion (TakesLocal locals) code → is_pinned code slot ≡ true → slot < words_of_all locals
-  pinned-low code slot takes pinned =
-      let p = pinned_local code slot takes pinned in omega (arith, p.below, slot-below locals p.number p.of_type p.there)
 
   -- no slot is of two locals
   same_local : (n m : ℕ) (t u : Ty) (slot : ℕ) → slice_get locals n ≡ Some t → slice_get locals m ≡ Some u → slot_in locals n ≤ slot → slot < slot_in locals n + words_of t

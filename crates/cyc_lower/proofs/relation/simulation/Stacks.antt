@@ -39,7 +39,7 @@ use Rattle.cyc_meaning.specs.Pointers.{takes_kind, result_kind as operator_kind}
 use Rattle.cyc_lower.specs.inside.Slots.{Types, Starts, starts_of, slot_of, global_of, global_types}
 use Rattle.cyc_lower.specs.inside.ValueCode.{failing_comparison, move_of, low_byte, masks, converts_there, all_passed, kinds_passed, slot_types, followed_operand, reached_operand, unary_instruction}
 use Rattle.cyc_lower.specs.inside.ObjectCode.{right_slot}
-use Rattle.cyc_lower.specs.inside.ControlCode.{break_target, body_target, tag_operand, nothing_opened, with_handler, with_mark, inside_try, inside_region, pointers_failing}
+use Rattle.cyc_lower.specs.inside.ControlCode.{break_target, tag_operand, nothing_opened, with_handler, with_mark, inside_try, inside_region, pointers_failing}
 use Rattle.cyc_lower.specs.inside.ExpressionCode.{is_simple}
 use Rattle.cyc_lower.specs.inside.Lowering.{results_of, lower_program, raises_of, globals_of, scopes_of}
 use Rattle.cyc_lower.proofs.slots.Widths.{kind_of_result, given, called_kind, HasRoom, chain_kind, HasGlobal, made_kind, kind_in}
@@ -184,10 +184,10 @@ module _ (source : Program) where
 
   -- a loop, whose condition stands behind its body from place p on
   abbrev pub LoopAt : (g t : ℕ) → Expression → Statement → (exits outer : Exits) → (p q : ℕ) → Type 0
-  LoopAt g t condition body exits outer p q = (exits.in_loop ≡ nothing_opened) × (exits.in_function ≡ outer.in_function)
-      × EntryAt (code_of g) (bounds_at g) (types_at g) condition exits t p × At (code_of g) (break_target exits) (instructions.Jump q)
-      × StatementAt (code_of g) (bounds_at g) (types_at g) body exits t (body_target exits.leaving) p
-      × BranchesAt (code_of g) (bounds_at g) (types_at g) condition q (body_target exits.leaving) t p × (break_target exits < q)
+  LoopAt g t condition body exits outer p q = (b : ℕ) × (exits.in_loop ≡ nothing_opened) × (exits.in_function ≡ outer.in_function)
+      × EntryAt (code_of g) (bounds_at g) (types_at g) condition exits b t p × At (code_of g) (break_target exits) (instructions.Jump q)
+      × StatementAt (code_of g) (bounds_at g) (types_at g) body exits t b p
+      × ((f : ℕ) × BranchesAt (code_of g) (bounds_at g) (types_at g) condition f b t p × ((f ≡ q) ⊎ At (code_of g) f (instructions.Jump q))) × (break_target exits < q)
 
   -- the statement that a condition chooses, with what waits behind both
   abbrev pub ChosenAt : (g t : ℕ) → (first second : Statement) → (waits : Exits → (q : ℕ) → Type 0) → (fails : Bool) → (p : ℕ) → Type 0
@@ -200,7 +200,7 @@ module _ (source : Program) where
   abbrev pub RepeatedAt : (g t : ℕ) → Expression → Statement → (waits : Exits → (q : ℕ) → Type 0) → (fails : Bool) → (p : ℕ) → Type 0
   RepeatedAt g t condition body waits true p = (outer : Exits) × (q : ℕ) × ((p ≡ q) ⊎ At (code_of g) p (instructions.Jump q)) × waits outer q
   RepeatedAt g t condition body waits false p =
-      (exits : Exits) × (outer : Exits) × (m : ℕ) × (q : ℕ) × LoopAt g t condition body exits outer m q × (body_target exits.leaving ≡ p) × waits outer q
+      (exits : Exits) × (outer : Exits) × (m : ℕ) × (q : ℕ) × (loop : LoopAt g t condition body exits outer m q) × (loop.0 ≡ p) × waits outer q
 
   abbrev pub Below : List Frame → (Frame → List Frame → Type 0) → Type 0
   Below [] P = ⊥

@@ -1,5 +1,5 @@
 use borrow.Author.Rules.{rules, get_or_read}
-use Rattle.std.proofs.Common.{ℕ, List, [], ◌∷◌, ◌++◌, length, set, Option, ◌∙◌, refl, sym, ap, arith}
+use Rattle.std.proofs.Common.{ℕ, ◌+◌, true, List, [], ◌∷◌, ◌++◌, length, set, Option, ◌∙◌, refl, sym, ap, arith}
 use Rattle.std.proofs.lemmas.Result.{on_ok_weaker}
 use Rattle.std.proofs.lemmas.List.{length-append}
 use Rattle.cyc_types.specs.declared.ty.Ty.TheFolds as types
@@ -12,13 +12,13 @@ use Rattle.cyc_meaning.specs.FrameCount.{kept_by, kept_by_items, kept_by_clauses
 use Rattle.cyc_plain.specs.declared.instruction.Instruction.{Instruction}
 use Rattle.cyc_plain.specs.declared.instruction.Instruction.TheVariants.{Jump, Leave}
 use Rattle.cyc_lower.specs.inside.ControlCode.{other_jump, inside_try, is_nothing}
-use Rattle.cyc_lower.specs.inside.Lowering.{items_code, statement_code}
+use Rattle.cyc_lower.specs.inside.Lowering.{items_code, statement_code, goes_through}
 use Rattle.cyc_lower.specs.declared.statements.Exits.{Exits}
 use Rattle.cyc_lower.specs.declared.statements.Opened.{Opened}
 use Rattle.cyc_lower.specs.inside.Emission.{view_starts}
 use Rattle.cyc_lower.proofs.emission.Branching.{made_block, made_if, made_then, made_alone, if_viewed, item_room, more_items, closes_begin, closes_next, closes_end}
 use Rattle.cyc_lower.proofs.emission.Conditions.{before_more}
-use Rattle.cyc_lower.proofs.emission.Loops.{made_loop, entering_keeps}
+use Rattle.cyc_lower.proofs.emission.Loops.{made_loop, entering_keeps, made_through, made_while}
 use Rattle.cyc_lower.proofs.emission.Handlers.{kept_of_clause, made_clause, made_clauses, more_clauses, made_handler, record_room, clauses_longer, body_longer}
 use Rattle.cyc_lower.proofs.emission.Emitting.{no_shorter_than}
 use Rattle.cyc_frame_count.proofs.NeedsFound.{block_keeps, try_keeps}
@@ -215,3 +215,31 @@ lower_form-returns-in_ok-lower_default-in-Try t c =
     (c.in_ok-lower_statement-in-Try.ensures ∙ ap (λ (exits : Exits). begun ++ statement_code (view_starts c.args.starts.now) body (length begun) exits c.in_ok-behind-in-Try.behind) c.inside_try.ensures
     ∙ ap (λ (n : ℕ). begun ++ statement_code (view_starts c.args.starts.now) body (length begun) (inside_try c.args.exits c.args.free) n) c.in_ok-behind-in-Try.ensures.0)
     c.in_ok-out-in-Try.ensures.0 c.in_ok-out-in-Try.ensures.1 c.in_ok-restore_scopes-in-Try.ensures c.in_ok-lower_clauses-in-Try.ensures c.in_ok-lower_default-in-Try.ensures c.jump_here-in-Try.ensures
+
+pub lower_through-returns : goal.lower_through-returns
+lower_through-returns t c =
+    let code = c.reserve.new.self.code.items in
+    on_ok_weaker c.emit-2.result
+    (made_through (view_starts c.args.starts.now) (view_expression c.args.condition.now) (view_statement c.args.body.now) c.args.exits c.args.free c.in_ok-first.first c.in_ok-last.last c.in_ok-first.ensures.0 c.in_ok-last.ensures.0 c.args.self.now.code.items (Jump 0)
+    c.lower_choice.new.self.code.items code c.lower_statement.new.self.code.items c.lower_choice-2.new.self.code.items c.emit.new.self.code.items c.jump_here_if_failing.new.self.code.items c.emit-2.new.self.code.items
+    c.place-head.result c.in_ok-over.over c.place-again.result (c.place-end.result + 1) c.place-head.ensures
+    c.in_ok-first.ensures.1 c.in_ok-over.ensures.0 c.in_ok-over.ensures.1 c.place-again.ensures
+    (c.in_ok-lower_statement.ensures ∙ ap (λ (o : Opened). code ++ statement_code (view_starts c.args.starts.now) (view_statement c.args.body.now) (length code) (record { head = c.place-head.result; leaving = c.place-head.result; in_loop = o; in_function = c.args.exits.in_function }) c.args.free) c.nothing_opened.ensures)
+    c.in_ok-last.ensures.1 (c.in_ok-emit.ensures ∙ ap (λ (i : Instruction). c.lower_choice-2.new.self.code.items ++ i ∷ []) c.holding_jump.ensures)
+    c.jump_here_if_failing.ensures (ap (λ (n : ℕ). n + 1) c.place-end.ensures))
+    c.emit-2.ensures
+
+pub lower_through-jump_here_if_failing-requires : goal.lower_through-jump_here_if_failing-requires
+lower_through-jump_here_if_failing-requires t c =
+    let one = ap length c.in_ok-over.ensures.1 ∙ length-append c.lower_choice.new.self.code.items (Jump 0 ∷ []) in
+    let two = no_shorter_than c.reserve.new.self.code.items _ c.lower_statement.new.self.code.items c.in_ok-lower_statement.ensures in
+    let three = no_shorter_than c.lower_statement.new.self.code.items _ c.lower_choice-2.new.self.code.items c.in_ok-last.ensures.1 in
+    let four = no_shorter_than c.lower_choice-2.new.self.code.items _ c.emit.new.self.code.items c.in_ok-emit.ensures in
+    omega (arith, one, two, three, four, c.in_ok-over.ensures.0)
+
+pub lower_form-returns-then-goes_through : goal.lower_form-returns-then-goes_through
+lower_form-returns-then-goes_through t c =
+    on_ok_weaker c.lower_through.result
+    (made_while (view_starts c.args.starts.now) c.args.statement.now c.in-While.condition c.in-While.body c.in-While.is c.deref-then-goes_through.result.now c.deref-then-goes_through.ensures c.args.exits c.args.free c.args.self.now.code.items c.lower_through.new.self.code.items
+    true (sym c.if-goes_through.true ∙ c.goes_through.ensures ∙ ap (λ (z : Stmt). goes_through (view_starts c.args.starts.now) (view_expression c.in-While.condition) (view_statement z)) (c.deref-in-While.ensures ∙ sym c.deref-then-goes_through.ensures)))
+    c.lower_through.ensures
