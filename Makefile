@@ -93,6 +93,7 @@ bench: build
 	@python3 bench/checker.py
 	@python3 bench/compiler.py
 	@python3 bench/pairs.py
+	@python3 bench/pairs.py --sizes
 	@python3 bench/stack.py
 	@python3 tests/runners/growth.py --tokens 60000 --table
 

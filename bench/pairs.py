@@ -10,6 +10,9 @@ services are in start.s, and machine.h declares them. A fourth is what mips-linu
 where pointers are those of checked.h, which tests of each access what this language does: that is the same work, by a good optimiser. All
 four have to print the same and to return the same. The machine counts the instructions, which `run --report` tells. The pairs stand in
 groups by their style, each with its geometric means.
+
+With --sizes the table has how large the images are, in words of text, beside what both compilers make where they look for little code
+(-Os); nothing is run for that.
 """
 import argparse
 import concurrent.futures
@@ -17,6 +20,7 @@ import json
 import math
 import os
 import shutil
+import struct
 import subprocess
 import sys
 import tempfile
@@ -27,6 +31,7 @@ PAIRS = os.path.join(HERE, "pairs")
 GCC, GXX = "mips-linux-gnu-gcc", "mips-linux-gnu-g++"
 LEVELS = ("-O0", "-O1")
 CHECKED = "checked -O1"
+SMALL = "-Os"
 GROUPS = {
     "ints, calls, exceptions": "arithmetic collatz divisors errors fibonacci loop throws",
     "arrays of ints": "bytecode factorials heapsort matrices queens quicksort sieve",
@@ -40,7 +45,9 @@ FLAGS = "-w -fwrapv -mips2 -mabi=32 -msoft-float -mno-abicalls -fno-pic -G0 -mno
 FLAGS += "-ffreestanding -fno-builtin -nostdlib -static -Wl,--build-id=none".split()
 LINKED = ["-x", "none", os.path.join(PAIRS, "start.s"), "-Wl,-T," + os.path.join(PAIRS, "layout.ld")]
 # As C++ a program has what the language asks of each access.
-AS_CHECKED = ["-x", "c++", "-O1", "-fno-exceptions", "-fno-rtti", "-I", PAIRS]
+AS_CHECKED = ["-x", "c++", "-fno-exceptions", "-fno-rtti", "-I", PAIRS]
+# The header of an ELF32 file, as far as its table of segments, and one of these; the least bit of a segment's flags is that of code.
+LOADED, CODE = 1, 1
 MOST = 1_000_000_000
 SHOWN = 40
 
@@ -72,6 +79,36 @@ def difference(in_c, here):
     return f"it prints, behind {at} bytes, {texts[0]}, and here {texts[1]}"
 
 
+def text_words(image):
+    """How many words the code of an image has."""
+    with open(image, "rb") as file:
+        data = file.read()
+    (first,), (size, count) = struct.unpack_from(">I", data, 28), struct.unpack_from(">HH", data, 42)
+    segments = [struct.unpack_from(">8I", data, first + size * number) for number in range(count)]
+    return sum(length for kind, _, _, _, length, _, flags, _ in segments if kind == LOADED and flags & CODE) // 4
+
+
+def in_c(options, source, level, image):
+    """Makes an image of the program in C."""
+    compiled([options.gcc, level, "-I", PAIRS] + FLAGS + [source + ".c", "-o", image] + LINKED)
+
+
+def in_checked_c(options, source, level, image):
+    """The same with all tests."""
+    compiled([options.gxx, level] + FLAGS + AS_CHECKED + [source + ".c", "-o", image] + LINKED)
+
+
+def sizes_of(name, options):
+    """The words of text of a pair: those of the program in this language, and those of the one in C, without tests and with all."""
+    source = os.path.join(options.pairs, name)
+    with tempfile.TemporaryDirectory() as folder:
+        images = [os.path.join(folder, which + ".elf") for which in ("ours", "small", "checked")]
+        compiled([options.program, "compile", source + ".cyc", "-o", images[0]])
+        in_c(options, source, SMALL, images[1])
+        in_checked_c(options, source, SMALL, images[2])
+        return [text_words(image) for image in images]
+
+
 def counts_of(name, options):
     """The instructions of a pair: those of the program in this language, and those of the one in C, level by level, and with all tests."""
     source, given = os.path.join(options.pairs, name), b""
@@ -82,8 +119,8 @@ def counts_of(name, options):
         images = [os.path.join(folder, which + ".elf") for which in ("ours", *LEVELS, "checked")]
         compiled([options.program, "compile", source + ".cyc", "-o", images[0]])
         for level, image in zip(LEVELS, images[1:]):
-            compiled([options.gcc, level, "-I", PAIRS] + FLAGS + [source + ".c", "-o", image] + LINKED)
-        compiled([options.gxx] + FLAGS + AS_CHECKED + [source + ".c", "-o", images[-1]] + LINKED)
+            in_c(options, source, level, image)
+        in_checked_c(options, source, LEVELS[-1], images[-1])
         runs = [run(options.program, image, given) for image in images]
         ends = [end for end, _ in runs]
         for level, end in zip((*LEVELS, CHECKED), ends[1:]):
@@ -118,6 +155,17 @@ def table(counts):
     yield row_of_means("all", list(ratios.values()))
 
 
+def table_of_sizes(sizes):
+    """The lines of the second table."""
+    yield f"| Program, words of text | `cyclone compile` | `gcc {SMALL}` | checked {SMALL} | To {SMALL} | To checked {SMALL} |"
+    yield "|---|---|---|---|---|---|"
+    ratios = []
+    for name, (ours, *others) in sizes.items():
+        ratios.append([ours / theirs for theirs in others])
+        yield f"| `{name}` | {ours:,} | {others[0]:,} | {others[1]:,} | {ratios[-1][0]:.2f} | {ratios[-1][1]:.2f} |"
+    yield f"| all: geometric mean | | | | {' | '.join(f'{mean(column):.3f}' for column in zip(*ratios))} |"
+
+
 def grouped(names):
     """The groups, each with those of its pairs that are among these names; what is in none is a group by itself."""
     known = {name for group in GROUPS.values() for name in group.split()}
@@ -134,6 +182,7 @@ def read_options():
     reader.add_argument("--gcc", default=GCC, help="the compiler of C")
     reader.add_argument("--gxx", default=GXX, help="the compiler of C++")
     reader.add_argument("--pairs", default=PAIRS, help="the folder of the pairs")
+    reader.add_argument("--sizes", action="store_true", help="how large the images are, and not what they execute")
     return reader.parse_args()
 
 
@@ -148,15 +197,15 @@ def main():
     counts, faults = {}, []
     # The counts are exact, however many runs go on side by side.
     with concurrent.futures.ThreadPoolExecutor(os.cpu_count()) as threads:
-        found = {name: threads.submit(counts_of, name, options) for name in names}
+        found = {name: threads.submit(sizes_of if options.sizes else counts_of, name, options) for name in names}
         for name, future in found.items():
             try:
                 counts[name] = future.result()
             except Fault as fault:
                 faults.append(f"{name}: {fault}")
-    print("instructions that equal programs execute, compiled here and by gcc")
+    print(f"{'words of text' if options.sizes else 'instructions'} that equal programs {'have' if options.sizes else 'execute'}, compiled here and by gcc")
     if counts:
-        print("\n".join(table(counts)))
+        print("\n".join((table_of_sizes if options.sizes else table)(counts)))
     if faults:
         sys.exit("\n".join(faults))
 

@@ -1,5 +1,6 @@
 """Tries what measures: the table of what the gate costs, pairs of programs, and what texts cost for their length."""
 import os
+import struct
 import subprocess
 import sys
 
@@ -10,6 +11,8 @@ import growth
 import shapes
 
 BENCH = os.path.join(suite.ROOT, "bench")
+sys.path.insert(0, BENCH)
+import pairs as bench_pairs
 
 # Three looks at a gate, a second apart: two checks of a crate side by side, with a helper; a wrong body; a proof that ends, and
 # another whose parent has ended; and a check of somebody else.
@@ -135,6 +138,20 @@ def write_pair(folder, name, images):
             file.writelines(f"{level} {line}" for line in image.splitlines(keepends=True))
 
 
+def are_words_counted(folder):
+    """Whether of an image the words of what is loaded and is code are counted, and no others."""
+    header = b"\0" * 28 + struct.pack(">I", 52) + b"\0" * 10 + struct.pack(">HH", 32, 4) + b"\0" * 6
+    # Notes, code, data, and code once more: kind, offset, two addresses, lengths in the file and in memory, flags and alignment.
+    segments = [(4, 0, 0, 0, 8, 8, 4, 4), (1, 0, 0, 0, 40, 40, 5, 4), (1, 0, 0, 0, 16, 16, 6, 4), (1, 0, 0, 0, 8, 8, 1, 4)]
+    image = os.path.join(folder, "words.elf")
+    with open(image, "wb") as file:
+        file.write(header + b"".join(struct.pack(">8I", *segment) for segment in segments))
+    words = bench_pairs.text_words(image)
+    if words != 12:
+        print(f"an image of 12 words of code is said to have {words}")
+    return words == 12
+
+
 def are_pairs_right(folder):
     """Whether pairs of equal programs have their figures, and others have none and fail."""
     pairs = os.path.join(folder, "pairs")
@@ -219,4 +236,4 @@ def is_growth_judged(folder):
 
 def tried(folder):
     """Whether each of that is as it should be."""
-    return [is_table_right(), are_pairs_right(folder), is_gate_published(), is_growth_judged(folder)]
+    return [is_table_right(), are_words_counted(folder), are_pairs_right(folder), is_gate_published(), is_growth_judged(folder)]
