@@ -10,7 +10,7 @@ use Rattle.cyc_plain.specs.declared.instruction.Instruction.TheVariants as instr
 use Rattle.cyc_plain.specs.declared.limits.TheConstants.{LAYOUT_WORDS}
 use Rattle.cyc_plain.specs.inside.Program.{Routine, Program, routine_at}
 use Rattle.cyc_plain.specs.inside.Straight.{At}
-use Rattle.cyc_plain.specs.inside.WellFormed.{leaves, IsRoutine, IsPlain}
+use Rattle.cyc_plain.specs.inside.WellFormed.{leaves, IsPlain}
 use Rattle.cyc_plain.proofs.Placed.{routine_in}
 use Rattle.cyc_inline.specs.declared.caller.Places.{Places}
 use Rattle.cyc_inline.specs.declared.choice.Choice.{Choice}
@@ -163,9 +163,6 @@ module _ (program : Program) (number : ℕ) (chosen : List ℕ) (front_at : ℕ 
   -- and where all of it does
   abbrev pub begin : (in_line : Bool) → ℕ
   begin in_line = if in_line then 0 else opened_end program chosen front_at true 0 0 r.code
-
-  routine : IsRoutine program r
-  routine = routine_in program number is.parts.plain.well_formed is.parts.is_function
 
   pub begins_at : (in_line : Bool) (k : ℕ) → k ≤ length r.code → begins in_line k ≡ begin in_line + offset (count_at program chosen front_at in_line) 0 r.code k
   begins_at true k within = ap (λ (ps : List ℕ). place_in ps k) is.parts.standing ∙ place_is program chosen front_at true 0 0 r.code k within

@@ -10,12 +10,12 @@ use Rattle.cyc_store.specs.State.{StoreState}
 use Rattle.cyc_store.specs.declared.range.TheConstants.{HEAP}
 use Rattle.cyc_meaning.specs.Values.{Value, Cell, kinds_of, block_size}
 use Rattle.cyc_meaning.specs.State.{Sort, Heap, Globals, Stack, Lexical, Dynamic, Region, Owner, InRegion, Unique, Object, World, heap_number, has_pages, new_region, opened_as, closed, variable, made, written}
-use Rattle.cyc_objects.specs.inside.Tables.{Row, Variable, Placed, Tables, with_row, with_handle}
+use Rattle.cyc_objects.specs.inside.Tables.{Row, Placed, Tables, with_row, with_handle}
 use Rattle.cyc_objects.specs.inside.Related.{sort_of, lies_in, Alive, IsOfVariable, IsVariableAt, HasKinds, Within, Related}
 use Rattle.cyc_objects.proofs.Values.{Grows-same, Grows-row, Grows-handle, variable-grows}
 use Rattle.cyc_objects.proofs.RegionLemmas.{handles-length, Regions-variables, shut, Regions-shut, lies-home, lies-set, lies-last}
 use Rattle.cyc_objects.proofs.Serving.{words-unmoved, objects-inherited, alone-inherited}
-use Rattle.cyc_objects.proofs.Cells.{variable-alone, variable-elsewhere, size_of, live_in-set}
+use Rattle.cyc_objects.proofs.Cells.{variable-elsewhere, size_of, live_in-set}
 use Rattle.cyc_objects.proofs.Making.{live-last}
 
 pub shut-home : (sort : Sort) (flag : Bool) → has_pages sort false ≡ true → has_pages sort flag ≡ true
@@ -129,11 +129,6 @@ module _ {t : Tables} {w : World} {s : StoreState} (related : Related t w s) whe
         | inl here ↦ absurd (away h (record { at = there; lies = sym (ap (λ (z : Object). lies_in t.handles w.regions z.owner) here.1) ∙ alive.lies }))
         | inr other ↦ record { at = other.1; lies = alive.lies }
       ]
-
-  -- a variable whose address is never taken, and one in a region of variables
-  pub assigned : (o k : ℕ) (x : Object) (c : Cell) (v : Value) → slice_get w.objects o ≡ Some x → slice_get x.cells k ≡ Some c
-      → slice_get t.rows o ≡ Some Variable → Related t (written w o k (record { object = x; cell = c }) v) s
-  assigned o k x c v there at row = assigned-away o k x c v there at (λ h alive. variable-alone related o h x row alive)
 
   pub assigned-variable : (o k n : ℕ) (x : Object) (c : Cell) (v : Value) → slice_get w.objects o ≡ Some x → slice_get x.cells k ≡ Some c
       → x.owner ≡ InRegion n → slice_get t.handles n ≡ Some None → Related t (written w o k (record { object = x; cell = c }) v) s

@@ -2,7 +2,7 @@
 use Rattle.std.proofs.Common.{◌≡◌, ◌≢◌, ℕ, zero, suc, ◌+◌, ◌<◌, true, false, List, [], ◌∷◌, ◌++◌, length, Some, slice_get, refl, sym, ap, subst, ◌∙◌, arith, length-append, append_assoc}
 use Rattle.std.specs.List.{AllByRecursion}
 use Rattle.cyc_words.specs.Distinct.{IsDistinct}
-use Rattle.cyc_words.specs.inside.Following.{Path, Comes}
+use Rattle.cyc_words.specs.inside.Following.{Path}
 use Rattle.cyc_store.specs.State.{StoreState}
 use Rattle.cyc_plain.specs.declared.instruction.Instruction.{Instruction}
 use Rattle.cyc_plain.specs.declared.instruction.Instruction.TheVariants as instructions
@@ -140,21 +140,3 @@ module _ (program : Program) (pages calls : ℕ) (choice : Choice) where
       runs is d new rest (stands_behind c d is one.keeps has) (same_limits c d one.keeps ∙ within)
       (subst (λ (places : List CodePlace). Path (machine program pages calls) places (Running d) new) (sym (places_same c d (length is) one.keeps))
       (subst (λ (s : State). Path (machine program pages calls) (places_behind c.active.function (c.active.next + 1) (length is)) s new) to path))
-
-  -- The same for what a step above is matched by, where each state on the way is on the way above.
-  pub comes : (Way Goal : State → Type 0) (others : List CodePlace) (is : List Instruction) (c : Configuration) → AreStraight is → Stands c is → IsWithin c
-      → ((front back : List Instruction) → front ++ back ≡ is → Way (Running (executed_in program choice c front)))
-      → Comes (machine program pages calls) Way Goal others (Running (executed_in program choice c is))
-      → Comes (machine program pages calls) Way Goal (places_behind c.active.function c.active.next (length is) ++ others) (Running c)
-  comes Way Goal others [] c straight has within way goal = goal
-  comes Way Goal others (i ∷ is) c (first, rest) (at, has) within way goal =
-      let one = is_one program choice c i first in
-      let d = after c i in (
-        refl,
-        way [] (i ∷ is) refl,
-        λ next step.
-            subst (λ (s : State). Comes (machine program pages calls) Way Goal (places_behind c.active.function (c.active.next + 1) (length is) ++ others) s) (sym (goes c i next first at within step))
-            (subst (λ (places : List CodePlace). Comes (machine program pages calls) Way Goal (places ++ others) (Running d)) (places_same c d (length is) one.keeps)
-            (comes Way Goal others is d rest (stands_behind c d is one.keeps has) (same_limits c d one.keeps ∙ within)
-            (λ front back same. way (i ∷ front) back (ap (λ (js : List Instruction). i ∷ js) same)) goal)),
-      )

@@ -55,9 +55,6 @@ more_groups holders groups count so_far = elim (cases_Bool (is_single (mask_at h
       ])
 ]
 
-pub none_meet : (program : Program) (r : Routine) (masks live groups : List ℕ) → NeverMeet program r masks live groups 0
-none_meet program r masks live groups index i at below = absurd (omega (arith, below))
-
 pub more_meet : (program : Program) (r : Routine) (masks live groups : List ℕ) (count : ℕ) (last : Instruction) → At r count last
     → AreApartAt (uses_of program r.results masks last) live groups last count → NeverMeet program r masks live groups count
     → NeverMeet program r masks live groups (count + 1)

@@ -1,8 +1,7 @@
 -- Sets of which each group has one slot at most, as one instruction is gone through after another.
-use Rattle.std.proofs.Common.{◌≡◌, ℕ, true, List, sym, ◌∙◌, arith, inl, inr}
+use Rattle.std.proofs.Common.{◌≡◌, ℕ, true, List, inl, inr}
 use Rattle.std.specs.Prelude.{◌==◌, bit_and, bit_or}
 use Rattle.std.specs.Int.{bit_at}
-use Rattle.std.proofs.lemmas.Nat.Bits.{bit_at-zero}
 use Rattle.std.proofs.lemmas.Bool.{eqb-true, or_cases}
 use Rattle.cyc_registers.specs.inside.LivenessTable.{is_within}
 use Rattle.cyc_registers.specs.inside.Sharing.{AreAlone, AreApart, AreSingle, is_single}
@@ -10,10 +9,6 @@ use Rattle.cyc_words.proofs.Bits.{apart_bits, in_either, bit_before, bit_between
 use Rattle.cyc_registers.proofs.Bits.{one_alone}
 
 module _ (groups : List ℕ) where
-  -- the empty set
-  pub alone_none : AreAlone groups 0
-  alone_none number slots j l is first second = absurd (let e : 0 ≡ 1 = sym (bit_at-zero j) ∙ bit_before 0 slots j first in omega (arith, e))
-
   pub alone_single : (set : ℕ) → AreSingle groups set → AreAlone groups set
   alone_single set single number slots j l is first second = one_alone (bit_and set slots) j l (single number slots is) first second
 

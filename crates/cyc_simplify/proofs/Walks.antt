@@ -16,7 +16,7 @@ use Rattle.cyc_simplify.specs.inside.Replacement.{put_at}
 use Rattle.cyc_simplify.specs.inside.Table.{ArePins, IsReplaced, behind_put, entered_or, facts_behind_place, facts_at, may_jump, is_entry_suited, leads_well, is_checked_at}
 use Rattle.cyc_simplify.specs.inside.Entries.{entry_in, jumps_well, goes_well, AreWalked, IsWalked, with_code, AreFirstReplaced}
 use Rattle.cyc_simplify.proofs.Sizes.{put_not_larger}
-use Rattle.cyc_simplify.proofs.Tables.{replaced, unchanged}
+use Rattle.cyc_simplify.proofs.Tables.{replaced}
 
 -- ---- the two halves of the check
 
@@ -139,13 +139,7 @@ stepped program r pinned entries count code facts next i are at made all is all_
     (subst (λ (j : Instruction). is_checked_at program pinned (entry_in entries) facts j count ≡ true) is right)
     (becomes ∙ ap (λ (j : Instruction). entered_or (entry_in entries (count + 1)) (behind_put program pinned facts j count)) is))
 
-pub same_replaced : (program : Program) (r : Routine) (pinned : List Bool) (code : List Instruction) → ArePins r pinned → code ≡ r.code → IsReplaced program r (with_code r code)
-same_replaced program r pinned code pins same = subst (λ (is : List Instruction). IsReplaced program r (with_code r is)) (sym same) (unchanged program r pinned pins)
-
 -- ---- function by function
-
-pub none_replaced : (program : Program) → AreFirstReplaced program 0 []
-none_replaced program = record { as_many = refl; each = λ k below. absurd (omega arith) }
 
 pub routine_before : (routines : List Routine) (r : Routine) (k : ℕ) → k < length routines → slice_index_or (routines ++ r ∷ []) k no_routine ≡ slice_index_or routines k no_routine
 routine_before [] r k below = absurd (omega arith)

@@ -110,6 +110,10 @@ pub or_right_false : (a b : Bool) → (a || b) ≡ false → b ≡ false
 or_right_false true b none = absurd (let e : true ≡ false = none in cc)
 or_right_false false b none = none
 
+pub or_false_parts : (a b : Bool) → (a || b) ≡ false → (a ≡ false) × (b ≡ false)
+or_false_parts true b none = absurd (let e : true ≡ false = none in cc)
+or_false_parts false b none = (refl, none)
+
 -- where the first does not hold, the second does
 pub or_right_without_left : (c d : Bool) → not c ≡ true → c || d ≡ true → d ≡ true
 or_right_without_left true d e h = absurd (cc)

@@ -196,11 +196,6 @@ get_or-map f [] n x there = absurd (let e : None ≡ Some x = there in cc)
 get_or-map f (y ∷ xs) zero x there = let e : Some y ≡ Some x = there in let same : y ≡ x = cc in ap f same
 get_or-map f (y ∷ xs) (suc n) x there = get_or-map f xs n x there
 
-pub get_or-map_beyond : {A : Type 0} (cost : A → ℕ) (xs : List A) (f : ℕ) → length xs ≤ f → get_or (map cost xs) f 0 ≡ 0
-get_or-map_beyond cost [] f past = refl
-get_or-map_beyond cost (x ∷ xs) zero past = absurd (omega (arith, past))
-get_or-map_beyond cost (x ∷ xs) (suc f) past = get_or-map_beyond cost xs f (omega (arith, past))
-
 pub map-set : {A : Type 0} {B : Type 0} (f : A → B) (xs : List A) (i : ℕ) (x y : A) → slice_get xs i ≡ Some x → f y ≡ f x → map f (set xs i y) ≡ map f xs
 map-set f [] i x y found same = refl
 map-set f (a ∷ xs) zero x y found same = let e : Some a ≡ Some x = found in let k : a ≡ x = cc in ap (λ b. b ∷ map f xs) (same ∙ ap f (sym k))

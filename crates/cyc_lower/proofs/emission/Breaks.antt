@@ -1,69 +1,37 @@
 -- Whether a loop's body has a `break` that leaves it, found item by item.
-use Rattle.std.proofs.Common.{◌≡◌, ℕ, ◌+◌, ◌<◌, Bool, true, false, List, [], ◌∷◌, length, drop, get_or, Option, refl, sym, ap, ◌∙◌}
+use Rattle.std.proofs.Common.{◌≡◌, ℕ, Bool, true, false, List, [], ◌∷◌, drop, Option, refl, sym, ap, ◌∙◌}
 use Rattle.std.specs.Prelude.{◌||◌}
-use Rattle.std.proofs.lemmas.List.{drop_more}
+use Rattle.cyc_words.proofs.Booleans.{or_assoc}
 use Rattle.std.specs.declared.vec.Vec.{Vec}
 use Rattle.std.specs.declared.boxed.Box.{Box}
 use Rattle.std.specs.declared.alloc.Global.{Global as Heap}
 use Rattle.cyc_types.specs.declared.typed.Stmt.{Stmt}
 use Rattle.cyc_types.specs.declared.typed.Stmt.TheVariants as stmt
 use Rattle.cyc_types.specs.declared.typed.Item.{Item as ItemCode}
-use Rattle.cyc_types.specs.declared.typed.Item.TheVariants as item
 use Rattle.cyc_types.specs.declared.typed.Clause.{Clause}
 use Rattle.cyc_types.specs.declared.typed.Body.{Body}
 use Rattle.cyc_types.specs.TypedTrees.{Clauses, NoClauses}
 use Rattle.cyc_types.specs.TypedTreeView.{view_statement, items_of, clauses_of, default_of}
 use Rattle.cyc_types.proofs.TypedTreeViewLemmas.{view_block, view_typed_try}
 use Rattle.cyc_lower.specs.inside.ControlCode.{breaks, items_break, clauses_break}
-use Rattle.cyc_lower.specs.inside.Emission.{item_breaks}
 
 -- ---- the items of a block
 
 abbrev pub ItemsStay : List ItemCode → (i : ℕ) → Type 0
 ItemsStay js i = items_break (items_of (drop i js)) ≡ items_break (items_of js)
 
-one_breaks : (x : ItemCode) (js : List ItemCode) → items_break (items_of (x ∷ js)) ≡ (item_breaks x || items_break (items_of js))
-one_breaks (item.Execute s) js = refl
-one_breaks x js = refl
-
-module _ (js : List ItemCode) (i : ℕ) (x : ItemCode) (inside : i < length js) (at : x ≡ get_or js i x) where
-  item_left : items_break (items_of (drop i js)) ≡ (item_breaks x || items_break (items_of (drop (i + 1) js)))
-  item_left =
-      ap (λ (xs : List ItemCode). items_break (items_of xs)) (drop_more js i x inside ∙ ap (λ (y : ItemCode). y ∷ drop (i + 1) js) (sym at))
-      ∙ one_breaks x (drop (i + 1) js)
-
-  pub item_stays : item_breaks x ≡ false → ItemsStay js i → ItemsStay js (i + 1)
-  item_stays none before = sym (item_left ∙ ap (λ (b : Bool). b || items_break (items_of (drop (i + 1) js))) none) ∙ before
-
-  pub item_leaves : item_breaks x ≡ true → ItemsStay js i → true ≡ items_break (items_of js)
-  item_leaves some before = sym (item_left ∙ ap (λ (b : Bool). b || items_break (items_of (drop (i + 1) js))) some) ∙ before
-
 -- ---- the clauses of a `try`
 
 abbrev pub ClausesStay : List Clause → (i : ℕ) → Type 0
 ClausesStay cs i = clauses_break (clauses_of (drop i cs) NoClauses) ≡ clauses_break (clauses_of cs NoClauses)
 
-module _ (cs : List Clause) (i : ℕ) (x : Clause) (inside : i < length cs) (at : x ≡ get_or cs i x) where
-  clause_left : clauses_break (clauses_of (drop i cs) NoClauses) ≡ (items_break (items_of x.items.items) || clauses_break (clauses_of (drop (i + 1) cs) NoClauses))
-  clause_left = ap (λ (xs : List Clause). clauses_break (clauses_of xs NoClauses)) (drop_more cs i x inside ∙ ap (λ (y : Clause). y ∷ drop (i + 1) cs) (sym at))
-
-  pub clause_stays : items_break (items_of x.items.items) ≡ false → ClausesStay cs i → ClausesStay cs (i + 1)
-  clause_stays none before = sym (clause_left ∙ ap (λ (b : Bool). b || clauses_break (clauses_of (drop (i + 1) cs) NoClauses)) none) ∙ before
-
-  pub clause_leaves : items_break (items_of x.items.items) ≡ true → ClausesStay cs i → true ≡ clauses_break (clauses_of cs NoClauses)
-  clause_leaves some before = sym (clause_left ∙ ap (λ (b : Bool). b || clauses_break (clauses_of (drop (i + 1) cs) NoClauses)) some) ∙ before
-
 -- ---- statements with lists
-
-either_either : (a b c : Bool) → ((a || b) || c) ≡ (a || (b || c))
-either_either true b c = refl
-either_either false b c = refl
 
 clauses_break_with : (cs : List Clause) (default : Clauses) → clauses_break (clauses_of cs default) ≡ (clauses_break (clauses_of cs NoClauses) || clauses_break default)
 clauses_break_with [] default = refl
 clauses_break_with (c ∷ cs) default =
     ap (λ (b : Bool). items_break (items_of c.items.items) || b) (clauses_break_with cs default)
-    ∙ sym (either_either (items_break (items_of c.items.items)) (clauses_break (clauses_of cs NoClauses)) (clauses_break default))
+    ∙ sym (or_assoc (items_break (items_of c.items.items)) (clauses_break (clauses_of cs NoClauses)) (clauses_break default))
 
 pub block_breaks : (value : Stmt) (r : ℕ) (v : Vec ItemCode Heap) → value ≡ stmt.Block r v → (items : List ItemCode) → items ≡ v.items → breaks (view_statement value) ≡ items_break (items_of items)
 block_breaks value r v is items same =

@@ -1,6 +1,6 @@
 -- Where nothing leaves a loop by a `break`, no code is for where one would go.
-use Rattle.std.proofs.Common.{◌≡◌, ℕ, ◌+◌, Bool, true, false, List, None, Some, refl}
-use Rattle.std.specs.Prelude.{◌||◌}
+use Rattle.std.proofs.Common.{◌≡◌, ℕ, ◌+◌, true, false, List, None, Some}
+use Rattle.cyc_words.proofs.Booleans.{or_false_parts}
 use Rattle.cyc_types.specs.Numbered.{Numbering}
 use Rattle.cyc_types.specs.TypedTrees.{Convert, Statement, Block, Empty, Evaluate, Swap, If, While, Return, Break, Continue, Throw, Try, Items, NoItems, MoreItems, Execute, Declare, DeclareRegion, OpenRegion, DeclareAlias, DeclareKey, Clauses, NoClauses, Default, Case}
 use Rattle.cyc_plain.specs.declared.instruction.Instruction.{Instruction}
@@ -8,10 +8,6 @@ use Rattle.cyc_lower.specs.declared.statements.Exits.{Exits}
 use Rattle.cyc_lower.specs.inside.Slots.{Types}
 use Rattle.cyc_lower.specs.inside.ControlCode.{inside_try, inside_region, behind_record_in, breaks, items_break, clauses_break}
 use Rattle.cyc_lower.proofs.relation.code.Statements.{StatementAt, ItemsAt, ClausesAt}
-
-neither : (a b : Bool) → (a || b) ≡ false → (a ≡ false) × (b ≡ false)
-neither false b none = (refl, none)
-neither true b none = absurd (let f : true ≡ false = none in cc)
 
 module _ (code : List Instruction) (bounds : Numbering) (types : Types) where
   mutual
@@ -21,7 +17,7 @@ module _ (code : List Instruction) (bounds : Numbering) (types : Types) where
     leaving_free (Evaluate a) exits x t p q none at = at
     leaving_free (Swap a b) exits x t p q none at = at
     leaving_free (If a s u) exits x t p q none (f, h, r, at_a, at_s, over, at_u) =
-        let (first, second) = neither (breaks s) (breaks u) none in
+        let (first, second) = or_false_parts (breaks s) (breaks u) none in
         (f, h, r, at_a, leaving_free s exits x t h r first at_s, over, leaving_free u exits x t f q second at_u)
     leaving_free (While w a s) exits x t p q none at = at
     leaving_free (Return None) exits x t p q none at = at
@@ -30,13 +26,13 @@ module _ (code : List Instruction) (bounds : Numbering) (types : Types) where
     leaving_free Continue exits x t p q none at = at
     leaving_free (Throw tag v) exits x t p q none at = at
     leaving_free (Try s cs) exits x t p q none (r, m, u, kept, try, at_s, leave, jump, restored, at_clauses) =
-        let (first, second) = neither (breaks s) (clauses_break cs) none in
+        let (first, second) = or_false_parts (breaks s) (clauses_break cs) none in
         (r, m, u, kept, try, leaving_free s (inside_try exits t) x (behind_record_in types.scopes t) (r + 1) m first at_s, leave, jump, restored, clauses_leaving_free cs (m + 1) exits x t u q second at_clauses)
 
     items_leaving_free : (js : Items) (exits : Exits) (x t p q : ℕ) → items_break js ≡ false → ItemsAt code bounds types js exits t p q → ItemsAt code bounds types js (record exits { leaving = x }) t p q
     items_leaving_free NoItems exits x t p q none at = at
     items_leaving_free (MoreItems (Execute s) js) exits x t p q none (m, at_s, rest) =
-        let (first, second) = neither (breaks s) (items_break js) none in
+        let (first, second) = or_false_parts (breaks s) (items_break js) none in
         (m, leaving_free s exits x t p m first at_s, items_leaving_free js exits x t m q second rest)
     items_leaving_free (MoreItems (Declare n ty v) js) exits x t p q none (m, has, at, rest) = (m, has, at, items_leaving_free js exits x t m q none rest)
     items_leaving_free (MoreItems (DeclareRegion r n) js) exits x t p q none (m, u, opened, rest, closed) =
@@ -49,5 +45,5 @@ module _ (code : List Instruction) (bounds : Numbering) (types : Types) where
     clauses_leaving_free NoClauses out exits x t p q none at = at
     clauses_leaving_free (Default r js) out exits x t p q none at = items_leaving_free js exits x t p q none at
     clauses_leaving_free (Case tag y r js cs) out exits x t p q none (m, u, word, other, caught, at_items, jump, before, rest) =
-        let (first, second) = neither (items_break js) (clauses_break cs) none in
+        let (first, second) = or_false_parts (items_break js) (clauses_break cs) none in
         (m, u, word, other, caught, items_leaving_free js exits x t m u first at_items, jump, before, clauses_leaving_free cs out exits x t (u + 1) q second rest)

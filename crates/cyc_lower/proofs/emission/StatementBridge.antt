@@ -40,11 +40,8 @@ use Rattle.cyc_lower.proofs.emission.ConditionBridge.{choice_follows, branch_sta
 use Rattle.cyc_meaning.specs.FrameCount.{words_of_all}
 use Rattle.std.specs.Prelude.{not, if◌then◌else◌}
 use Rattle.std.proofs.lemmas.Bool.{and_parts}
+use Rattle.cyc_words.proofs.Booleans.{false_from_not}
 use Rattle.cyc_lower.proofs.emission.Leaving.{leaving_free}
-
-not_holds : (b : Bool) → not b ≡ true → b ≡ false
-not_holds false is = refl
-not_holds true is = absurd (let f : false ≡ true = is in cc)
 
 module _ (code : List Instruction) (b : Numbering) (types : Types) (raised : BlocksStand code types.raises (words_of_all types.locals)) where
   assignment_stands : (l : Lvalue) (c : Converted) (t p q : ℕ) → FitsPlace b types l (kind_passed c) → FitsConverted b types c → p + length (assignment_code (starts_of types) l c p t) ≡ q → HasAt code p (assignment_code (starts_of types) l c p t) → AssignmentAt code b types l c (assigned_operand (starts_of types) l c t) t p q
@@ -317,7 +314,7 @@ module _ (code : List Instruction) (b : Numbering) (types : Types) (raised : Blo
         (looped_code (is_guard (starts_of types) a) (λ n. choice_code (starts_of types) logical.AndThen a n t) (λ leaving. statement_code (starts_of types) s (body_target leaving) (inside_loop p leaving exits) t) (holding_jump (choice_of (starts_of types) logical.AndThen a t)) p)
         p q (StatementAt code b types (While w a s) exits t p q) end has
         (λ goes end has.
-        let none = not_holds (breaks s) (and_parts (is_guard (starts_of types) a) (not (breaks s)) goes).1 in
+        let none = false_from_not (breaks s) (and_parts (is_guard (starts_of types) a) (not (breaks s)) goes).1 in
         let finish = through_end front within second p in
         let leave = failing_jump (choice_of (starts_of types) logical.OrElse a t) finish in
         let rest = holding_jump (choice_of (starts_of types) logical.AndThen a t) x ∷ instructions.Jump (finish + 1) ∷ [] in

@@ -1,5 +1,5 @@
 -- Steps of the source that call the store by their first instruction.
-use Rattle.std.proofs.Common.{◌≡◌, ◌≢◌, ℕ, zero, suc, ◌+◌, ◌<◌, Bool, true, false, List, [], ◌∷◌, None, Some, refl, sym, ap, subst, ◌∙◌, arith}
+use Rattle.std.proofs.Common.{◌≡◌, ℕ, suc, ◌+◌, Bool, true, false, List, [], ◌∷◌, None, Some, refl, sym, ap, subst, ◌∙◌, arith}
 use Rattle.std.specs.Prelude.{Contains, if◌then◌else◌}
 use Rattle.std.specs.List.{AllByRecursion}
 use Rattle.cyc_words.specs.Ending.{Full}
@@ -8,7 +8,7 @@ use Rattle.cyc_store.specs.Services as services
 use Rattle.cyc_store.specs.Services.{refusal}
 use Rattle.cyc_plain.specs.declared.instruction.Instruction.TheVariants as instructions
 use Rattle.cyc_plain.specs.declared.instruction.Request.{Request}
-use Rattle.cyc_plain.specs.inside.Program.{CodePlace, places_of}
+use Rattle.cyc_plain.specs.inside.Program.{places_of}
 use Rattle.cyc_plain.specs.inside.Requests as plain_requests
 use Rattle.cyc_plain.specs.inside.State as plain
 use Rattle.cyc_plain.specs.inside.State.{Configuration}
@@ -27,10 +27,6 @@ use Rattle.cyc_lower.proofs.relation.simulation.Shared.{seen_in, shared_seen}
 use Rattle.cyc_lower.proofs.relation.simulation.Matched.{IsMatched, Executes, by_places, shared_way, seen_way, place_in, known}
 
 -- ---- places that follow one another
-
-later : (function p first count : ℕ) → p < first → AllByRecursion (λ (q : CodePlace). let here : CodePlace = record { function = function; index = p } in here ≢ q) (places_behind function first count)
-later function p first zero less = tt
-later function p first (suc count) less = (λ same. absurd (omega (arith, less, ap (λ (q : CodePlace). q.index) same)), later function p (first + 1) count (omega (arith, less)))
 
 module _ (source : Program) (pages calls : ℕ) where
   -- The store is called, which serves the call, and then come instructions that stand behind.

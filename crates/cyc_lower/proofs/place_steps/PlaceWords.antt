@@ -116,13 +116,6 @@ module _ {t : Tables} where
       subst (Points t o (start + i))
       (sym (ap (add_of w) (multiplied_is i (omega (arith, short))) ∙ (add_is w (i * 12) short ∙ ap (λ q. w + i * q) (sym twelve)))) (thinned i part below)
 
-  -- a fat pointer at index 0 stands at its first cell: that of a struct is its address as it is
-  pub first_is : {o start n w : ℕ} (part : IsPartOf t o start n w) → 0 < n → Points t o (start + 0) (add_of w 0)
-  first_is {o} {start} {n} {w} part some = stays (subst (Points t o (start + 0)) (none w (bytes_of_kind part.kind)) (thinned 0 part some))
-    where
-      none : (w q : ℕ) → w + 0 * q ≡ w
-      none w q = omega arith
-
 -- ---- words of a cell, read and written
 
 -- A word of a live block is there whatever the memory holds.

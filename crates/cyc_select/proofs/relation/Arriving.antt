@@ -151,13 +151,6 @@ reloads_next frame [] (suc slot) at = refl
 reloads_next frame (h ∷ hs) zero at = refl
 reloads_next frame (h ∷ hs) (suc slot) at = reloads_next frame hs slot at
 
--- behind all of them stand none
-pub arriving_all : (n : ℕ) (hs : List Home) → drop (length hs) (map arriving_home (take n hs)) ≡ []
-arriving_all zero [] = refl
-arriving_all zero (h ∷ hs) = refl
-arriving_all (suc n) [] = refl
-arriving_all (suc n) (h ∷ hs) = arriving_all n hs
-
 -- ---- a caller's view of a frame
 
 pub came_in : (frame : Frame) (slot k : ℕ) → value_register (coming frame) slot ≡ Some k → (value_register frame slot ≡ Some k) × (k < 17)

@@ -296,17 +296,6 @@ module _ (p : Program) (g : Typing) (x : Exits) (bs : List InScope) (e : Environ
         (cell_written g w number offset y t v.value typed at cells c few_too is.1 g.own here g.pending (λ a held. held) (λ a none. none) (λ object i hidden apart kept a has. has) (λ object i hidden apart kept. before object i hidden apart kept) (λ i u found apart kept. beside i u found apart kept) (λ kept. claims kept) free lasts (λ object j a has. has))
         (globals_grown g h (record { objects = grows.objects; filled = grows.filled; fields = grows.fields; kept = grows.kept }) p (λ n ls. refl) globals) bound (variables_grown (record g { here = here }) h changed bs (variables_marked g here bs variables)) focus k live (goes_on changed now)))
 
-  -- of which nobody learns more than that
-  pub writes : (v : Operand) (focus : Focus) (k : List Entry) (number offset m : ℕ) (t : RunTy) (y : ObjectType) → LiveIn k bs
-      → slice_get g.objects number ≡ Some y → slice_get y.cells offset ≡ Some t → IsOpenObject g w.regions number y.life → slice_get g.filled number ≡ Some m → offset ≤ m → y.is_hidden ≡ false
-      → IsResult g (Value t) v → (IsKept g number offset y.is_hidden → Claims g.own (At number offset) t v.value)
-      → (Stays g (with_filled g number (risen offset m)) → IsFilled (with_filled g number (risen offset m)) number (suc offset) → IsFocus p (with_filled g number (risen offset m)) x bs focus k)
-      → IsWell p (stored (cell_at w number offset) number offset v focus k e w)
-  writes v focus k number offset m t y live at cells opens flag few shown is claims goes =
-      writes_marking v focus k number offset m t y g.here live at cells opens flag few is (λ object i hidden apart kept. kept) (λ i u found apart kept. kept)
-      (λ hides. let z : true ≡ false = sym hides ∙ shown in absurd (cc)) (λ object j apart now. now) claims
-      (λ changed now. goes (record { grows = record { objects = changed.grows.objects; filled = changed.grows.filled; fields = changed.grows.fields; kept = changed.grows.kept }; own = refl; here = refl; pending = refl; depth = refl; loans = refl }) now)
-
   -- a place that a pointer leads to is read
   pub reads_target : (k : List Entry) (kind : Kind) (object offset : ℕ) (n : Lives) (t : Ty) (l : Life) (f : flow.State) → AreOpen w.regions (ends_of k) → LiveIn k bs → IsPresent g (ends_of k) l → IsHad g (pointer_at l object) → Holds g f bs
       → IsTarget g (at n t) l object offset → IsByType (at n t) → is_struct t ≡ false → kind_at (at n t) ≡ kind → IsStack p g x bs (Val (Value (at n t)) f) k

@@ -4,7 +4,7 @@ use Rattle.std.specs.Prelude.{Contains, is_some, unwrap_or}
 use Rattle.std.specs.List.{list_any}
 use Rattle.std.proofs.lemmas.Bool.{and_parts, eqb-true, true≢false, not-true}
 use Rattle.std.proofs.lemmas.List.{length-map, length-replicate}
-use Rattle.cyc_words.proofs.Booleans.{some_there}
+use Rattle.cyc_words.proofs.Booleans.{or_false_parts, some_there}
 use Rattle.cyc_words.proofs.Searches.{any-true}
 use Rattle.cyc_syntax.specs.declared.tree.PointerKind.{PointerKind}
 use Rattle.cyc_syntax.specs.declared.tree.PointerKind.TheVariants as marks
@@ -636,14 +636,10 @@ module _ (p : typed.Program) (h : typed.Function) where
     heap_not_unique : regions.Heap ≢ regions.Unique
     heap_not_unique e = absurd (cc)
 
-    neither : (b c : Bool) → b || c ≡ false → (b ≡ false) × (c ≡ false)
-    neither false c e = (refl, e)
-    neither true c e = absurd (cc)
-
     first_not_unique : (ps : List (Region × Region)) (n : ℕ) → list_any is_unique_for_variable ps ≡ false → first_place ps n ≢ regions.Unique
     first_not_unique [] n k = heap_not_unique
     first_not_unique ((r, s) ∷ ps) n k =
-        let (one, rest) = neither (is_unique_for_variable (r, s)) (list_any is_unique_for_variable ps) k in go (region_eq r (regions.Variable n)) refl one (first_not_unique ps n rest)
+        let (one, rest) = or_false_parts (is_unique_for_variable (r, s)) (list_any is_unique_for_variable ps) k in go (region_eq r (regions.Variable n)) refl one (first_not_unique ps n rest)
       where
         go : (b : Bool) → region_eq r (regions.Variable n) ≡ b → is_unique_for_variable (r, s) ≡ false → first_place ps n ≢ regions.Unique → cond b s (first_place ps n) ≢ regions.Unique
         go false e one rest = rest
@@ -662,7 +658,7 @@ module _ (p : typed.Program) (h : typed.Function) where
     none_append : (xs ys : List (Region × Region)) → list_any is_unique_for_variable xs ≡ false → list_any is_unique_for_variable ys ≡ false → list_any is_unique_for_variable (xs ++ ys) ≡ false
     none_append [] ys e f = f
     none_append (x ∷ xs) ys e f =
-        let (one, rest) = neither (is_unique_for_variable x) (list_any is_unique_for_variable xs) e in ap (λ b. b || list_any is_unique_for_variable (xs ++ ys)) one ∙ none_append xs ys rest f
+        let (one, rest) = or_false_parts (is_unique_for_variable x) (list_any is_unique_for_variable xs) e in ap (λ b. b || list_any is_unique_for_variable (xs ++ ys)) one ∙ none_append xs ys rest f
 
     none_unique : (es : Expressions) (as' : List typed.Expression) (ts : List Ty) → Aligned es as' → AllKept (variables_demanded es as' ts) → list_any is_unique_for_variable (paired_arguments ts as') ≡ false
     none_unique es [] [] al k = refl

@@ -8,7 +8,6 @@ use Rattle.cyc_types.specs.declared.region.Region.TheVariants as regions
 use Rattle.cyc_types.specs.Types.{Ty, Int, Char, Pointer, Handle, Key, Struct, ValueType, Value, region_eq}
 use Rattle.cyc_types.specs.Rules.{Demand, AllKept}
 use Rattle.cyc_types.specs.typing.Tests.{mark_eq, regions_eq, ty_eq, is_thin_mark, is_unique, is_key, is_moved, is_int, is_char, is_value}
-use Rattle.cyc_types.specs.typing.Expressions.{is_any}
 use Rattle.cyc_types.proofs.RegionLemmas.{region_eq-refl, region_eq-true}
 
 -- ---- demands
@@ -53,10 +52,6 @@ int_of v h = absurd (cc)
 pub char_of : (v : ValueType) → is_char v ≡ true → v ≡ Value Char
 char_of (Value Char) h = refl
 char_of v h = absurd (cc)
-
-pub value_of : (v : ValueType) → is_value is_any v ≡ true → (t : Ty) × (v ≡ Value t)
-value_of (Value t) h = (t, refl)
-value_of v h = absurd (cc)
 
 pub unique_of : (v : ValueType) → is_value is_unique v ≡ true → (k : PointerKind) × (t : Ty) × (v ≡ Value (Pointer k t regions.Unique))
 unique_of (Value (Pointer k t r)) h = (k, t, ap (λ s. Value (Pointer k t s)) (region_eq-true r regions.Unique h))
