@@ -1,14 +1,12 @@
 //! Which expressions of a function are computed in front of a loop: those that the loop does not change. Nothing is promised
 //! of it: what is wanted is checked where it is used.
 use crate::limits::MOST_LEADS;
-use crate::naming::{LOAD_GLOBAL, Search, Value};
+use crate::naming::Search;
+use crate::shapes::{COMPARED, LOAD_GLOBAL, Value};
 use crate::tables::place_in;
 use crate::twinning::may_be_led;
 use cyc_plain::{Instruction, Operand};
 use std::alloc::{AllocError, Global};
-
-/// From this kind on operators compare.
-const COMPARED: usize = 10;
 
 /// An expression that may be computed in front of a loop: its number, the instruction that has it, and that in front of
 /// which it is computed, if there is one.

@@ -15,10 +15,12 @@ mod moving;
 mod naming;
 mod origin;
 mod replacing;
+mod shapes;
 mod site;
 mod sizes;
 mod tables;
 mod twinning;
+mod writing;
 
 pub use expressions::name_expressions;
 pub use inlining::{Inlined, inline};

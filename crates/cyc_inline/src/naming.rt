@@ -2,11 +2,10 @@
 //! had them got another word, and those that a loop does not change, which are computed in front of it too. Nothing is
 //! promised of it: what is wanted is checked where it is used.
 use crate::leading::{Candidate, ends_of, head_of};
+use crate::shapes::{LOAD, LOAD_GLOBAL, Shape, Value, bucket_of, is_same_shape, is_slot, kind_of};
 use crate::tables::place_in;
-use cyc_plain::{
-    BinaryOperator, Function, Instruction, LAYOUT_WORDS, MOST_FRAME_WORDS, Operand, Plain,
-    RECORD_WORDS, Request,
-};
+use crate::writing::{Slots, pins_of, stores, written_by};
+use cyc_plain::{Function, Instruction, LAYOUT_WORDS, MOST_FRAME_WORDS, Operand, Plain};
 use std::alloc::{AllocError, Global};
 
 /// So many expressions of one bucket are compared at most.
@@ -15,11 +14,6 @@ const MOST_COMPARED: usize = 8;
 /// A function of so many instructions at most is small: what it computes may be worth a slot outside of loops too.
 const MOST_SMALL: usize = 256;
 
-/// What the kinds of loads are numbered by, behind the operators.
-pub(crate) const LOAD: usize = 16;
-
-pub(crate) const LOAD_GLOBAL: usize = 17;
-
 /// How many slots a function has with those that its expressions get, for each of its instructions which of them its twin
 /// is for, or 0, and its leads.
 #[derive(Drop)]
@@ -27,22 +21,6 @@ pub(crate) struct Twins {
     pub(crate) slots: usize,
     pub(crate) wanted: Vec<usize>,
     pub(crate) leads: Vec<Vec<Instruction>>,
-}
-
-/// What an operand stands for, as far as it is known: a word, a slot, or an expression.
-#[derive(Clone, Copy)]
-pub(crate) enum Value {
-    Word { word: u32 },
-    Slot { number: usize },
-    Expression { number: usize },
-}
-
-/// What an instruction computes or loads, and of what.
-#[derive(Clone, Copy)]
-pub(crate) struct Shape {
-    pub(crate) kind: usize,
-    pub(crate) left: Value,
-    pub(crate) right: Value,
 }
 
 /// An expression. Times are numbers of instructions, from 1 on.
@@ -69,13 +47,6 @@ pub(crate) struct Expression {
 struct Name {
     value: Value,
     since: usize,
-}
-
-/// Slots that an instruction writes.
-#[derive(Clone, Copy)]
-struct Slots {
-    first: usize,
-    count: usize,
 }
 
 #[derive(Drop)]
@@ -107,151 +78,6 @@ fn flag_in(flags: &[bool], index: usize) -> bool {
         Some(flag) => *flag,
         None => true,
     }
-}
-
-fn is_same(one: Value, other: Value) -> bool {
-    match one {
-        Value::Word { word } => match other {
-            Value::Word { word: second } => word == second,
-            _ => false,
-        },
-        Value::Slot { number } => match other {
-            Value::Slot { number: second } => number == second,
-            _ => false,
-        },
-        Value::Expression { number } => match other {
-            Value::Expression { number: second } => number == second,
-            _ => false,
-        },
-    }
-}
-
-fn is_same_shape(one: Shape, other: Shape) -> bool {
-    one.kind == other.kind && is_same(one.left, other.left) && is_same(one.right, other.right)
-}
-
-fn is_slot(value: Value, slot: usize) -> bool {
-    match value {
-        Value::Slot { number } => number == slot,
-        _ => false,
-    }
-}
-
-/// A number by which values are told apart.
-fn sum_of(value: Value) -> usize {
-    match value {
-        Value::Word { word } => (word as usize).wrapping_mul(3),
-        Value::Slot { number } => number.wrapping_mul(3).wrapping_add(1),
-        Value::Expression { number } => number.wrapping_mul(3).wrapping_add(2),
-    }
-}
-
-fn bucket_of(shape: Shape, count: usize) -> usize {
-    if count == 0 {
-        return 0;
-    }
-    let left = sum_of(shape.left).wrapping_mul(961);
-    let right = sum_of(shape.right).wrapping_mul(31);
-    left.wrapping_add(right).wrapping_add(shape.kind) % count
-}
-
-/// The number of an operator that has a twin.
-fn kind_of(operator: BinaryOperator) -> Option<usize> {
-    match operator {
-        BinaryOperator::Add => Some(0),
-        BinaryOperator::Subtract => Some(1),
-        BinaryOperator::Multiply => Some(2),
-        BinaryOperator::Divide | BinaryOperator::Remainder => None,
-        BinaryOperator::And => Some(5),
-        BinaryOperator::Or => Some(6),
-        BinaryOperator::Xor => Some(7),
-        BinaryOperator::ShiftLeft => Some(8),
-        BinaryOperator::ShiftRight => Some(9),
-        BinaryOperator::Equal => Some(10),
-        BinaryOperator::NotEqual => Some(11),
-        BinaryOperator::Less => Some(12),
-        BinaryOperator::LessOrEqual => Some(13),
-        BinaryOperator::Greater => Some(14),
-        BinaryOperator::GreaterOrEqual => Some(15),
-    }
-}
-
-fn slots_from(first: usize, count: usize) -> Slots {
-    Slots { first, count }
-}
-
-/// The slots that a request's answer comes to.
-fn answered(request: Request) -> Slots {
-    match request {
-        Request::OpenLexical { destination } => slots_from(destination, 2),
-        Request::OpenDynamic { destination } => slots_from(destination, 1),
-        Request::Allocate { destination, .. } => slots_from(destination, 1),
-        Request::CloseTo { .. } | Request::CloseDynamic { .. } | Request::Free { .. } => slots_from(
-            0, 0,
-        ),
-    }
-}
-
-/// The slots that an instruction writes.
-fn written_by(plain: &Plain, instruction: Instruction) -> Slots {
-    match instruction {
-        Instruction::Move { destination, .. }
-        | Instruction::Unary { destination, .. }
-        | Instruction::Binary { destination, .. }
-        | Instruction::ReadByte { destination }
-        | Instruction::AddressOf { destination, .. }
-        | Instruction::LoadGlobal { destination, .. }
-        | Instruction::Load { destination, .. }
-        | Instruction::LoadByte { destination, .. }
-        | Instruction::CountLexical { destination } => slots_from(destination, 1),
-        Instruction::MoveWords {
-            destination,
-            count,
-            ..
-        } => slots_from(destination, count),
-        Instruction::Call {
-            function,
-            result,
-            ..
-        } => match plain.functions().get(function) {
-            Some(callee) => slots_from(result, callee.results),
-            None => slots_from(result, 3),
-        },
-        Instruction::Try { first, .. } => slots_from(first, RECORD_WORDS),
-        Instruction::Ask { request } => answered(request),
-        _ => slots_from(0, 0),
-    }
-}
-
-/// Whether an instruction may change memory.
-fn stores(instruction: Instruction) -> bool {
-    match instruction {
-        Instruction::Store { .. }
-        | Instruction::StoreByte { .. }
-        | Instruction::StoreGlobal { .. }
-        | Instruction::Call { .. }
-        | Instruction::Ask { .. }
-        | Instruction::Try { .. } => true,
-        _ => false,
-    }
-}
-
-/// Whether each slot has its address taken.
-fn pins_of(alloc: Global, function: &Function) -> Result<Vec<bool>, AllocError> {
-    let mut pinned = vec![in alloc; false; function.slots]?;
-    for index in 0..function.code.len() {
-        let taken = match function.code[index] {
-            Instruction::AddressOf { slot, count, .. } => slots_from(slot, count),
-            Instruction::Try { first, .. } => slots_from(first, RECORD_WORDS),
-            _ => slots_from(0, 0),
-        };
-        for word in 0..taken.count {
-            if let Some(pin) = pinned.get_mut(taken.first.wrapping_add(word)) {
-                *pin = true;
-            }
-        }
-    }
-    Ok(pinned)
 }
 
 fn is_small(function: &Function) -> bool {
