@@ -22,6 +22,8 @@ pub mod CharExamples
 pub mod VariableLemmas
 pub mod VariableChanges
 pub mod VariableDeclared
+pub mod VariableParts
+pub mod VariableValues
 pub mod VariableSteps
 pub mod Rising
 pub mod VariableRuns

@@ -17,8 +17,9 @@ use Rattle.cyc_meaning.proofs.Nested.{nests_step, nests_start, nests_run}
 use Rattle.cyc_meaning.proofs.VariableLemmas.{lives_once, lives_below}
 use Rattle.cyc_meaning.proofs.VariableChanges.{local_here}
 use Rattle.cyc_meaning.proofs.VariableDeclared.{former_left}
-use Rattle.cyc_meaning.proofs.VariableSteps.{low_less, Stays, Goes, Ends, Dies, Fails, Begins, sooner, none_low, named_evaluating, named_locating, named_given, named_given_place, named_executing, named_proceeding, named_calling, named_entering}
-use Rattle.cyc_meaning.proofs.VariableSteps.{named_binding, named_naming, named_writing, named_beginning, named_repeating, named_swapping_values, named_breaking, named_continuing, named_returning, named_throwing, named_catching}
+use Rattle.cyc_meaning.proofs.VariableParts.{low_less, Stays, Goes, Ends, Dies, Fails, Begins, sooner}
+use Rattle.cyc_meaning.proofs.VariableValues.{named_evaluating, named_locating, named_given, named_given_place, named_writing, named_beginning, named_repeating, named_swapping_values}
+use Rattle.cyc_meaning.proofs.VariableSteps.{none_low, named_executing, named_proceeding, named_calling, named_entering, named_binding, named_naming, named_breaking, named_continuing, named_returning, named_throwing, named_catching}
 use Rattle.cyc_meaning.proofs.Rising.{functions_rise}
 
 -- ---- a step
