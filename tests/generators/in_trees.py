@@ -9,7 +9,8 @@ refuse is run all the same: then the run may be dead. With `pub mod Texts` in `c
 says whether the definitions agree. Runs should be short: the prover makes every step.
 
     python3 tests/generators/in_trees.py --accepted > crates/cyc_soundness/proofs/examples/AcceptedPrograms.antt
-    python3 tests/generators/in_trees.py --refused > crates/cyc_soundness/proofs/examples/RefusedPrograms.antt
+    python3 tests/generators/in_trees.py --refused-by-types > crates/cyc_soundness/proofs/examples/RefusedByTypes.antt
+    python3 tests/generators/in_trees.py --refused-by-flow > crates/cyc_soundness/proofs/examples/RefusedByFlow.antt
 
 These are the programs of `sound/accepted.programs` and `sound/refused.programs`, each with how its run ends. A program that the rules
 refuse is made a tree by leaving out the rules of the code that refuses it.
@@ -396,8 +397,9 @@ abbrev {name} : t.Program
 
 STEPS_STATED = 500
 ACCEPTED = """-- Programs that the rules accept, run through the ends of their scopes: none is dead or wrong. Each is proved by computation."""
-REFUSED = """-- Programs that the rules refuse, as the trees that a checker would make without the rules of that one code: each is dead or wrong.
+REFUSED = """-- Programs that the {rules} refuse, as the trees that a checker would make without the rules of that one code: each is dead or wrong.
 -- Each is proved by computation."""
+FIRST_OF_FLOW = 40  # the codes of the typing rules are smaller
 
 
 def programs_in(name):
@@ -461,19 +463,26 @@ def imported(line, body):
     return f"{path}{{{', '.join(used)}}}\n" if used else ""
 
 
-def module(name, purpose):
-    """A module of the programs of a file."""
-    body = "".join(stated(head, text) for head, text in programs_in(name))
+def module(programs, purpose):
+    """A module of these programs."""
+    body = "".join(stated(head, text) for head, text in programs)
     code = "\n".join(line for line in body.split("\n") if not line.startswith("--"))
     imports = "".join(imported(line, code) for line in HEAD.splitlines()[1:])
     return f"{purpose} Made by tests/generators/in_trees.py of tests/sound.\n{imports}{body}"
 
 
+def refused_by(flow):
+    """The programs that the rules of flow refuse, or else the typing rules."""
+    return [(head, text) for head, text in programs_in("refused") if (refusal_of(head)[1] >= FIRST_OF_FLOW) == flow]
+
+
 def main():
     if sys.argv[1:] == ["--accepted"]:
-        return print(module("accepted", ACCEPTED), end="")
-    if sys.argv[1:] == ["--refused"]:
-        return print(module("refused", REFUSED), end="")
+        return print(module(programs_in("accepted"), ACCEPTED), end="")
+    if sys.argv[1:] == ["--refused-by-types"]:
+        return print(module(refused_by(False), REFUSED.format(rules="typing rules")), end="")
+    if sys.argv[1:] == ["--refused-by-flow"]:
+        return print(module(refused_by(True), REFUSED.format(rules="flow rules")), end="")
     found = [equations(f"text_{number}", reference.read(path)) for number, path in enumerate(sys.argv[1:])]
     print(HEAD + "".join(part for part in found if part))
 

@@ -37,7 +37,9 @@ use Rattle.cyc_soundness.specs.inside.Lives as lives
 use Rattle.cyc_soundness.specs.inside.Worlds.{Nobody, thing_of, ClaimsPart, IsKeyless, ObjectType, Typing, Outlasts, heap as for_ever, global_type, HasType, IsResult, AreOperands, IsObject, IsTyped, Thing, Holder, At, Claims, AreOwned, Settled, Gone, Away}
 use Rattle.cyc_soundness.specs.inside.Frames.{InScope, Instance, read, read_value, IsThereBy, IsBound, AreVariables, LiveIn, Holds, Exits, AreNamed, lives_among, KnowsProgram}
 use Rattle.cyc_soundness.specs.inside.Classes.{IsDeclarable, InFunctions, InGlobals, InFields, InStructs, IsInClass}
-use Rattle.cyc_soundness.specs.inside.Stacks.{IsAccepted, operands_in, Comes, AreGiven, Val, PlaceOf, regions_at_call, IsStack, IsFocus, IsWell}
+use Rattle.cyc_soundness.specs.inside.Judgements.{IsAccepted}
+use Rattle.cyc_soundness.specs.inside.Awaited.{operands_in, Comes, AreGiven, Val, PlaceOf, regions_at_call}
+use Rattle.cyc_soundness.specs.inside.Stacks.{IsStack, IsFocus, IsWell}
 use Rattle.cyc_soundness.specs.Sound.{IsSound}
 use Rattle.cyc_soundness.proofs.types.TypeLemmas.{kind_meant}
 use Rattle.cyc_soundness.proofs.states.StackLemmas.{AreAccepted}

@@ -3,4 +3,5 @@ pub mod Examples
 pub mod LaterRegions
 pub mod KeyFields
 pub mod AcceptedPrograms
-pub mod RefusedPrograms
+pub mod RefusedByTypes
+pub mod RefusedByFlow

@@ -3,7 +3,9 @@ pub mod Objects
 pub mod ArrayObjects
 pub mod Swapping
 pub mod Places
+pub mod Variables
 pub mod Evaluation
+pub mod Chains
 pub mod Loans
 pub mod Supply
 pub mod Execution

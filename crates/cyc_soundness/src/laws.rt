@@ -15,7 +15,8 @@ ghost use Rattle.cyc_meaning.specs.State.{Entry};
 ghost use Rattle.cyc_soundness.specs.inside.Lives.{RunTy, Lives, at, value_at};
 ghost use Rattle.cyc_soundness.specs.inside.Worlds.{Typing, AgreesWith, HasType, IsResult, Fits, Grows, Stays};
 ghost use Rattle.cyc_soundness.specs.inside.Frames.{InScope, Exits};
-ghost use Rattle.cyc_soundness.specs.inside.Stacks.{Want, IsStack};
+ghost use Rattle.cyc_soundness.specs.inside.Awaited.{Want};
+ghost use Rattle.cyc_soundness.specs.inside.Stacks.{IsStack};
 ghost use Rattle.cyc_soundness.specs.Sound.{IsSound};
 
 /// What is known of a world only grows, and what was typed stays so: a value keeps its type for good, and a control stack

@@ -20,7 +20,8 @@ use Rattle.cyc_soundness.specs.inside.Lives.{Life, OfRegion, Owned, Kept, RunTy,
 use Rattle.cyc_soundness.specs.inside.Worlds.{IsKept, IsPlain, PointerTo, thing_of, same_thing, given, giving, Thing, Holder, Hand, At, IsHeld, pointer_at, Claims, ClaimsPart, ClaimsBy, IsHad, IsOpenObject, IsKeyless, AreKeyless, Stays, ObjectType, Typing}
 use Rattle.cyc_soundness.specs.inside.Worlds.{IsOpenIn, Outlasts, alike, heap as for_ever, globals as with_globals, stays, encloses, IsFilled, IsPart, IsTarget, HasType, IsResult, IsTyped, IsOpenLife, borrows, KeyOf, life_at, lent_now, global_life, Standing, Away}
 use Rattle.cyc_soundness.specs.inside.Frames.{InScope, IsBound, AreVariables, LiveIn, Holds, Exits, KnowsProgram, IsLasting}
-use Rattle.cyc_soundness.specs.inside.Stacks.{IsCommonLife, IsByType, Val, operands_in, IsStack, IsFocus, IsWell}
+use Rattle.cyc_soundness.specs.inside.Awaited.{IsCommonLife, IsByType, Val, operands_in}
+use Rattle.cyc_soundness.specs.inside.Stacks.{IsStack, IsFocus, IsWell}
 use Rattle.cyc_soundness.proofs.types.TypeLemmas.{is_kind_same}
 use Rattle.cyc_soundness.proofs.states.WorldLemmas.{typed_cell, cell_there, live_object, result_grown, risen, risen_past, with_filled, written_grows, cell_written, globals_grown}
 use Rattle.cyc_soundness.proofs.states.Hands.{Changed, at_no_hand, given_now, giving_changed, variables_kept, changed_after, lent_no_hand}

@@ -19,9 +19,10 @@ use Rattle.cyc_soundness.specs.inside.Lives as lives
 use Rattle.cyc_soundness.specs.inside.Worlds.{OfLocal, Settled, Holder, Nobody, Hand, At, pointer_at, thing_of, IsHere, Stays, Typing, variable_type, IsHiding, Away}
 use Rattle.cyc_soundness.specs.inside.Frames.{InScope, lives_in, read, IsFullIn, Holds, Exits, read_value, lending}
 use Rattle.cyc_soundness.specs.inside.Classes.{is_full, Relied, only, and_looked, IsSpared, InOperations}
-use Rattle.cyc_soundness.specs.inside.Stacks.{part, part_of_place, relied_by, relied_at, Want, Nothing, Val, PlaceOf, Go, held, Waits, place_operand, count_held}
-use Rattle.cyc_soundness.specs.inside.Stacks.{count_place, IsThrough, IsArrayOf, AreClaimed, IsHeldPart, operands_in, Keeps, IsLeftSpot, left_variable, left_cell, KeepsPlace, IsStack, IsLentOut}
-use Rattle.cyc_soundness.specs.inside.Stacks as stacks
+use Rattle.cyc_soundness.specs.inside.Awaited.{part, part_of_place, relied_by, relied_at, Want, Nothing, Val, PlaceOf, Go, held, Waits, place_operand, count_held, count_place, IsThrough, IsArrayOf, AreClaimed, IsHeldPart, operands_in, Keeps, IsLeftSpot, left_variable, left_cell}
+use Rattle.cyc_soundness.specs.inside.Awaited.{KeepsPlace}
+use Rattle.cyc_soundness.specs.inside.Awaited as awaited
+use Rattle.cyc_soundness.specs.inside.Stacks.{IsStack, IsLentOut}
 use Rattle.cyc_soundness.proofs.states.WorldLemmas.{type_grown, operands_grown}
 use Rattle.cyc_soundness.proofs.states.Hands.{Changed, stays_changed, owns_kept, claims_kept, part_kept, variables_kept, holds_kept, holds_here, slot_kept}
 use Rattle.cyc_soundness.proofs.states.StackLemmas.{relied_if, IsAboveBy, IsAbove, above_by, hand_other, lent_other, looked_other, none_lent, operands_long, above_to, statement_spared, ends_relied}
@@ -328,41 +329,41 @@ through_void peek t r (inl is) e = value_void (looked_void peek (Value t) (sym i
 through_void peek t r (inr is) e = let k : Into peek t ≡ Void = sym is ∙ e in absurd (cc)
 
 void_waits : {p : Program} {x : Exits} {q : Relied} {bs cs : List InScope} {a : Awaiting} {ts : List RunTy} {r : RunValue} {f : flow.State} {next : Want} → Waits p x q bs a ts r f cs next → r ≡ Void → ⊥
-void_waits {bs = bs} (stacks.converts c v t f agrees keeps conv from to target) e = void_converts c t (subst (λ z. Converts c z t) (void_read (lives_in bs) v e) conv)
-void_waits (stacks.negates f) e = value_void e
-void_waits (stacks.complements f) e = value_void e
-void_waits (stacks.widens f) e = value_void e
-void_waits (stacks.narrows f) e = value_void e
-void_waits {bs = bs} (stacks.denies seen v f tested) e = void_tested (lives_in bs) v (looked_void seen (read_value bs v) e) tested
-void_waits {p} {q = q} {bs = bs} (stacks.chains {os} seen c v t f h stands computes chained) e = void_chain q c os t (subst (λ z. IsChain c z os t) (void_read (lives_in bs) v (looked_void seen (read_value bs v) e)) computes.typed) computes.kept
-void_waits (stacks.applies f) e = value_void e
-void_waits {bs = bs} (stacks.decides seen v f h tested i) e = void_tested (lives_in bs) v (looked_void seen (read_value bs v) e) tested
-void_waits (stacks.stores_local b t f among same spared) e = value_void e
-void_waits (stacks.stores_global number t f there same) e = value_void e
-void_waits {bs = bs} (stacks.points also c t v w f stands op) e = pointer_right (lives_in bs) op (looked_void also (read_value bs v) e)
-void_waits {bs = bs} (stacks.null_points also c v w f op) e = pointer_right (lives_in bs) op (looked_void also (read_value bs v) e)
-void_waits (stacks.stores_cell t r f alive) e = value_void e
-void_waits {bs = bs} (stacks.follows seen v m t r f through kind target alive) e = through_void seen (lives.Pointer m (read bs t) (lives_in bs r)) v through e
-void_waits {bs = bs} (stacks.follows_member seen m n ls s t u r f kind struct fields field is alive) e = value_void (looked_void seen (Value (lives.Pointer m (lives.Struct n ls) (lives_in bs r))) e)
-void_waits {bs = bs} (stacks.indexes {peek} c t r f h stands evaluates target alive) e = value_void (looked_void peek (Value (lives.Pointer marks.Fat (read bs t) (lives_in bs r))) e)
-void_waits (stacks.advances t r f target alive) e = value_void e
-void_waits (stacks.counts_elements seen t l f) e = value_void (looked_void seen (Value (lives.Pointer marks.Fat t l)) e)
-void_waits (stacks.places_by c m t r f h stands makes alive) e = value_void e
-void_waits (stacks.beside_handle t f) e = value_void e
-void_waits (stacks.makes_plain t r f keyless alive owner kind) e = value_void e
-void_waits (stacks.makes_fields c done t ts n ls r f h alive owner stands passes fields) e = value_void e
-void_waits (stacks.makes_array c t r f alive owner stands repeats) e = value_void e
-void_waits (stacks.fills cs c t r f h same alive stands repeats i) e = value_void e
-void_waits (stacks.passes c done t ts r f h stands passes called) e = value_void e
-void_waits (stacks.initialises cs c t f h within stands new number kind continues) e = value_void e
-void_waits {bs = bs} (stacks.chooses seen c d v f g h i tested first_stands second_stands one two j k) e = void_tested (lives_in bs) v (looked_void seen (read_value bs v) e) tested
-void_waits {bs = bs} (stacks.tests seen l v f h loop) e = void_tested (lives_in bs) v (looked_void seen (read_value bs v) e) loop.tested
-void_waits (stacks.returns t u f h result gives) e = value_void e
-void_waits (stacks.frees_object k t f) e = value_void e
-void_waits (stacks.closes_by_key r f) e = value_void e
-void_waits (stacks.throws f h) e = value_void e
-void_waits (stacks.opens_by cs c b r f h i within stands among number of_type hides set spared full less alive next continues again) e = seen_void e
-void_waits (stacks.aliases cs c b u t f h i within stands among number same hides set spared full unique known of_type alive next continues again) e = seen_void e
+void_waits {bs = bs} (awaited.converts c v t f agrees keeps conv from to target) e = void_converts c t (subst (λ z. Converts c z t) (void_read (lives_in bs) v e) conv)
+void_waits (awaited.negates f) e = value_void e
+void_waits (awaited.complements f) e = value_void e
+void_waits (awaited.widens f) e = value_void e
+void_waits (awaited.narrows f) e = value_void e
+void_waits {bs = bs} (awaited.denies seen v f tested) e = void_tested (lives_in bs) v (looked_void seen (read_value bs v) e) tested
+void_waits {p} {q = q} {bs = bs} (awaited.chains {os} seen c v t f h stands computes chained) e = void_chain q c os t (subst (λ z. IsChain c z os t) (void_read (lives_in bs) v (looked_void seen (read_value bs v) e)) computes.typed) computes.kept
+void_waits (awaited.applies f) e = value_void e
+void_waits {bs = bs} (awaited.decides seen v f h tested i) e = void_tested (lives_in bs) v (looked_void seen (read_value bs v) e) tested
+void_waits (awaited.stores_local b t f among same spared) e = value_void e
+void_waits (awaited.stores_global number t f there same) e = value_void e
+void_waits {bs = bs} (awaited.points also c t v w f stands op) e = pointer_right (lives_in bs) op (looked_void also (read_value bs v) e)
+void_waits {bs = bs} (awaited.null_points also c v w f op) e = pointer_right (lives_in bs) op (looked_void also (read_value bs v) e)
+void_waits (awaited.stores_cell t r f alive) e = value_void e
+void_waits {bs = bs} (awaited.follows seen v m t r f through kind target alive) e = through_void seen (lives.Pointer m (read bs t) (lives_in bs r)) v through e
+void_waits {bs = bs} (awaited.follows_member seen m n ls s t u r f kind struct fields field is alive) e = value_void (looked_void seen (Value (lives.Pointer m (lives.Struct n ls) (lives_in bs r))) e)
+void_waits {bs = bs} (awaited.indexes {peek} c t r f h stands evaluates target alive) e = value_void (looked_void peek (Value (lives.Pointer marks.Fat (read bs t) (lives_in bs r))) e)
+void_waits (awaited.advances t r f target alive) e = value_void e
+void_waits (awaited.counts_elements seen t l f) e = value_void (looked_void seen (Value (lives.Pointer marks.Fat t l)) e)
+void_waits (awaited.places_by c m t r f h stands makes alive) e = value_void e
+void_waits (awaited.beside_handle t f) e = value_void e
+void_waits (awaited.makes_plain t r f keyless alive owner kind) e = value_void e
+void_waits (awaited.makes_fields c done t ts n ls r f h alive owner stands passes fields) e = value_void e
+void_waits (awaited.makes_array c t r f alive owner stands repeats) e = value_void e
+void_waits (awaited.fills cs c t r f h same alive stands repeats i) e = value_void e
+void_waits (awaited.passes c done t ts r f h stands passes called) e = value_void e
+void_waits (awaited.initialises cs c t f h within stands new number kind continues) e = value_void e
+void_waits {bs = bs} (awaited.chooses seen c d v f g h i tested first_stands second_stands one two j k) e = void_tested (lives_in bs) v (looked_void seen (read_value bs v) e) tested
+void_waits {bs = bs} (awaited.tests seen l v f h loop) e = void_tested (lives_in bs) v (looked_void seen (read_value bs v) e) loop.tested
+void_waits (awaited.returns t u f h result gives) e = value_void e
+void_waits (awaited.frees_object k t f) e = value_void e
+void_waits (awaited.closes_by_key r f) e = value_void e
+void_waits (awaited.throws f h) e = value_void e
+void_waits (awaited.opens_by cs c b r f h i within stands among number of_type hides set spared full less alive next continues again) e = seen_void e
+void_waits (awaited.aliases cs c b u t f h i within stands among number same hides set spared full unique known of_type alive next continues again) e = seen_void e
 
 pub void_goes : (p : Program) (g : Typing) (x : Exits) (bs : List InScope) (f : flow.State) (r : RunValue) (k : List Entry) → r ≡ Void → IsStack p g x bs (Val r f) k → IsStack p g x bs (Go f) k
 void_goes p g x bs f r (Needs a ∷ k) e (ts, cs, next, waits, are, rest) = absurd (void_waits waits e)

@@ -14,8 +14,10 @@ use Rattle.cyc_soundness.specs.inside.Lives.{Life, RunTy, RunValue}
 use Rattle.cyc_soundness.specs.inside.Worlds.{OfLocal, Thing, ClaimsPart, Holder, Nobody, Hand, At, Lent, Claims, ClaimsBy, IsSlot, is_lent_by, AreOperands, ObjectType, Typing, Grows, IsHiding}
 use Rattle.cyc_soundness.specs.inside.Frames.{InScope, Variable, IsFullIn, IsFullAt, AreFullAt, Exits, relying, lending}
 use Rattle.cyc_soundness.specs.inside.Classes.{is_full, Relied, only, and_looked, IsSparedBy, IsSpared}
-use Rattle.cyc_soundness.specs.inside.Stacks.{IsAccepted, Part, Whole, PartOf, part, part_of_place, relied_by, relied_at, WaitsPlace, Want, Nothing, Go, Waits, IsArray, AreClaimed, operands_in, Keeps, IsStack}
-use Rattle.cyc_soundness.specs.inside.Stacks as stacks
+use Rattle.cyc_soundness.specs.inside.Judgements.{IsAccepted}
+use Rattle.cyc_soundness.specs.inside.Awaited.{Part, Whole, PartOf, part, part_of_place, relied_by, relied_at, WaitsPlace, Want, Nothing, Go, Waits, IsArray, AreClaimed, operands_in, Keeps}
+use Rattle.cyc_soundness.specs.inside.Awaited as awaited
+use Rattle.cyc_soundness.specs.inside.Stacks.{IsStack}
 use Rattle.cyc_soundness.proofs.flow.FlowLemmas.{full_put}
 use Rattle.cyc_soundness.proofs.states.Hands.{hand_same, at_same, at_no_hand, at_not_lent, at_some, lent_same, lent_some, lent_no_hand, lent_not_at}
 
@@ -219,48 +221,48 @@ part_whole o peek e = let k : PartOf o ≡ Whole peek = e in absurd (cc)
 
 -- a statement goes on behind what is no part of an expression
 pub waits_whole : {p : Program} {x : Exits} {q : Relied} {bs cs : List InScope} {a : Awaiting} {ts : List RunTy} {r : RunValue} {f : flow.State} {next : Want} → Waits p x q bs a ts r f cs next → (peek : Option ℕ) → part a ≡ Whole peek → (h : flow.State) × (next ≡ Go h)
-waits_whole (stacks.converts c v t f agrees keeps conv from to target) peek e = part_whole None peek e
-waits_whole (stacks.negates f) peek e = part_whole None peek e
-waits_whole (stacks.complements f) peek e = part_whole None peek e
-waits_whole (stacks.widens f) peek e = part_whole None peek e
-waits_whole (stacks.narrows f) peek e = part_whole None peek e
-waits_whole (stacks.denies seen v f tested) peek e = part_whole None peek e
-waits_whole (stacks.chains seen c v t f h stands computes chained) peek e = part_whole None peek e
-waits_whole (stacks.applies f) peek e = part_whole None peek e
-waits_whole (stacks.decides seen v f h tested i) peek e = part_whole None peek e
-waits_whole (stacks.stores_local b t f among same spared) peek e = part_whole None peek e
-waits_whole (stacks.stores_global number t f there same) peek e = part_whole None peek e
-waits_whole (stacks.points {peek = o} also c t v w f stands op) peek e = part_whole o peek e
-waits_whole (stacks.null_points {peek = o} also c v w f op) peek e = part_whole o peek e
-waits_whole (stacks.stores_cell {peek = o} t r f alive) peek e = part_whole o peek e
-waits_whole (stacks.follows seen v m t r f through kind target alive) peek e = part_whole None peek e
-waits_whole (stacks.follows_member seen m n ls s t u r f kind struct fields field is alive) peek e = part_whole None peek e
-waits_whole (stacks.indexes c t r f h stands evaluates target alive) peek e = part_whole None peek e
-waits_whole (stacks.advances {peek = o} t r f target alive) peek e = part_whole o peek e
-waits_whole (stacks.counts_elements seen t l f) peek e = part_whole None peek e
-waits_whole (stacks.places_by c m t r f h stands makes alive) peek e = part_whole None peek e
-waits_whole (stacks.beside_handle t f) peek e = part_whole None peek e
-waits_whole (stacks.makes_plain t r f keyless alive owner kind) peek e = part_whole None peek e
-waits_whole (stacks.makes_fields c done t ts n ls r f h alive owner stands passes fields) peek e = part_whole None peek e
-waits_whole (stacks.makes_array c t r f alive owner stands repeats) peek e = part_whole None peek e
-waits_whole (stacks.fills cs c t r f h same alive stands repeats i) peek e = part_whole None peek e
-waits_whole (stacks.passes c done t ts r f h stands passes called) peek e = part_whole None peek e
-waits_whole (stacks.initialises cs c t f h within stands new number kind continues) peek e = (h, refl)
-waits_whole (stacks.chooses seen c d v f g h i tested first_stands second_stands one two j k) peek e = (i, refl)
-waits_whole (stacks.tests seen l v f h loop) peek e = (h, refl)
-waits_whole (stacks.returns t u f h result gives) peek e = (h, refl)
-waits_whole (stacks.frees_object k t f) peek e = part_whole None peek e
-waits_whole (stacks.closes_by_key r f) peek e = part_whole None peek e
-waits_whole (stacks.throws f h) peek e = (h, refl)
-waits_whole (stacks.opens_by cs c b r f h i within stands among number of_type hides set spared full less alive next continues again) peek e = (i, refl)
-waits_whole (stacks.aliases cs c b u t f h i within stands among number same hides set spared full unique known of_type alive next continues again) peek e = (i, refl)
+waits_whole (awaited.converts c v t f agrees keeps conv from to target) peek e = part_whole None peek e
+waits_whole (awaited.negates f) peek e = part_whole None peek e
+waits_whole (awaited.complements f) peek e = part_whole None peek e
+waits_whole (awaited.widens f) peek e = part_whole None peek e
+waits_whole (awaited.narrows f) peek e = part_whole None peek e
+waits_whole (awaited.denies seen v f tested) peek e = part_whole None peek e
+waits_whole (awaited.chains seen c v t f h stands computes chained) peek e = part_whole None peek e
+waits_whole (awaited.applies f) peek e = part_whole None peek e
+waits_whole (awaited.decides seen v f h tested i) peek e = part_whole None peek e
+waits_whole (awaited.stores_local b t f among same spared) peek e = part_whole None peek e
+waits_whole (awaited.stores_global number t f there same) peek e = part_whole None peek e
+waits_whole (awaited.points {peek = o} also c t v w f stands op) peek e = part_whole o peek e
+waits_whole (awaited.null_points {peek = o} also c v w f op) peek e = part_whole o peek e
+waits_whole (awaited.stores_cell {peek = o} t r f alive) peek e = part_whole o peek e
+waits_whole (awaited.follows seen v m t r f through kind target alive) peek e = part_whole None peek e
+waits_whole (awaited.follows_member seen m n ls s t u r f kind struct fields field is alive) peek e = part_whole None peek e
+waits_whole (awaited.indexes c t r f h stands evaluates target alive) peek e = part_whole None peek e
+waits_whole (awaited.advances {peek = o} t r f target alive) peek e = part_whole o peek e
+waits_whole (awaited.counts_elements seen t l f) peek e = part_whole None peek e
+waits_whole (awaited.places_by c m t r f h stands makes alive) peek e = part_whole None peek e
+waits_whole (awaited.beside_handle t f) peek e = part_whole None peek e
+waits_whole (awaited.makes_plain t r f keyless alive owner kind) peek e = part_whole None peek e
+waits_whole (awaited.makes_fields c done t ts n ls r f h alive owner stands passes fields) peek e = part_whole None peek e
+waits_whole (awaited.makes_array c t r f alive owner stands repeats) peek e = part_whole None peek e
+waits_whole (awaited.fills cs c t r f h same alive stands repeats i) peek e = part_whole None peek e
+waits_whole (awaited.passes c done t ts r f h stands passes called) peek e = part_whole None peek e
+waits_whole (awaited.initialises cs c t f h within stands new number kind continues) peek e = (h, refl)
+waits_whole (awaited.chooses seen c d v f g h i tested first_stands second_stands one two j k) peek e = (i, refl)
+waits_whole (awaited.tests seen l v f h loop) peek e = (h, refl)
+waits_whole (awaited.returns t u f h result gives) peek e = (h, refl)
+waits_whole (awaited.frees_object k t f) peek e = part_whole None peek e
+waits_whole (awaited.closes_by_key r f) peek e = part_whole None peek e
+waits_whole (awaited.throws f h) peek e = (h, refl)
+waits_whole (awaited.opens_by cs c b r f h i within stands among number of_type hides set spared full less alive next continues again) peek e = (i, refl)
+waits_whole (awaited.aliases cs c b u t f h i within stands among number same hides set spared full unique known of_type alive next continues again) peek e = (i, refl)
 
 pub place_whole : {p : Program} {x : Exits} {q : Relied} {bs : List InScope} {a : AwaitingPlace} {o : Option ℕ} {t : RunTy} {l : Life} {f : flow.State} {next : Want} → WaitsPlace p x q bs a o t l f next → (peek : Option ℕ) → part_of_place a ≡ Whole peek → (h : flow.State) × (next ≡ Go h)
-place_whole (stacks.loads_from seen t r f alive by_type plain kind) peek e = part_whole None peek e
-place_whole (stacks.takes_address seen t l f common) peek e = part_whole None peek e
-place_whole (stacks.stores_to c v t r f h alive stands evaluates conv from to) peek e = part_whole None peek e
-place_whole (stacks.swaps_left c t r f h alive stands kind plain finds) peek e = (h, refl)
-place_whole (stacks.swaps_right through t r f alive kind) peek e = (f, refl)
+place_whole (awaited.loads_from seen t r f alive by_type plain kind) peek e = part_whole None peek e
+place_whole (awaited.takes_address seen t l f common) peek e = part_whole None peek e
+place_whole (awaited.stores_to c v t r f h alive stands evaluates conv from to) peek e = part_whole None peek e
+place_whole (awaited.swaps_left c t r f h alive stands kind plain finds) peek e = (h, refl)
+place_whole (awaited.swaps_right through t r f alive kind) peek e = (f, refl)
 
 pub goes_relied : (p : Program) (g : Typing) (x : Exits) (bs : List InScope) (next : Want) (k : List Entry) (q : Relied) → (h : flow.State) × (next ≡ Go h) → IsStack p g x bs next k → relied_at q k ≡ q
 goes_relied p g x bs next k q (h, same) is = statement_relied p g x bs h k q (subst (λ z. IsStack p g x bs z k) same is)

@@ -21,8 +21,8 @@ use Rattle.cyc_soundness.specs.inside.Worlds.{IsTyped, IsFull, IsEndOf, whole, b
 use Rattle.cyc_soundness.specs.inside.Frames.{IsAmong, first, later, Bound, InScope, Variable, Level, Home, lives_in, IsThere, home_of, IsHomed, IsScope, AreBelow, IsBound, AreVariables, IsLasting, AreLiveIn}
 use Rattle.cyc_soundness.specs.inside.Frames.{home_in, LiveIn, IsInner, Within, itself, older, IsSet, AreSet, IsFullIn, Holds, AreFullAt, Exits, life_named, local_type}
 use Rattle.cyc_soundness.specs.inside.Classes.{is_full, Relied}
-use Rattle.cyc_soundness.specs.inside.Stacks.{Want, Waits, IsCommonLife}
-use Rattle.cyc_soundness.specs.inside.Stacks as stacks
+use Rattle.cyc_soundness.specs.inside.Awaited.{Want, Waits, IsCommonLife}
+use Rattle.cyc_soundness.specs.inside.Awaited as awaited
 use Rattle.cyc_soundness.proofs.flow.FlowLemmas.{other_set, other_full, full_put, reached_with}
 use Rattle.cyc_soundness.proofs.types.ValueLemmas.{ends_through}
 use Rattle.cyc_soundness.proofs.types.RegionLemmas.{there_lasting, there_open}
@@ -337,38 +337,38 @@ found_is Closed h = absurd h
 found_is Missing h = absurd h
 
 pub waits_within : {p : Program} {x : Exits} {q : Relied} {bs cs : List InScope} {a : Awaiting} {ts : List RunTy} {r : RunValue} {f : flow.State} {next : Want} → Waits p x q bs a ts r f cs next → Within cs bs
-waits_within {bs = bs} (stacks.converts c v t f agrees keeps conv from to target) = itself bs
-waits_within {bs = bs} (stacks.negates f) = itself bs
-waits_within {bs = bs} (stacks.complements f) = itself bs
-waits_within {bs = bs} (stacks.widens f) = itself bs
-waits_within {bs = bs} (stacks.narrows f) = itself bs
-waits_within {bs = bs} (stacks.denies seen v f tested) = itself bs
-waits_within {bs = bs} (stacks.chains seen c v t f h stands computes chained) = itself bs
-waits_within {bs = bs} (stacks.applies f) = itself bs
-waits_within {bs = bs} (stacks.decides seen v f h tested i) = itself bs
-waits_within {bs = bs} (stacks.stores_local b t f among same spared) = itself bs
-waits_within {bs = bs} (stacks.stores_global number t f there same) = itself bs
-waits_within {bs = bs} (stacks.points also c t v w f stands op) = itself bs
-waits_within {bs = bs} (stacks.null_points also c v w f op) = itself bs
-waits_within {bs = bs} (stacks.stores_cell t r f alive) = itself bs
-waits_within {bs = bs} (stacks.follows seen v m t r f through kind target alive) = itself bs
-waits_within {bs = bs} (stacks.follows_member seen m n ls s t u r f kind struct fields field is alive) = itself bs
-waits_within {bs = bs} (stacks.indexes c t r f h stands evaluates target alive) = itself bs
-waits_within {bs = bs} (stacks.advances t r f target alive) = itself bs
-waits_within {bs = bs} (stacks.counts_elements seen t l f) = itself bs
-waits_within {bs = bs} (stacks.places_by c m t r f h stands makes alive) = itself bs
-waits_within {bs = bs} (stacks.beside_handle t f) = itself bs
-waits_within {bs = bs} (stacks.makes_plain t r f keyless alive owner kind) = itself bs
-waits_within {bs = bs} (stacks.makes_fields c done t ts n ls r f h alive owner stands passes fields) = itself bs
-waits_within {bs = bs} (stacks.makes_array c t r f alive owner stands repeats) = itself bs
-waits_within (stacks.fills {level = level} cs c t r f h same alive stands repeats i) = subst (λ z. Within cs z) (sym same) (older (Level level) cs cs tt (itself cs))
-waits_within {bs = bs} (stacks.passes c done t ts r f h stands passes called) = itself bs
-waits_within (stacks.initialises cs c t f h within stands new number kind continues) = within
-waits_within {bs = bs} (stacks.chooses seen c d v f g h i tested first_stands second_stands one two j k) = itself bs
-waits_within {bs = bs} (stacks.tests seen l v f h loop) = itself bs
-waits_within {bs = bs} (stacks.returns t u f h result gives) = itself bs
-waits_within {bs = bs} (stacks.frees_object k t f) = itself bs
-waits_within {bs = bs} (stacks.closes_by_key r f) = itself bs
-waits_within {bs = bs} (stacks.throws f h) = itself bs
-waits_within (stacks.opens_by cs c b r f h i within stands among number of_type hides set spared full less alive next continues again) = within
-waits_within (stacks.aliases cs c b u t f h i within stands among number same hides set spared full unique known of_type alive next continues again) = within
+waits_within {bs = bs} (awaited.converts c v t f agrees keeps conv from to target) = itself bs
+waits_within {bs = bs} (awaited.negates f) = itself bs
+waits_within {bs = bs} (awaited.complements f) = itself bs
+waits_within {bs = bs} (awaited.widens f) = itself bs
+waits_within {bs = bs} (awaited.narrows f) = itself bs
+waits_within {bs = bs} (awaited.denies seen v f tested) = itself bs
+waits_within {bs = bs} (awaited.chains seen c v t f h stands computes chained) = itself bs
+waits_within {bs = bs} (awaited.applies f) = itself bs
+waits_within {bs = bs} (awaited.decides seen v f h tested i) = itself bs
+waits_within {bs = bs} (awaited.stores_local b t f among same spared) = itself bs
+waits_within {bs = bs} (awaited.stores_global number t f there same) = itself bs
+waits_within {bs = bs} (awaited.points also c t v w f stands op) = itself bs
+waits_within {bs = bs} (awaited.null_points also c v w f op) = itself bs
+waits_within {bs = bs} (awaited.stores_cell t r f alive) = itself bs
+waits_within {bs = bs} (awaited.follows seen v m t r f through kind target alive) = itself bs
+waits_within {bs = bs} (awaited.follows_member seen m n ls s t u r f kind struct fields field is alive) = itself bs
+waits_within {bs = bs} (awaited.indexes c t r f h stands evaluates target alive) = itself bs
+waits_within {bs = bs} (awaited.advances t r f target alive) = itself bs
+waits_within {bs = bs} (awaited.counts_elements seen t l f) = itself bs
+waits_within {bs = bs} (awaited.places_by c m t r f h stands makes alive) = itself bs
+waits_within {bs = bs} (awaited.beside_handle t f) = itself bs
+waits_within {bs = bs} (awaited.makes_plain t r f keyless alive owner kind) = itself bs
+waits_within {bs = bs} (awaited.makes_fields c done t ts n ls r f h alive owner stands passes fields) = itself bs
+waits_within {bs = bs} (awaited.makes_array c t r f alive owner stands repeats) = itself bs
+waits_within (awaited.fills {level = level} cs c t r f h same alive stands repeats i) = subst (λ z. Within cs z) (sym same) (older (Level level) cs cs tt (itself cs))
+waits_within {bs = bs} (awaited.passes c done t ts r f h stands passes called) = itself bs
+waits_within (awaited.initialises cs c t f h within stands new number kind continues) = within
+waits_within {bs = bs} (awaited.chooses seen c d v f g h i tested first_stands second_stands one two j k) = itself bs
+waits_within {bs = bs} (awaited.tests seen l v f h loop) = itself bs
+waits_within {bs = bs} (awaited.returns t u f h result gives) = itself bs
+waits_within {bs = bs} (awaited.frees_object k t f) = itself bs
+waits_within {bs = bs} (awaited.closes_by_key r f) = itself bs
+waits_within {bs = bs} (awaited.throws f h) = itself bs
+waits_within (awaited.opens_by cs c b r f h i within stands among number of_type hides set spared full less alive next continues again) = within
+waits_within (awaited.aliases cs c b u t f h i within stands among number same hides set spared full unique known of_type alive next continues again) = within

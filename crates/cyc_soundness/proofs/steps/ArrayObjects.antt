@@ -36,8 +36,9 @@ use Rattle.cyc_soundness.specs.inside.Worlds.{KeyOf, PointerTo, Holder, Nobody, 
 use Rattle.cyc_soundness.specs.inside.Worlds.{AreKeyless, IsDynamic, ObjectType, Typing, Outlasts, IsFilled, IsTarget, HasType, IsResult, AreOperands, AreCells, IsObject, IsTyped, IsOpenLife, IsKnownOwner, life_at}
 use Rattle.cyc_soundness.specs.inside.Frames.{first, later, InScope, Level, HasMeaning, IsBound, AreVariables, LiveIn, Holds, Implies, Exits, IsContext, KnowsProgram, lives_in, read, IsThere, life_named, lives_among}
 use Rattle.cyc_soundness.specs.inside.Classes.{InInitial, InArguments}
-use Rattle.cyc_soundness.specs.inside.Stacks.{Val, turned, AreClaimed, operands_in, AreFields, Repeats, AreNext, IsWhole, IsMaking, IsArray, IsStack, IsFocus, IsWell, relied_at, AreGiven, AreNextGiven}
-use Rattle.cyc_soundness.specs.inside.Stacks as stacks
+use Rattle.cyc_soundness.specs.inside.Awaited.{Val, turned, AreClaimed, operands_in, AreFields, Repeats, IsArray, relied_at, AreGiven}
+use Rattle.cyc_soundness.specs.inside.Awaited as awaited
+use Rattle.cyc_soundness.specs.inside.Stacks.{AreNext, IsWhole, IsMaking, IsStack, IsFocus, IsWell, AreNextGiven}
 use Rattle.cyc_soundness.proofs.flow.FlowLemmas.{at_least_implies, holds_implied}
 use Rattle.cyc_soundness.proofs.types.TypeLemmas.{target_typed, is_kind_same, kind_read}
 use Rattle.cyc_soundness.proofs.types.ValueLemmas.{lasts_itself}
@@ -304,7 +305,7 @@ module _ (p : Program) (g : Typing) (x : Exits) (bs : List InScope) (e : Environ
               Pointer marks.Fat (read bs t) (lives_in bs r) ∷ [],
               bs,
               Val (Value (Pointer marks.Fat (read bs t) (lives_in bs r))) f,
-              stacks.fills bs c t r f repeats.now refl alive stands repeats repeats.back,
+              awaited.fills bs c t r f repeats.now refl alive stands repeats repeats.back,
               (below_when_not_equal index count (last (read bs t) (lives_in bs r) object count index array) other, array, has),
               stack,
             ),
@@ -444,13 +445,13 @@ module _ (p : Program) (g : Typing) (x : Exits) (bs : List InScope) (e : Environ
           [],
           bs,
           Val (Value (read bs t)) f1,
-          stacks.converts c v t f1 (agrees_of p x bs c stands) (keeps_by g bs variables c.regions stands.regions) conv from_is to_is (target_typed c a v (inl well)),
+          awaited.converts c v t f1 (agrees_of p x bs c stands) (keeps_by g bs variables c.regions stands.regions) conv from_is to_is (target_typed c a v (inl well)),
           tt,
           (
             done,
             bs,
             Val (Value (Pointer marks.NonNull (Struct n ls) (lives_in bs r))) h,
-            stacks.makes_fields c done t ts n ls r f1 h alive owned stands (record { waiting = q; typed = passed; flows = ds; kept = kept }) fields,
+            awaited.makes_fields c done t ts n ls r f1 h alive owned stands (record { waiting = q; typed = passed; flows = ds; kept = kept }) fields,
             keeps_fields g (operands_in k) owner before as' done operands claims,
             stack,
           ),
@@ -472,7 +473,7 @@ module _ (p : Program) (g : Typing) (x : Exits) (bs : List InScope) (e : Environ
           [],
           bs,
           Val (Value (Pointer marks.NonNull (read bs t) (lives_in bs r))) h,
-          stacks.makes_plain t r h (plain_keyless (lives_in bs) t keyless) alive owned kind_is,
+          awaited.makes_plain t r h (plain_keyless (lives_in bs) t keyless) alive owned kind_is,
           tt,
           subst (λ z. IsStack p g x bs (Val (Value (Pointer z (read bs t) (lives_in bs r))) h) k) mark stack,
         ),
@@ -508,7 +509,7 @@ module _ (p : Program) (g : Typing) (x : Exits) (bs : List InScope) (e : Environ
           [],
           bs,
           Val (Value (Pointer marks.Fat (read bs t) (lives_in bs r))) f1,
-          stacks.makes_array c t r f1 alive owned stands repeats,
+          awaited.makes_array c t r f1 alive owned stands repeats,
           tt,
           subst (λ z. IsStack p g x bs (Val (Value (Pointer marks.Fat (read bs t) (lives_in bs r))) z) k) known (subst (λ z. IsStack p g x bs (Val (Value (Pointer z (read bs t) (lives_in bs r))) h) k) mark stack),
         ),

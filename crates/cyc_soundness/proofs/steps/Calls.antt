@@ -31,7 +31,9 @@ use Rattle.cyc_soundness.specs.inside.Lives as lives
 use Rattle.cyc_soundness.specs.inside.Worlds.{Hand, IsHere, lent_now, IsOpenIn, Stays, Typing, IsKnownLife, HasType, AreOperands, IsTyped, Grows, KeyOf, PointerTo}
 use Rattle.cyc_soundness.specs.inside.Frames.{InScope, Variable, Names, Instance, Home, lives_in, read, IsScope, AreBelow, IsBound, AreVariables, IsLasting, LiveIn, Within, itself, older, AreSet, Holds, Implies, Exits, HasResult, loop_of, around, AreBreaks, Stand, IsHome, IsContext, KnowsProgram}
 use Rattle.cyc_soundness.specs.inside.Classes.{InItems, InClauses}
-use Rattle.cyc_soundness.specs.inside.Stacks.{regions_at_call, IsInstance, Continues, Catches, IsAccepted, Val, Go, turned, operands_in, AreClaimed, AreGiven, IsCalled, IsBlocked, AreFull, AreOwn, IsBody, IsStack, IsWell}
+use Rattle.cyc_soundness.specs.inside.Judgements.{Continues, Catches, IsAccepted}
+use Rattle.cyc_soundness.specs.inside.Awaited.{regions_at_call, IsInstance, Val, Go, turned, operands_in, AreClaimed, AreGiven, IsCalled}
+use Rattle.cyc_soundness.specs.inside.Stacks.{IsBlocked, AreFull, AreOwn, IsBody, IsStack, IsWell}
 use Rattle.cyc_soundness.proofs.types.TypeLemmas.{is_kind_same, kind_meant}
 use Rattle.cyc_soundness.proofs.flow.FlowLemmas.{implies_self, implies_after, meet_second, each_full_implies}
 use Rattle.cyc_soundness.proofs.flow.RuleLemmas.{breaks_clauses, clauses_implied}

@@ -34,8 +34,11 @@ use Rattle.cyc_soundness.specs.inside.Lives.{Life, OfRegion, Value}
 use Rattle.cyc_soundness.specs.inside.Worlds.{IsNumber, Typing, lent_now, IsTyped}
 use Rattle.cyc_soundness.specs.inside.Frames.{InScope, Names, Home, life_named, lives_in, read, read_value, IsBound, AreVariables, LiveIn, Within, itself, older, IsSet, Holds, Implies, LoopExit, Exits, loop_of, around, lending, relying, AreBreaks, is_loop, IsContext, KnowsProgram, IsFullIn}
 use Rattle.cyc_soundness.specs.inside.Classes.{IsDeclarable, InStatement, InItems, InValue, InThrown, may_end}
-use Rattle.cyc_soundness.specs.inside.Stacks.{Evaluates, Executes, Continues, Catches, IsLoop, Val, Go, operands_in, IsReturn, IsStack, IsFocus, IsWell}
-use Rattle.cyc_soundness.specs.inside.Stacks as stacks
+use Rattle.cyc_soundness.specs.inside.Judgements.{Evaluates, Executes, Continues, Catches}
+use Rattle.cyc_soundness.specs.inside.Judgements as judgements
+use Rattle.cyc_soundness.specs.inside.Awaited.{IsLoop, Val, Go, operands_in}
+use Rattle.cyc_soundness.specs.inside.Awaited as awaited
+use Rattle.cyc_soundness.specs.inside.Stacks.{IsReturn, IsStack, IsFocus, IsWell}
 use Rattle.cyc_soundness.proofs.types.TypeLemmas.{target_typed, kind_read, kind_meant}
 use Rattle.cyc_soundness.proofs.flow.FlowLemmas.{used_full, implies_self, implies_after, meet_first, meet_second, at_least_implies, emptied_implied, holds_implied, full_last}
 use Rattle.cyc_soundness.proofs.flow.RuleLemmas.{breaks_statement, breaks_items, breaks_clauses, clauses_implied, nothing_locked}
@@ -44,7 +47,7 @@ use Rattle.cyc_soundness.proofs.types.RegionLemmas.{opened_known, live_more, sam
 use Rattle.cyc_soundness.proofs.states.WorldLemmas.{opened_typed}
 use Rattle.cyc_soundness.proofs.types.Sharing.{keeps_by}
 use Rattle.cyc_soundness.proofs.states.Cells.{running}
-use Rattle.cyc_soundness.proofs.steps.Evaluation.{looks_bound, unique_moved}
+use Rattle.cyc_soundness.proofs.steps.Variables.{looks_bound, unique_moved}
 use Rattle.cyc_soundness.proofs.steps.Loans.{local_type_known, keys_on}
 use Rattle.cyc_guard.specs.inside.Held.{nowhere, updated}
 use Rattle.cyc_guard.proofs.Bools.{updated_same}
@@ -132,7 +135,7 @@ module _ (p : Program) (g : Typing) (x : Exits) (bs : List InScope) (e : Environ
         stands,
         holds,
         record { waiting = []; typed = inl well; flows = flows; kept = kept },
-        ([], bs, Val (Value (read bs t)) h, stacks.converts c s t h (agrees_of p x bs c stands) (keeps_by g bs variables c.regions stands.regions) conv from_is to_is (target_typed c a s (inl well)), tt, ([], bs, Go Unreached, stacks.returns t (read bs t) h Unreached (sym result) (ap (λ o. read_value bs (result_type o)) same ∙ stands.gives), tt, stack)),
+        ([], bs, Val (Value (read bs t)) h, awaited.converts c s t h (agrees_of p x bs c stands) (keeps_by g bs variables c.regions stands.regions) conv from_is to_is (target_typed c a s (inl well)), tt, ([], bs, Go Unreached, awaited.returns t (read bs t) h Unreached (sym result) (ap (λ o. read_value bs (result_type o)) same ∙ stands.gives), tt, stack)),
       )
 
   break_on : (k : List Entry) (c : Context) (f h before behind' : flow.State) (o : Option LoopExit) → x.loop ≡ o → is_loop o ≡ true → LiveIn k bs → Holds g f bs → behind' ≡ meet before (with_each Full x.locks f)
@@ -158,7 +161,7 @@ module _ (p : Program) (g : Typing) (x : Exits) (bs : List InScope) (e : Environ
         stands,
         holds,
         record { waiting = []; typed = inl well; flows = flows; kept = kept },
-        ([], bs, Go i, stacks.throws h i, tt, stack),
+        ([], bs, Go i, awaited.throws h i, tt, stack),
       )
   thrown false tag a k c f h i live stands holds well flows kept stack = absurd well
 
@@ -244,7 +247,7 @@ module _ (p : Program) (g : Typing) (x : Exits) (bs : List InScope) (e : Environ
           [],
           bs,
           Go h,
-          stacks.chooses (stacks.seen_by a well) c (behind c s) v f1 l.now m.now h tested stands (context_after p x bs c s stands) one two
+          awaited.chooses (judgements.seen_by a well) c (behind c s) v f1 l.now m.now h tested stands (context_after p x bs c s stands) one two
               (subst (λ z. Implies l.now z) (sym now) (meet_first l.now m.now)) (subst (λ z. Implies m.now z) (sym now) (meet_second l.now m.now)),
           tt,
           stack,
@@ -265,7 +268,7 @@ module _ (p : Program) (g : Typing) (x : Exits) (bs : List InScope) (e : Environ
         fails = subst (λ z. Implies f1 z) (sym now) (meet_first f1 l.breaks);
         left = subst (λ z. Implies l.breaks z) (sym now) (meet_second f1 l.breaks);
       } in
-      on (Evaluating a) (Needs (Test a s) ∷ k) live (c, v, f, f1, stands, holds, first, ([], bs, Go h, stacks.tests (stacks.seen_by a well) exit v f1 h loop, tt, stack))
+      on (Evaluating a) (Needs (Test a s) ∷ k) live (c, v, f, f1, stands, holds, first, ([], bs, Go h, awaited.tests (judgements.seen_by a well) exit v f1 h loop, tt, stack))
   execute (typed.Return None) k c f h before behind' live stands holds is (f1, d, (u, known)) are kept stack =
       on (Returning None) k live (h, return_none (operands_in k) x.result c (subst (λ r. IsReturned c r None) stands.result is), stack)
   execute (typed.Return (Some (Convert from to a))) k c f h before behind' live stands holds is (f1, d, (u, known)) are kept stack =
@@ -361,9 +364,9 @@ module _ (p : Program) (g : Typing) (x : Exits) (bs : List InScope) (e : Environ
           [],
           bs,
           Val (Value (read bs t)) f1,
-          stacks.converts c s t f1 (agrees_of p x bs c stands) (keeps_by g bs variables c.regions stands.regions) conv from_is to_is (target_typed c a s (inl well)),
+          awaited.converts c s t f1 (agrees_of p x bs c stands) (keeps_by g bs variables c.regions stands.regions) conv from_is to_is (target_typed c a s (inl well)),
           tt,
-          ([], cs, Go h, stacks.initialises cs c t f1 h within stands (named, alive) number (sym (kind_meant (lives_in bs) t) ∙ kind_read (lives_in bs) t) rest, tt, stack),
+          ([], cs, Go h, awaited.initialises cs c t f1 h within stands (named, alive) number (sym (kind_meant (lives_in bs) t) ∙ kind_read (lives_in bs) t) rest, tt, stack),
         ),
       )
   continue_with (MoreItems (DeclareRegion r n) js) k cs c f h before behind' ending nests live within stands holds ((region, less), (number, has, alive), wjs) (l, (u, known), djs') are kjs ends stack =
@@ -416,7 +419,7 @@ module _ (p : Program) (g : Typing) (x : Exits) (bs : List InScope) (e : Environ
         [],
         cs,
         Go h,
-        stacks.opens_by cs c b r f (with_each Full (locks_of js) ending) h within stands bound_among number_of of_type hides set spared (used_full f key demands.0 demands.1.0) (local_type_known c key t home stands.known has) alive number rest (again key js ending h ends),
+        awaited.opens_by cs c b r f (with_each Full (locks_of js) ending) h within stands bound_among number_of of_type hides set spared (used_full f key demands.0 demands.1.0) (local_type_known c key t home stands.known has) alive number rest (again key js ending h ends),
         tt,
         stack,
       )
@@ -440,7 +443,7 @@ module _ (p : Program) (g : Typing) (x : Exits) (bs : List InScope) (e : Environ
         [],
         cs,
         Go h,
-        stacks.aliases cs c b v t f (with_each Full (locks_of js) ending) h within stands bound_among number_of of_bound hides set spared full unique (local_type_known c source v home stands.known has)
+        awaited.aliases cs c b v t f (with_each Full (locks_of js) ending) h within stands bound_among number_of of_bound hides set spared full unique (local_type_known c source v home stands.known has)
             (of_type ∙ ap (λ i. with_region_of (regions.Variable i) v) region) alive number rest (again source js ending h ends),
         tt,
         stack,

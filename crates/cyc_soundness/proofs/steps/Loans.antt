@@ -34,7 +34,9 @@ use Rattle.cyc_soundness.specs.inside.Worlds.{OfLocal, Thing, KeyOf, PointerTo, 
 use Rattle.cyc_soundness.specs.inside.Worlds.{IsFull, Typing, IsKnownLife, IsNumber, IsKeyOf, HasType, IsResult, IsTyped, IsDynamic, IsKnownOwner, Settled, Holder, lent_now, IsTarget, ObjectType, Outlasts, alike, life_at, Away, Here}
 use Rattle.cyc_soundness.specs.inside.Classes.{IsSpared, IsDeclarable}
 use Rattle.cyc_soundness.specs.inside.Frames.{IsAmong, first, later, Bound, InScope, Variable, Names, life_named, lives_in, read, IsBound, AreVariables, IsLasting, LiveIn, Within, older, IsFullIn, Holds, Implies, Exits, lending, AreKnownLocals, AreKnown, IsContext, KnowsProgram, local_type}
-use Rattle.cyc_soundness.specs.inside.Stacks.{operands_in, Continues, Go, IsStack, IsWell, IsCommonLife}
+use Rattle.cyc_soundness.specs.inside.Judgements.{Continues}
+use Rattle.cyc_soundness.specs.inside.Awaited.{operands_in, Go, IsCommonLife}
+use Rattle.cyc_soundness.specs.inside.Stacks.{IsStack, IsWell}
 use Rattle.cyc_soundness.proofs.types.TypeLemmas.{all_in_weaker, read_alike}
 use Rattle.cyc_soundness.proofs.flow.FlowLemmas.{full_set, reached_with}
 use Rattle.cyc_soundness.proofs.types.RegionLemmas.{name_known, same_name, known_other, other_life, region_owner}

@@ -14,7 +14,8 @@ use Rattle.cyc_meaning.specs.Allocation.{blanks_of, blanks}
 use Rattle.cyc_soundness.specs.inside.Lives.{at, Life, OfRegion, Kept, RunTy, Int, Char, Pointer, Handle, Key, Struct, Value, Owned, Lives}
 use Rattle.cyc_soundness.specs.inside.Worlds.{NoLocal, Thing, PointerTo, Holder, Nobody, Hand, At, Lent, pointer_at, Owns, Claims, giving, AreOwned, IsUniqueObject, IsOpenObject, IsNewOwner, IsHeld}
 use Rattle.cyc_soundness.specs.inside.Worlds.{AreKeyless, ObjectType, Typing, IsFilled, IsPart, HasType, IsResult, AreOperands, AreCells, IsOwner, IsTyped, IsOpenLife, Grows}
-use Rattle.cyc_soundness.specs.inside.Stacks.{turned, AreClaimed, AreNext, IsWhole, AreGiven, AreNextGiven}
+use Rattle.cyc_soundness.specs.inside.Awaited.{turned, AreClaimed, AreGiven}
+use Rattle.cyc_soundness.specs.inside.Stacks.{AreNext, IsWhole, AreNextGiven}
 use Rattle.cyc_soundness.proofs.states.WorldLemmas.{operands_grown}
 use Rattle.cyc_soundness.proofs.states.Hands.{Changed, hand_same, claims_kept}
 use Rattle.cyc_soundness.proofs.states.StillHands.{pointed_typed}

@@ -39,8 +39,10 @@ use Rattle.cyc_soundness.specs.inside.Lives as lives
 use Rattle.cyc_soundness.specs.inside.Worlds.{ObjectType, Typing, IsFilled, IsPart, IsTarget, HasType, IsResult, Fits, AreCells, IsObject, IsTyped}
 use Rattle.cyc_soundness.specs.inside.Frames.{InScope, IsBound, AreVariables, LiveIn, lives_among, Holds, Exits, IsContext, KnowsProgram, lives_in, read, read_value, IsThere}
 use Rattle.cyc_soundness.specs.inside.Classes.{and_looked, InExpression, InPlace}
-use Rattle.cyc_soundness.specs.inside.Stacks.{IsThrough, seen_by, EvaluatesWhole, relied_at, Val, PlaceOf, WaitsPlace, of_cell, left_cell, KeepsPlace, IsStack, IsFocus, IsWell}
-use Rattle.cyc_soundness.specs.inside.Stacks as stacks
+use Rattle.cyc_soundness.specs.inside.Judgements.{seen_by, EvaluatesWhole}
+use Rattle.cyc_soundness.specs.inside.Awaited.{IsThrough, relied_at, Val, PlaceOf, WaitsPlace, of_cell, left_cell, KeepsPlace}
+use Rattle.cyc_soundness.specs.inside.Awaited as awaited
+use Rattle.cyc_soundness.specs.inside.Stacks.{IsStack, IsFocus, IsWell}
 use Rattle.cyc_soundness.proofs.types.TypeLemmas.{target_typed, is_kind_same, mark_kinds, kind_meant}
 use Rattle.cyc_soundness.proofs.states.WorldLemmas.{result_grown, typed_cell}
 use Rattle.cyc_soundness.proofs.states.Hands.{at_no_hand, holds_kept, variables_kept}
@@ -258,14 +260,14 @@ module _ (p : Program) (g : Typing) (x : Exits) (bs : List InScope) (e : Environ
   on focus k live stands = running p g x bs e w typed globals bound variables focus k live stands
 
   -- what was computed
-  pub gives_by : (k : List Entry) (kind : Kind) (t : RunTy) (f : flow.State) (r : Result) → LiveIn k bs → Holds g f bs → kind ≡ kind_at t → Fits g t r → ((v : values.Value) → r ≡ Gives v → Claims g.own (Hand (stacks.operands_in k)) t v)
+  pub gives_by : (k : List Entry) (kind : Kind) (t : RunTy) (f : flow.State) (r : Result) → LiveIn k bs → Holds g f bs → kind ≡ kind_at t → Fits g t r → ((v : values.Value) → r ≡ Gives v → Claims g.own (Hand (awaited.operands_in k)) t v)
       → IsStack p g x bs (Val (Value t) f) k → IsWell p (computed kind r k e w)
   gives_by k kind t f (Gives v) live holds same fits comes stack = on (Given (record { kind = kind; value = v })) k live (Value t, f, holds, (same, fits), comes v refl, stack)
   gives_by k kind t f (Raises tag) live holds same fits comes stack = on (Throwing tag 0) k live (Val (Value t) f, stack)
   gives_by k kind t f Misfits live holds same fits comes stack = absurd fits
 
   -- a pointer into what is looked at, or in hand
-  gives_into : (k : List Entry) (peek : Option ℕ) (kind : Kind) (t : RunTy) (f : flow.State) (r : Result) → LiveIn k bs → Holds g f bs → kind ≡ kind_at t → Fits g t r → ((v : values.Value) → r ≡ Gives v → ClaimsPart g (stacks.operands_in k) peek (thing_of t v))
+  gives_into : (k : List Entry) (peek : Option ℕ) (kind : Kind) (t : RunTy) (f : flow.State) (r : Result) → LiveIn k bs → Holds g f bs → kind ≡ kind_at t → Fits g t r → ((v : values.Value) → r ≡ Gives v → ClaimsPart g (awaited.operands_in k) peek (thing_of t v))
       → IsStack p g x bs (Val (lives.Into peek t) f) k → IsWell p (computed kind r k e w)
   gives_into k peek kind t f (Gives v) live holds same fits comes stack = on (Given (record { kind = kind; value = v })) k live (lives.Into peek t, f, holds, (same, fits), comes v refl, stack)
   gives_into k peek kind t f (Raises tag) live holds same fits comes stack = on (Throwing tag 0) k live (Val (lives.Into peek t) f, stack)
@@ -274,7 +276,7 @@ module _ (p : Program) (g : Typing) (x : Exits) (bs : List InScope) (e : Environ
   -- where it is nothing that only one may have
   pub gives : (k : List Entry) (kind : Kind) (t : RunTy) (f : flow.State) (r : Result) → LiveIn k bs → Holds g f bs → IsPlain t → kind ≡ kind_at t → Fits g t r → IsStack p g x bs (Val (Value t) f) k
       → IsWell p (computed kind r k e w)
-  gives k kind t f r live holds plain same fits stack = gives_by k kind t f r live holds same fits (λ v given. plain_claims g.own (Hand (stacks.operands_in k)) t v plain) stack
+  gives k kind t f r live holds plain same fits stack = gives_by k kind t f r live holds same fits (λ v given. plain_claims g.own (Hand (awaited.operands_in k)) t v plain) stack
 
   -- ---- a place is found
 
@@ -293,7 +295,7 @@ module _ (p : Program) (g : Typing) (x : Exits) (bs : List InScope) (e : Environ
           [],
           bs,
           PlaceOf (peek_of a) (read bs u) (lives_in bs r) h,
-          stacks.follows (peek_of a) (looked (seen_by a well) (Value (lives.Pointer m (read bs u) (lives_in bs r)))) m u r h
+          awaited.follows (peek_of a) (looked (seen_by a well) (Value (lives.Pointer m (read bs u) (lives_in bs r)))) m u r h
               (inl (ap (λ o. looked o (Value (lives.Pointer m (read bs u) (lives_in bs r)))) (seen_so c a (types.Value (types.Pointer m u r)) well))) kind refl (there_of p x bs c stands r alive),
           tt,
           subst (λ z. IsStack p g x bs (PlaceOf (peek_of a) (read bs z) (lives_in bs r) h) k) same stack,
@@ -316,7 +318,7 @@ module _ (p : Program) (g : Typing) (x : Exits) (bs : List InScope) (e : Environ
           [],
           bs,
           PlaceOf (peek_of a) (read bs (substituted_ty rs v)) (lives_in bs r) h,
-          stacks.follows_member (peek_of a) m n ls s v (read bs (substituted_ty rs v)) r h kind struct refl there means (there_of p x bs c stands r alive),
+          awaited.follows_member (peek_of a) m n ls s v (read bs (substituted_ty rs v)) r h kind struct refl there means (there_of p x bs c stands r alive),
           tt,
           subst (λ z. IsStack p g x bs (PlaceOf (peek_of a) (read bs z) (lives_in bs r) h) k) (same ∙ of) stack,
         ),
@@ -335,7 +337,7 @@ module _ (p : Program) (g : Typing) (x : Exits) (bs : List InScope) (e : Environ
               [],
               bs,
               PlaceOf (peeked (Element a i u)) (read bs u) (lives_in bs r) h,
-              stacks.indexes c u r f1 h stands (λ reached. (
+              awaited.indexes c u r f1 h stands (λ reached. (
                 record {
                   waiting = and_peeked (peek_of a) q;
                   typed = inl index;
@@ -349,7 +351,7 @@ module _ (p : Program) (g : Typing) (x : Exits) (bs : List InScope) (e : Environ
             ),
       )
 
-  arrived : (peek : Option ℕ) (m : PointerKind) (t : RunTy) (l : Life) (v : values.Value) (k : List Entry) (f : flow.State) → LiveIn k bs → Holds g f bs → HasType g (lives.Pointer m t l) v → ClaimsPart g (stacks.operands_in k) peek (thing_of (lives.Pointer m t l) v)
+  arrived : (peek : Option ℕ) (m : PointerKind) (t : RunTy) (l : Life) (v : values.Value) (k : List Entry) (f : flow.State) → LiveIn k bs → Holds g f bs → HasType g (lives.Pointer m t l) v → ClaimsPart g (awaited.operands_in k) peek (thing_of (lives.Pointer m t l) v)
       → IsStack p g x bs (PlaceOf peek t l f) k → IsWell p (arrives (followed v) k e w)
   arrived peek marks.Nullable t l values.Null k f live holds has part stack = on (Throwing null_exception 0) k live (PlaceOf peek t l f, stack)
   arrived peek marks.Nullable t l (values.Thin object offset) k f live holds has part stack = on (GivenPlace (values.Thin object offset)) k live (peek, t, l, f, holds, has, part, stack)
@@ -363,10 +365,10 @@ module _ (p : Program) (g : Typing) (x : Exits) (bs : List InScope) (e : Environ
   arrived peek m t l v k f live holds has part stack = absurd has
 
   pub follow_on : (peek : Option ℕ) (r : RunValue) (m : PointerKind) (pk : Kind) (target : Option Kind) (t : Ty) (l : Life) (v : Operand) (k : List Entry) (f : flow.State) → LiveIn k bs → Holds g f bs → IsThrough peek (lives.Pointer m (read bs t) l) r → pk ≡ tests.kind_of_mark m → target ≡ target_of t
-      → IsResult g r v → ClaimsBy g (stacks.operands_in k) r v.value → IsStack p g x bs (PlaceOf peek (read bs t) l f) k → IsWell p (follows pk target v k e w)
+      → IsResult g r v → ClaimsBy g (awaited.operands_in k) r v.value → IsStack p g x bs (PlaceOf peek (read bs t) l f) k → IsWell p (follows pk target v k e w)
   follow_on peek r m pk target t l v k f live holds through kind same is' comes stack =
       let is = through_result g peek (lives.Pointer m (read bs t) l) r v through is' in
-      let part = through_part g (stacks.operands_in k) peek (lives.Pointer m (read bs t) l) r v.value through comes in
+      let part = through_part g (awaited.operands_in k) peek (lives.Pointer m (read bs t) l) r v.value through comes in
       let leads_so : leads_to w target (followed v.value) ≡ true = ap (λ z. leads_to w z (followed v.value)) same ∙ leads_there g w typed (lives_in bs) m t l v.value is.1 in
       subst (λ (b : Bool). IsWell p (if b then arrives (followed v.value) k e w else wrong w))
       (sym (and_from (is_kind v.kind pk) (leads_to w target (followed v.value)) (is_kind_same v.kind pk (is.0 ∙ mark_kinds m ∙ sym kind)) leads_so))
@@ -377,7 +379,7 @@ module _ (p : Program) (g : Typing) (x : Exits) (bs : List InScope) (e : Environ
   -- the field of an object that is a struct
   field_found : (n : ℕ) (ls : List Life) (s : StructType) (t : Ty) (u : RunTy) (l : Life) (field object offset : ℕ) (peek : Option ℕ) (k : List Entry) (f : flow.State) → LiveIn k bs → Holds g f bs
       → slice_get p.structs n ≡ Some s → slice_get s.fields field ≡ Some t → (length ls ≡ s.parameters → at (lives_among ls) t ≡ u) → IsTarget g (lives.Struct n ls) l object offset
-      → ClaimsPart g (stacks.operands_in k) peek (pointer_at l object) → IsStack p g x bs (PlaceOf peek u l f) k → IsWell p (arrives (member_of w (At object offset) (map values.kind_of s.fields) field) k e w)
+      → ClaimsPart g (awaited.operands_in k) peek (pointer_at l object) → IsStack p g x bs (PlaceOf peek u l f) k → IsWell p (arrives (member_of w (At object offset) (map values.kind_of s.fields) field) k e w)
   field_found n ls s t u l field object offset peek k f live holds struct there means (y, at', shown, outlasts, (first, fields, (m, flag, full))) claims stack =
       let (z, count, stands, filled, is) = typed.each object y at' in
       let enough : length ls ≡ s.parameters = globals.counts n s ls y.cells struct fields in
@@ -394,7 +396,7 @@ module _ (p : Program) (g : Typing) (x : Exits) (bs : List InScope) (e : Environ
 
   members : (peek : Option ℕ) (m : PointerKind) (n : ℕ) (ls : List Life) (s : StructType) (t : Ty) (u : RunTy) (l : Life) (field : ℕ) (v : values.Value) (k : List Entry) (f : flow.State) → LiveIn k bs
       → Holds g f bs → slice_get p.structs n ≡ Some s → slice_get s.fields field ≡ Some t → (length ls ≡ s.parameters → at (lives_among ls) t ≡ u)
-      → HasType g (lives.Pointer m (lives.Struct n ls) l) v → ClaimsPart g (stacks.operands_in k) peek (thing_of (lives.Pointer m (lives.Struct n ls) l) v) → IsStack p g x bs (PlaceOf peek u l f) k → IsWell p (arrives (member_of w (followed v) (map values.kind_of s.fields) field) k e w)
+      → HasType g (lives.Pointer m (lives.Struct n ls) l) v → ClaimsPart g (awaited.operands_in k) peek (thing_of (lives.Pointer m (lives.Struct n ls) l) v) → IsStack p g x bs (PlaceOf peek u l f) k → IsWell p (arrives (member_of w (followed v) (map values.kind_of s.fields) field) k e w)
   members peek marks.Nullable n ls s t u l field values.Null k f live holds struct there means has part stack = on (Throwing null_exception 0) k live (PlaceOf peek u l f, stack)
   members peek marks.Nullable n ls s t u l field (values.Thin object offset) k f live holds struct there means has part stack =
       field_found n ls s t u l field object offset peek k f live holds struct there means has part stack
@@ -410,19 +412,19 @@ module _ (p : Program) (g : Typing) (x : Exits) (bs : List InScope) (e : Environ
 
   pub member_on : (peek : Option ℕ) (m : PointerKind) (pk : Kind) (fields : List Kind) (n : ℕ) (ls : List Life) (s : StructType) (t : Ty) (u : RunTy) (l : Life) (field : ℕ) (v : Operand) (k : List Entry) (f : flow.State)
       → LiveIn k bs → Holds g f bs → pk ≡ tests.kind_of_mark m → fields ≡ map values.kind_of s.fields → slice_get p.structs n ≡ Some s → slice_get s.fields field ≡ Some t
-      → (length ls ≡ s.parameters → at (lives_among ls) t ≡ u) → IsResult g (looked peek (Value (lives.Pointer m (lives.Struct n ls) l))) v → ClaimsBy g (stacks.operands_in k) (looked peek (Value (lives.Pointer m (lives.Struct n ls) l))) v.value
+      → (length ls ≡ s.parameters → at (lives_among ls) t ≡ u) → IsResult g (looked peek (Value (lives.Pointer m (lives.Struct n ls) l))) v → ClaimsBy g (awaited.operands_in k) (looked peek (Value (lives.Pointer m (lives.Struct n ls) l))) v.value
       → IsStack p g x bs (PlaceOf peek u l f) k → IsWell p (follows_member pk fields field v k e w)
   member_on peek m pk fields n ls s t u l field v k f live holds kind fields_are struct there means is' comes stack =
       let is = looked_result g peek (Value (lives.Pointer m (lives.Struct n ls) l)) v is' in
       subst (λ ks. IsWell p (follows_member pk ks field v k e w)) (sym fields_are)
       (subst (λ (b : Bool). IsWell p (if b then arrives (member_of w (followed v.value) (map values.kind_of s.fields) field) k e w else wrong w)) (sym (is_kind_same v.kind pk (is.0 ∙ mark_kinds m ∙ sym kind)))
-      (members peek m n ls s t u l field v.value k f live holds struct there means is.1 (looked_part g (stacks.operands_in k) peek (lives.Pointer m (lives.Struct n ls) l) v.value comes) stack))
+      (members peek m n ls s t u l field v.value k f live holds struct there means is.1 (looked_part g (awaited.operands_in k) peek (lives.Pointer m (lives.Struct n ls) l) v.value comes) stack))
 
   -- ---- elements
 
   pub index_on : (peek : Option ℕ) (target : Option Kind) (index : Expression) (c : Context) (t : Ty) (r : Named) (base : Operand) (k : List Entry) (f h : flow.State) → LiveIn k bs → Holds g f bs → IsContext p x bs c
       → (is_reached f ≡ true → EvaluatesWhole (and_looked peek (relied_at x.relied k)) c index f (types.Value types.Int) h) → target ≡ target_of t → IsThere bs r → IsResult g (looked peek (Value (lives.Pointer marks.Fat (read bs t) (lives_in bs r)))) base
-      → ClaimsBy g (stacks.operands_in k) (looked peek (Value (lives.Pointer marks.Fat (read bs t) (lives_in bs r)))) base.value → IsStack p g x bs (PlaceOf peek (read bs t) (lives_in bs r) h) k → IsWell p (indexes peek target index base k e w)
+      → ClaimsBy g (awaited.operands_in k) (looked peek (Value (lives.Pointer marks.Fat (read bs t) (lives_in bs r)))) base.value → IsStack p g x bs (PlaceOf peek (read bs t) (lives_in bs r) h) k → IsWell p (indexes peek target index base k e w)
   index_on peek target index c t r base k f h live holds stands evaluates same alive is' comes stack =
       let u = lives.Pointer marks.Fat (read bs t) (lives_in bs r) in
       let is = looked_result g peek (Value u) base is' in
@@ -437,17 +439,17 @@ module _ (p : Program) (g : Typing) (x : Exits) (bs : List InScope) (e : Environ
         holds,
         now,
         subst (λ o. IsStack p g x bs (Val (looked o (Value lives.Int)) h) (Needs (Advance peek target base) ∷ k)) (sym whole)
-            (u ∷ [], bs, PlaceOf peek (read bs t) (lives_in bs r) h, stacks.advances t r h same alive, ((is, tt), looked_part g (stacks.operands_in k) peek u base.value comes), stack),
+            (u ∷ [], bs, PlaceOf peek (read bs t) (lives_in bs r) h, awaited.advances t r h same alive, ((is, tt), looked_part g (awaited.operands_in k) peek u base.value comes), stack),
       ))
 
   pub advance_on : (peek : Option ℕ) (t : Ty) (r : Named) (target : Option Kind) (base index : Operand) (k : List Entry) (f : flow.State) → LiveIn k bs → Holds g f bs → target ≡ target_of t → IsThere bs r → IsResult g (Value (lives.Pointer marks.Fat (read bs t) (lives_in bs r))) base
-      → ClaimsPart g (stacks.operands_in k) peek (thing_of (lives.Pointer marks.Fat (read bs t) (lives_in bs r)) base.value) → IsResult g (Value lives.Int) index → IsStack p g x bs (PlaceOf peek (read bs t) (lives_in bs r) f) k → IsWell p (advances target base index k e w)
+      → ClaimsPart g (awaited.operands_in k) peek (thing_of (lives.Pointer marks.Fat (read bs t) (lives_in bs r)) base.value) → IsResult g (Value lives.Int) index → IsStack p g x bs (PlaceOf peek (read bs t) (lives_in bs r) f) k → IsWell p (advances target base index k e w)
   advance_on peek t r target base index k f live holds same alive is part int stack =
       let u = lives.Pointer marks.Fat (read bs t) (lives_in bs r) in
-      let under : stacks.operands_in k ≡ 0 + stacks.operands_in k = omega arith in
+      let under : awaited.operands_in k ≡ 0 + awaited.operands_in k = omega arith in
       gives_into (Needs (Follow kinds.Fat target) ∷ k) peek kinds.Fat u f (pointer_result operators.AddFat base.value index.value) live holds refl (added g (read bs t) (lives_in bs r) base.value index.value is.1 int.1)
-      (λ v given. subst (λ o. ClaimsPart g (0 + stacks.operands_in k) peek o) (sym (added_thing (read bs t) (lives_in bs r) base.value index.value v given)) (subst (λ i. ClaimsPart g i peek (thing_of u base.value)) under part))
-      ([], bs, PlaceOf peek (read bs t) (lives_in bs r) f, stacks.follows peek (lives.Into peek u) marks.Fat t r f (inr refl) refl same alive, tt, stack)
+      (λ v given. subst (λ o. ClaimsPart g (0 + awaited.operands_in k) peek o) (sym (added_thing (read bs t) (lives_in bs r) base.value index.value v given)) (subst (λ i. ClaimsPart g i peek (thing_of u base.value)) under part))
+      ([], bs, PlaceOf peek (read bs t) (lives_in bs r) f, awaited.follows peek (lives.Into peek u) marks.Fat t r f (inr refl) refl same alive, tt, stack)
 
   pub count_on : (peek : Option ℕ) (t : RunTy) (l : Life) (v : Operand) (k : List Entry) (f : flow.State) → LiveIn k bs → Holds g f bs → IsResult g (looked peek (Value (lives.Pointer marks.Fat t l))) v → IsStack p g x bs (Val (Value lives.Int) f) k
       → IsWell p (computed kinds.Int (element_count v.value) k e w)
@@ -455,14 +457,14 @@ module _ (p : Program) (g : Typing) (x : Exits) (bs : List InScope) (e : Environ
 
   -- ---- what waits for a place
 
-  pub place_given : {a : AwaitingPlace} {o : Option ℕ} {t : RunTy} {l : Life} {f : flow.State} {next : stacks.Want} (place : values.Value) (k : List Entry) → AreOpen w.regions (ends_of k) → LiveIn k bs → Holds g f bs → HasType g (lives.Pointer marks.NonNull t l) place
-      → ClaimsPart g (stacks.count_place a + stacks.operands_in k) o (thing_of (lives.Pointer marks.NonNull t l) place) → WaitsPlace p x (relied_at x.relied k) bs a o t l f next → KeepsPlace p g (stacks.operands_in k) bs a t f → IsStack p g x bs next k → IsWell p (placed a place k e w)
-  place_given (values.Thin object offset) k opens live holds has part (stacks.loads_from {kind} seen t r f alive by plain same) keeps stack =
+  pub place_given : {a : AwaitingPlace} {o : Option ℕ} {t : RunTy} {l : Life} {f : flow.State} {next : awaited.Want} (place : values.Value) (k : List Entry) → AreOpen w.regions (ends_of k) → LiveIn k bs → Holds g f bs → HasType g (lives.Pointer marks.NonNull t l) place
+      → ClaimsPart g (awaited.count_place a + awaited.operands_in k) o (thing_of (lives.Pointer marks.NonNull t l) place) → WaitsPlace p x (relied_at x.relied k) bs a o t l f next → KeepsPlace p g (awaited.operands_in k) bs a t f → IsStack p g x bs next k → IsWell p (placed a place k e w)
+  place_given (values.Thin object offset) k opens live holds has part (awaited.loads_from {kind} seen t r f alive by plain same) keeps stack =
       reads_target p g x bs e w typed globals bound variables k kind object offset (lives_in bs) t (lives_in bs r) f opens live (there_present g (ends_of k) bs r live.0 variables alive)
-      (part_had g (0 + stacks.operands_in k) seen (pointer_at (lives_in bs r) object) part) holds has by plain (kind_meant (lives_in bs) t ∙ sym same) stack
-  place_given place k opens live holds has part (stacks.takes_address seen t l f common) keeps stack =
-      on (Given (record { kind = kinds.NonNull; value = place })) k live (Value (lives.Pointer marks.NonNull t l), f, holds, (refl, has), plain_claims g.own (Hand (stacks.operands_in k)) (lives.Pointer marks.NonNull t l) place (pointer_plain marks.NonNull t l common), stack)
-  place_given place k opens live holds has part (stacks.stores_to {peek} {from} {to} {a} c v t r f h alive stands later conv from_is to_is) keeps stack =
+      (part_had g (0 + awaited.operands_in k) seen (pointer_at (lives_in bs r) object) part) holds has by plain (kind_meant (lives_in bs) t ∙ sym same) stack
+  place_given place k opens live holds has part (awaited.takes_address seen t l f common) keeps stack =
+      on (Given (record { kind = kinds.NonNull; value = place })) k live (Value (lives.Pointer marks.NonNull t l), f, holds, (refl, has), plain_claims g.own (Hand (awaited.operands_in k)) (lives.Pointer marks.NonNull t l) place (pointer_plain marks.NonNull t l common), stack)
+  place_given place k opens live holds has part (awaited.stores_to {peek} {from} {to} {a} c v t r f h alive stands later conv from_is to_is) keeps stack =
       let (evaluates, whole) = later holds.0 in
       on (Evaluating a) (Needs (ConvertTo from to (target_by a)) ∷ Needs (StoreCell peek place) ∷ k) live (
         c,
@@ -476,26 +478,26 @@ module _ (p : Program) (g : Typing) (x : Exits) (bs : List InScope) (e : Environ
           [],
           bs,
           Val (Value (read bs t)) h,
-          stacks.converts c v t h (agrees_of p x bs c stands) (keeps_by g bs variables c.regions stands.regions) conv from_is to_is (target_typed c a v evaluates.typed),
+          awaited.converts c v t h (agrees_of p x bs c stands) (keeps_by g bs variables c.regions stands.regions) conv from_is to_is (target_typed c a v evaluates.typed),
           tt,
-          (lives.Pointer marks.NonNull (read bs t) (lives_in bs r) ∷ [], bs, Val (read_value bs (assigned_type t)) h, stacks.stores_cell t r h alive, (((refl, has), tt), part_alone g k peek (thing_of (lives.Pointer marks.NonNull (read bs t) (lives_in bs r)) place) part), stack),
+          (lives.Pointer marks.NonNull (read bs t) (lives_in bs r) ∷ [], bs, Val (read_value bs (assigned_type t)) h, awaited.stores_cell t r h alive, (((refl, has), tt), part_alone g k peek (thing_of (lives.Pointer marks.NonNull (read bs t) (lives_in bs r)) place) part), stack),
         ),
       )
-  place_given place k opens live holds has part (stacks.swaps_left {kind} {peek} {right} c t r f h alive stands kind_is plain later) keeps stack =
+  place_given place k opens live holds has part (awaited.swaps_left {kind} {peek} {right} c t r f h alive stands kind_is plain later) keeps stack =
       let finds = later holds.0 in
       finds_right_on p g x bs e w typed globals bound variables kind peek true place right c t k f h finds.waiting live stands holds kind_is plain
       (left_cell place r alive has (part_alone g k peek (thing_of (lives.Pointer marks.NonNull (read bs t) (lives_in bs r)) place) part)) finds.typed finds.flows finds.used finds.kept stack
-  place_given place k opens live holds has part (stacks.swaps_right {kind} {peek} {is_cell} {left} through t r f alive kind_is) (u, same, plain, spot) stack =
+  place_given place k opens live holds has part (awaited.swaps_right {kind} {peek} {is_cell} {left} through t r f alive kind_is) (u, same, plain, spot) stack =
       let pointer = λ (z : RunTy). lives.Pointer marks.NonNull z (lives_in bs r) in
       both_on p g x bs e w typed globals bound variables kind left place u k f live holds (kind_is ∙ sym (kind_meant (lives_in bs) t) ∙ ap kind_at same ∙ kind_meant (lives_in bs) u) plain
-      (left_spot p g x bs e w typed globals bound variables (stacks.operands_in k) peek u f left spot)
+      (left_spot p g x bs e w typed globals bound variables (awaited.operands_in k) peek u f left spot)
       (of_cell place r alive (subst (λ z. HasType g (pointer z) place) same has)
-      (subst (λ z. IsHad g (thing_of (pointer z) place)) same (part_had g (1 + stacks.operands_in k) through (thing_of (pointer (read bs t)) place) part))) stack
+      (subst (λ z. IsHad g (thing_of (pointer z) place)) same (part_had g (1 + awaited.operands_in k) through (thing_of (pointer (read bs t)) place) part))) stack
   place_given place k opens live holds has part waits keeps stack = absurd has
 
   pub cell_stored : (place : values.Value) (v : Operand) (t : Ty) (l : Life) (k : List Entry) (f : flow.State) → AreOpen w.regions (ends_of k) → LiveIn k bs → IsPresent g (ends_of k) l → IsHad g (thing_of (lives.Pointer marks.NonNull (read bs t) l) place) → Holds g f bs
       → HasType g (lives.Pointer marks.NonNull (read bs t) l) place → IsResult g (Value (read bs t)) v
-      → (i : ℕ) → stacks.operands_in k ≤ i → Claims g.own (Hand i) (read bs t) v.value → IsStack p g x bs (Val (read_value bs (assigned_type t)) f) k → IsWell p (stored_at place v (Given v) k e w)
+      → (i : ℕ) → awaited.operands_in k ≤ i → Claims g.own (Hand i) (read bs t) v.value → IsStack p g x bs (Val (read_value bs (assigned_type t)) f) k → IsWell p (stored_at place v (Given v) k e w)
   cell_stored (values.Thin object offset) v t l k f opens live lasting had holds has is i above claims stack =
       writes_target p g x bs e w typed globals bound variables v k object offset i (read bs t) l (Given v) opens live lasting had has is claims
       (λ h changed. (
@@ -503,7 +505,7 @@ module _ (p : Program) (g : Typing) (x : Exits) (bs : List InScope) (e : Environ
         f,
         holds_kept (Hand i) g h changed f bs (λ n object full slot. at_no_hand object 0 i) holds,
         handed h (tests.is_moved t) (result_grown g h changed.grows (Value (read bs t)) v is),
-        moved_comes h (stacks.operands_in k) bs t v.value (variables_kept (Hand i) g h changed bs refl variables),
+        moved_comes h (awaited.operands_in k) bs t v.value (variables_kept (Hand i) g h changed bs refl variables),
         stack_changed p (Hand i) g h x bs (Val (read_value bs (assigned_type t)) f) k changed above stack,
       ))
     where

@@ -36,8 +36,10 @@ use Rattle.cyc_soundness.specs.inside.Lives as lives
 use Rattle.cyc_soundness.specs.inside.Worlds.{OfLocal, Thing, Holder, Hand, At, pointer_at, thing_of, Owns, Claims, ClaimsBy, ClaimsAlone, IsHere, giving, marked, AreOwned, IsOpenIn, ObjectType}
 use Rattle.cyc_soundness.specs.inside.Worlds.{IsKnownLife, IsNumber, IsOwner, Typing, IsFilled, variable_type, HasType, IsResult, AreCells, IsObject, IsTyped, Grows, Slot, KeyOf, PointerTo, Here, given as given_to}
 use Rattle.cyc_soundness.specs.inside.Frames.{later, Bound, InScope, Variable, Level, life_named, lives_in, read, read_value, IsThere, IsHomed, AreBelow, IsBound, AreVariables, IsLasting, LiveIn, Within, itself, older, Holds, Implies, LoopExit, Exits, IsHome, IsContext, KnowsProgram}
-use Rattle.cyc_soundness.specs.inside.Stacks.{Executes, Continues, IsLoop, Repeats, IsArray, IsNew, Want, Val, Go, operands_in, Comes, Keeps, inside, Waits, IsReturn, IsStack, IsFocus, IsWell, relied_at}
-use Rattle.cyc_soundness.specs.inside.Stacks as stacks
+use Rattle.cyc_soundness.specs.inside.Judgements.{Executes, Continues}
+use Rattle.cyc_soundness.specs.inside.Awaited.{IsLoop, Repeats, IsArray, IsNew, Want, Val, Go, operands_in, Comes, Keeps, inside, Waits, relied_at}
+use Rattle.cyc_soundness.specs.inside.Awaited as awaited
+use Rattle.cyc_soundness.specs.inside.Stacks.{IsReturn, IsStack, IsFocus, IsWell}
 use Rattle.cyc_soundness.proofs.types.TypeLemmas.{is_kind_same, kind_read}
 use Rattle.cyc_soundness.proofs.flow.FlowLemmas.{holds_implied, reached_with, full_put, vacant_now}
 use Rattle.cyc_soundness.proofs.states.WorldLemmas.{type_grown, with_variable, variable_grows, object_typed, globals_grown, owner_grown}
@@ -54,7 +56,9 @@ use Rattle.cyc_soundness.proofs.states.Cells.{part_had, running, plain_unkept}
 use Rattle.cyc_soundness.proofs.steps.Loans.{opens_on, aliases_on, closes_on, frees_on}
 use Rattle.cyc_soundness.proofs.steps.ArrayObjects.{plain_on, fields_on, array_on, fill_on, makes_on}
 use Rattle.cyc_soundness.proofs.steps.Places.{looked_result, gives, follow_on, member_on, index_on, advance_on, count_on, cell_stored, point_on, null_point_on}
-use Rattle.cyc_soundness.proofs.steps.Evaluation.{pass_on, chain_on, converted_on, denied_on, decided_on, writes_local, writes_global}
+use Rattle.cyc_soundness.proofs.steps.Variables.{writes_local, writes_global}
+use Rattle.cyc_soundness.proofs.steps.Evaluation.{pass_on}
+use Rattle.cyc_soundness.proofs.steps.Chains.{chain_on, converted_on, denied_on, decided_on}
 
 -- a scope with one local more
 pub context_more : (p : Program) (x : Exits) (bs : List InScope) (c : Context) (is_place : Bool) (t : Ty) (b : Bound) → IsContext p x bs c → IsNew c t → b.number ≡ c.next_local → b.of_type ≡ read bs t
@@ -269,7 +273,7 @@ module _ (p : Program) (g : Typing) (x : Exits) (bs : List InScope) (e : Environ
       → IsStack p g x bs (Val (Value (lives.Pointer m (read bs t) (lives_in bs r))) h) k → IsWell p (makes_by i v k e w)
   placed_by i (values.Handle region) k c m t r f h q opens live stands holds alive made flows kept has stack =
       makes_on p g x bs e w typed globals bound variables i (InRegion region) (Needs (BesideHandle region) ∷ k) c m t r f h q opens live stands holds alive (owner_is (lives_in bs r) region has) made flows kept
-      ([], bs, Val (Value (lives.Pointer m (read bs t) (lives_in bs r))) h, stacks.beside_handle (lives.Pointer m (read bs t) (lives_in bs r)) h, tt, stack)
+      ([], bs, Val (Value (lives.Pointer m (read bs t) (lives_in bs r))) h, awaited.beside_handle (lives.Pointer m (read bs t) (lives_in bs r)) h, tt, stack)
   placed_by i v k c m t r f h q opens live stands holds alive made flows kept has stack = absurd has
 
   -- the next element of an array has its value, and the counter is out of scope
@@ -286,70 +290,70 @@ module _ (p : Program) (g : Typing) (x : Exits) (bs : List InScope) (e : Environ
 
   pub given : {a : Awaiting} {ts : List RunTy} {r : RunValue} {f : flow.State} {cs : List InScope} {next : Want} (v : Operand) (k : List Entry) → IsNested k e w → LiveIn k bs → Holds g f bs → IsResult g r v
       → Comes g r v (Needs a ∷ k) → Waits p x (relied_at x.relied k) bs a ts r f cs next → Keeps g (operands_in k) a ts → IsStack p g x cs next k → IsWell p (supplied a v k e w)
-  given v k nests live holds is comes (stacks.converts {from} {to} {target} c s t f agrees keeps conv from_is to_is same) are stack =
+  given v k nests live holds is comes (awaited.converts {from} {to} {target} c s t f agrees keeps conv from_is to_is same) are stack =
       converted_on p g x bs e w typed globals bound variables from to target v k c s t f live agrees keeps holds is (comes_alone g k (read_value bs s) v.value comes) conv from_is to_is same stack
-  given v k nests live holds is comes (stacks.negates f) are stack =
+  given v k nests live holds is comes (awaited.negates f) are stack =
       gives p g x bs e w typed globals bound variables k kinds.Int lives.Int f (unary_result unary.Negate v.value) live holds tt refl (negated g v.value is.1) stack
-  given v k nests live holds is comes (stacks.complements f) are stack =
+  given v k nests live holds is comes (awaited.complements f) are stack =
       gives p g x bs e w typed globals bound variables k kinds.Int lives.Int f (unary_result unary.Complement v.value) live holds tt refl (complemented g v.value is.1) stack
-  given v k nests live holds is comes (stacks.widens f) are stack =
+  given v k nests live holds is comes (awaited.widens f) are stack =
       gives p g x bs e w typed globals bound variables k kinds.Int lives.Int f (unary_result unary.Widen v.value) live holds tt refl (widened g v.value is.1) stack
-  given v k nests live holds is comes (stacks.narrows f) are stack =
+  given v k nests live holds is comes (awaited.narrows f) are stack =
       gives p g x bs e w typed globals bound variables k kinds.Char lives.Char f (unary_result unary.LowByte v.value) live holds tt refl (narrowed g v.value is.1) stack
-  given v k nests live holds is comes (stacks.denies seen s f tested) are stack = denied_on p g x bs e w typed globals bound variables seen v k s f live holds tested is stack
-  given v k nests live holds is comes (stacks.chains {os} seen c s t f h stands computes chained') are stack =
+  given v k nests live holds is comes (awaited.denies seen s f tested) are stack = denied_on p g x bs e w typed globals bound variables seen v k s f live holds tested is stack
+  given v k nests live holds is comes (awaited.chains {os} seen c s t f h stands computes chained') are stack =
       chain_on p g x bs e w typed globals bound variables os seen v k c s t f h computes.waiting live stands holds is comes chained' computes.typed computes.flows computes.kept stack
-  given v k nests live holds is comes (stacks.applies {o} {left} f) ((left_is, unit), claims) stack =
+  given v k nests live holds is comes (awaited.applies {o} {left} f) ((left_is, unit), claims) stack =
       gives p g x bs e w typed globals bound variables k kinds.Int lives.Int f (binary_result o left.value v.value) live holds tt refl (combined g o left.value v.value left_is.1 is.1) stack
-  given v k nests live holds is comes (stacks.decides seen s f h tested i) are stack = decided_on p g x bs e w typed globals bound variables seen v k s f h live holds tested i is stack
-  given v k nests live holds is comes (stacks.stores_local b t f among same spared) are stack =
+  given v k nests live holds is comes (awaited.decides seen s f h tested i) are stack = decided_on p g x bs e w typed globals bound variables seen v k s f h live holds tested i is stack
+  given v k nests live holds is comes (awaited.stores_local b t f among same spared) are stack =
       writes_local p g x bs e w typed globals bound variables v k b t f nests.0 live among same spared holds is (comes_alone g k (Value (read bs t)) v.value comes) stack
-  given v k nests live holds is comes (stacks.stores_global number t f there means) are stack =
+  given v k nests live holds is comes (awaited.stores_global number t f there means) are stack =
       writes_global p g x bs e w typed globals bound variables v k number t f nests.0 live there means holds is (comes_alone g k (Value (read bs t)) v.value comes) stack
-  given v k nests live holds is comes (stacks.points {peek} {o} {left} also c t s u f stands op) ((left_is, unit), part) stack =
+  given v k nests live holds is comes (awaited.points {peek} {o} {left} also c t s u f stands op) ((left_is, unit), part) stack =
       point_on p g x bs e w typed globals bound variables also left v (operands_in (Needs (state.ApplyPointer peek o left) ∷ k)) k f nests.0 live holds stands op left_is (part_had g (operands_in k) peek (thing_of (read bs t) left.value) part) is comes stack
-  given v k nests live holds is comes (stacks.null_points also c s u f op) are stack = null_point_on p g x bs e w typed globals bound variables also v k f live holds op is stack
-  given v k nests live holds is comes (stacks.stores_cell {peek} {place} t r f alive) (((kind, to), unit), part) stack =
+  given v k nests live holds is comes (awaited.null_points also c s u f op) are stack = null_point_on p g x bs e w typed globals bound variables also v k f live holds op is stack
+  given v k nests live holds is comes (awaited.stores_cell {peek} {place} t r f alive) (((kind, to), unit), part) stack =
       cell_stored p g x bs e w typed globals bound variables place v t (lives_in bs r) k f nests.0 live (there_present g (ends_of k) bs r live.0 variables alive)
       (part_had g (operands_in k) peek (thing_of (lives.Pointer marks.NonNull (read bs t) (lives_in bs r)) place) part) holds to is (1 + operands_in k) (let le : operands_in k ≤ 1 + operands_in k = omega arith in le) comes stack
-  given v k nests live holds is comes (stacks.follows {k = pk} {target} seen u m t r f through kind same alive) are stack =
+  given v k nests live holds is comes (awaited.follows {k = pk} {target} seen u m t r f through kind same alive) are stack =
       follow_on p g x bs e w typed globals bound variables seen u m pk target t (lives_in bs r) v k f live holds through kind same is (comes_alone g k u v.value comes) stack
-  given v k nests live holds is comes (stacks.follows_member {k = pk} {fields} {field} seen m n ls s t u r f kind struct fields_are there means alive) are stack =
+  given v k nests live holds is comes (awaited.follows_member {k = pk} {fields} {field} seen m n ls s t u r f kind struct fields_are there means alive) are stack =
       member_on p g x bs e w typed globals bound variables seen m pk fields n ls s t u (lives_in bs r) field v k f live holds kind fields_are struct there means is
       (comes_alone g k (lives.looked seen (Value (lives.Pointer m (lives.Struct n ls) (lives_in bs r)))) v.value comes) stack
-  given v k nests live holds is comes (stacks.indexes {peek} {target} {index} c t r f h stands evaluates same alive) are stack =
+  given v k nests live holds is comes (awaited.indexes {peek} {target} {index} c t r f h stands evaluates same alive) are stack =
       index_on p g x bs e w typed globals bound variables peek target index c t r v k f h live holds stands evaluates same alive is (comes_alone g k (lives.looked peek (Value (lives.Pointer marks.Fat (read bs t) (lives_in bs r)))) v.value comes) stack
-  given v k nests live holds is comes (stacks.advances {peek} {target} {base} t r f same alive) ((base_is, unit), part) stack = advance_on p g x bs e w typed globals bound variables peek t r target base v k f live holds same alive base_is part is stack
-  given v k nests live holds is comes (stacks.counts_elements seen t l f) are stack = count_on p g x bs e w typed globals bound variables seen t l v k f live holds is stack
-  given v k nests live holds is comes (stacks.places_by {i} c m t r f h stands makes alive) are stack = placed_by i v.value k c m t r f h makes.waiting nests.0 live stands holds alive makes.typed makes.flows makes.kept is.1 stack
-  given v k nests live holds is comes (stacks.beside_handle t f) are stack = on (Given v) k live (Value t, f, holds, is, comes_alone g k (Value t) v.value comes, stack)
-  given v k nests live holds is comes (stacks.makes_plain {owner} {kind} t r f plain alive owned kind_is) are stack = plain_on p g x bs e w typed globals bound variables owner kind v t r k f plain nests.0 live holds alive owned kind_is is (comes_alone g k (Value (read bs t)) v.value comes) stack
-  given v k nests live holds is comes (stacks.makes_fields {owner} {before} {rest} c done t ts n ls r f h alive owned stands passes fields) are stack =
+  given v k nests live holds is comes (awaited.advances {peek} {target} {base} t r f same alive) ((base_is, unit), part) stack = advance_on p g x bs e w typed globals bound variables peek t r target base v k f live holds same alive base_is part is stack
+  given v k nests live holds is comes (awaited.counts_elements seen t l f) are stack = count_on p g x bs e w typed globals bound variables seen t l v k f live holds is stack
+  given v k nests live holds is comes (awaited.places_by {i} c m t r f h stands makes alive) are stack = placed_by i v.value k c m t r f h makes.waiting nests.0 live stands holds alive makes.typed makes.flows makes.kept is.1 stack
+  given v k nests live holds is comes (awaited.beside_handle t f) are stack = on (Given v) k live (Value t, f, holds, is, comes_alone g k (Value t) v.value comes, stack)
+  given v k nests live holds is comes (awaited.makes_plain {owner} {kind} t r f plain alive owned kind_is) are stack = plain_on p g x bs e w typed globals bound variables owner kind v t r k f plain nests.0 live holds alive owned kind_is is (comes_alone g k (Value (read bs t)) v.value comes) stack
+  given v k nests live holds is comes (awaited.makes_fields {owner} {before} {rest} c done t ts n ls r f h alive owned stands passes fields) are stack =
       let (operands, claims) = fields_kept g (operands_in k) owner before rest done are in
       fields_on p g x bs e w typed globals bound variables k owner (v ∷ before) (read bs t ∷ done) rest ts c n ls r f h passes.waiting nests.0 live stands holds alive owned passes.typed passes.flows passes.kept (is, operands) (claimed_next g (operands_in k) (read bs t) v.value done before operands comes, claims) fields stack
-  given v k nests live holds is comes (stacks.makes_array {owner} {level} {kind} {element} c t r f alive owned stands repeats) are stack =
+  given v k nests live holds is comes (awaited.makes_array {owner} {level} {kind} {element} c t r f alive owned stands repeats) are stack =
       array_on p g x bs e w typed globals bound variables owner level kind element v.value k c t r f live stands holds alive owned repeats is.1 stack
-  given v k nests live holds is comes (stacks.fills {object} {count} {index} {level} {kind} {element} cs c t r f h same alive stands repeats back) (less, array, has) stack =
+  given v k nests live holds is comes (awaited.fills {object} {count} {index} {level} {kind} {element} cs c t r f h same alive stands repeats back) (less, array, has) stack =
       filled_on object count index level kind element v k cs c t r f h same nests.0 live alive stands holds repeats back less array has is comes stack
-  given v k nests live holds is comes (stacks.passes {callee} {before} {rest} c done t ts r f h stands passes called) are stack =
+  given v k nests live holds is comes (awaited.passes {callee} {before} {rest} c done t ts r f h stands passes called) are stack =
       let (operands, claims) = passed_kept g (operands_in k) callee before rest done are in
       pass_on p g x bs e w typed globals bound variables k callee (v ∷ before) (read bs t ∷ done) rest ts c r f h passes.waiting live stands holds passes.typed passes.flows passes.kept (is, operands) (claimed_next g (operands_in k) (read bs t) v.value done before operands comes, claims) called stack
-  given v k nests live holds is comes (stacks.initialises {number} {kind} {js} cs c t f h within stands new number_is kind_is continues) are stack =
+  given v k nests live holds is comes (awaited.initialises {number} {kind} {js} cs c t f h within stands new number_is kind_is continues) are stack =
       let same : v.kind ≡ kind = is.0 ∙ kind_read (lives_in bs) t ∙ sym kind_is in
       subst (λ (b : Bool). IsWell p (if b then declared (region_at w e.home) Proceeding number kind (Some v.value) (Rest js ∷ k) e w else wrong w)) (sym (is_kind_same v.kind kind same))
       (declares_full number kind v.value true t js cs c f h k nests live within stands holds new number_is (kind_is ∙ sym (kind_read (lives_in bs) t)) is.1 (comes_alone g k (Value (read bs t)) v.value comes) continues stack)
-  given v k nests live holds is comes (stacks.chooses {first} {second} seen c d s f i j l tested stands others one two m n) are stack =
+  given v k nests live holds is comes (awaited.chooses {first} {second} seen c d s f i j l tested stands others one two m n) are stack =
       let (b, at_zero) = zero_is g (lives_in bs) s v tested (looked_result g seen (read_value bs s) v is) in
       subst (λ z. IsWell p (chosen z first second k e w)) (sym at_zero) (chosen_on b first second k c d f i j l live holds stands others one two m n stack)
-  given v k nests live holds is comes (stacks.tests {condition} {body} seen l s f h loop) are stack =
+  given v k nests live holds is comes (awaited.tests {condition} {body} seen l s f h loop) are stack =
       let (b, at_zero) = zero_is g (lives_in bs) s v loop.tested (looked_result g seen (read_value bs s) v is) in
       subst (λ z. IsWell p (looped z condition body k e w)) (sym at_zero) (looped_on b condition body k l s f h live holds loop stack)
-  given v k nests live holds is comes (stacks.returns t u f h result gives_so) are stack =
+  given v k nests live holds is comes (awaited.returns t u f h result gives_so) are stack =
       on (Returning (Some v)) k live (h, subst (λ z. IsReturn g (operands_in k) z x.gives (Some v)) (sym result) (subst (λ z. IsResult g z v) gives_so is, subst (λ z. ClaimsAlone g.own (operands_in k) z v.value) gives_so (comes_alone g k (Value u) v.value comes)), stack)
-  given v k nests live holds is comes (stacks.frees_object m t f) are stack = frees_on p g x bs e w typed globals bound variables m t v.value k f live holds is.1 (comes_alone g k (Value (lives.Pointer m t lives.Owned)) v.value comes) stack
-  given v k nests live holds is comes (stacks.closes_by_key r f) are stack = closes_on p g x bs e w typed globals bound variables v.value k r f live holds is.1 (comes_alone g k (Value (lives.Key (lives_in bs r))) v.value comes) stack
-  given v k nests live holds is comes (stacks.throws {tag} f h) are stack = thrown_on tag v.value k h live is.1 stack
-  given v k nests live holds is comes (stacks.opens_by {number} {lent} {js} cs c b r f h i within stands among number_of of_type hides set spared full less alive number_is continues again) are stack =
+  given v k nests live holds is comes (awaited.frees_object m t f) are stack = frees_on p g x bs e w typed globals bound variables m t v.value k f live holds is.1 (comes_alone g k (Value (lives.Pointer m t lives.Owned)) v.value comes) stack
+  given v k nests live holds is comes (awaited.closes_by_key r f) are stack = closes_on p g x bs e w typed globals bound variables v.value k r f live holds is.1 (comes_alone g k (Value (lives.Key (lives_in bs r))) v.value comes) stack
+  given v k nests live holds is comes (awaited.throws {tag} f h) are stack = thrown_on tag v.value k h live is.1 stack
+  given v k nests live holds is comes (awaited.opens_by {number} {lent} {js} cs c b r f h i within stands among number_of of_type hides set spared full less alive number_is continues again) are stack =
       opens_on p g x bs e w typed globals bound variables number lent js v.value k cs c b r f h i live holds within stands among number_of of_type hides spared full less alive number_is continues again is.1 stack
-  given v k nests live holds is comes (stacks.aliases {number} {lent} {js} cs c b u t f h i within stands among number_of type_is hides set spared full unique known of_type alive number_is continues again) are stack =
+  given v k nests live holds is comes (awaited.aliases {number} {lent} {js} cs c b u t f h i within stands among number_of type_is hides set spared full unique known of_type alive number_is continues again) are stack =
       aliases_on p g x bs e w typed globals bound variables number lent js v k cs c b u t f h i live holds within stands among number_of type_is hides spared full unique known of_type alive number_is continues again comes is stack

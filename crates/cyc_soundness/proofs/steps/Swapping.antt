@@ -25,8 +25,10 @@ use Rattle.cyc_soundness.specs.inside.Lives as lives
 use Rattle.cyc_soundness.specs.inside.Worlds.{At, IsKept, thing_of, IsHad, Claims, IsOpenObject, ObjectType, Typing, global_type, IsFilled, HasType, IsTyped, Awaits, Pending, Settled, Thing, Holder, Nobody, Hand, IsHeld, Owns, Stays, Grows, IsHere, given, giving, IsResult, Away, Lent}
 use Rattle.cyc_soundness.specs.inside.Frames.{InScope, local_type, IsBound, AreVariables, LiveIn, Holds, Exits, IsContext, KnowsProgram, lives_in, read, IsFullIn}
 use Rattle.cyc_soundness.specs.inside.Classes.{InSide, and_looked, IsSpared}
-use Rattle.cyc_soundness.specs.inside.Stacks.{relied_at, operands_in, Finds, Go, IsSpot, of_local, of_global, of_cell, IsLeftSpot, left_variable, left_cell, IsRead, AreSwapped, IsStack, IsWell, ClaimsAt, IsWrite, IsAwaited, IsFocus}
-use Rattle.cyc_soundness.specs.inside.Stacks as stacks
+use Rattle.cyc_soundness.specs.inside.Judgements.{Finds}
+use Rattle.cyc_soundness.specs.inside.Awaited.{relied_at, operands_in, Go, IsSpot, of_local, of_global, of_cell, IsLeftSpot, left_variable, left_cell, IsRead, AreSwapped, ClaimsAt, IsWrite, IsAwaited}
+use Rattle.cyc_soundness.specs.inside.Awaited as awaited
+use Rattle.cyc_soundness.specs.inside.Stacks.{IsStack, IsWell, IsFocus}
 use Rattle.cyc_soundness.proofs.types.TypeLemmas.{is_kind_same, kind_meant, place_type}
 use Rattle.cyc_soundness.proofs.flow.FlowLemmas.{full_set, used_full}
 use Rattle.cyc_soundness.proofs.states.WorldLemmas.{cell_there, type_grown, result_grown, risen, with_filled, written_grows, cell_written, globals_grown}
@@ -159,7 +161,7 @@ module _ (p : Program) (g : Typing) (x : Exits) (bs : List InScope) (e : Environ
         stands,
         holds,
         record { waiting = q; typed = cell; flows = flows; kept = kept },
-        (Go h, stacks.swaps_right (peek_behind d) t r h (there_of p x bs c stands r (cell_live c d t r cell)) kind_is, (t, refl, plain, here), stack),
+        (Go h, awaited.swaps_right (peek_behind d) t r h (there_of p x bs c stands r (cell_live c d t r cell)) kind_is, (t, refl, plain, here), stack),
       )
 
   pub swap_on : (y z : Side) (c : Context) (t : Ty) (k : List Entry) (f f1 h : flow.State) (q : List ℕ) → LiveIn k bs → IsContext p x bs c → Holds g f bs → is_struct t ≡ false
@@ -188,8 +190,8 @@ module _ (p : Program) (g : Typing) (x : Exits) (bs : List InScope) (e : Environ
         record { waiting = []; typed = cell; flows = flows; kept = kept },
         (
           Go h,
-          subst (λ o. stacks.WaitsPlace p x (relied_at x.relied k) bs (SwapLeft (values.kind_of (type_of_place d)) (peeked d) z) o (read bs t) (lives_in bs r) f1 (Go h)) (peeked_so d)
-              (stacks.swaps_left c t r f1 h (there_of p x bs c stands r (cell_live c d t r cell)) stands (ap values.kind_of (sym (place_type c d t r cell))) plain
+          subst (λ o. awaited.WaitsPlace p x (relied_at x.relied k) bs (SwapLeft (values.kind_of (type_of_place d)) (peeked d) z) o (read bs t) (lives_in bs r) f1 (Go h)) (peeked_so d)
+              (awaited.swaps_left c t r f1 h (there_of p x bs c stands r (cell_live c d t r cell)) stands (ap values.kind_of (sym (place_type c d t r cell))) plain
               (λ reached. subst (λ o. Finds (and_looked o x.relied) c z f1 t h) (sym (peeked_so d)) (finds reached))),
           tt,
           stack,

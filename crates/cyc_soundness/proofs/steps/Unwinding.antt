@@ -17,8 +17,10 @@ use Rattle.cyc_soundness.specs.inside.Lives.{Life, RunTy, RunValue, Value}
 use Rattle.cyc_soundness.specs.inside.Lives as lives
 use Rattle.cyc_soundness.specs.inside.Worlds.{OfLocal, Hand, At, Lent, thing_of, Claims, given, marked, handing, variable_type, Typing, HasType, IsTyped, Here, Thing, Holder, Owns, IsHere}
 use Rattle.cyc_soundness.specs.inside.Frames.{InScope, Names, Home, IsBound, AreVariables, AreFullAt, LiveIn, Holds, Implies, LoopExit, Exits, HasResult, is_loop, KnowsProgram}
-use Rattle.cyc_soundness.specs.inside.Stacks.{IsLentOut, IsLoop, Want, Nothing, Val, PlaceOf, Go, operands_in, IsBlocked, IsReturn, IsStack, IsFocus, IsWell}
-use Rattle.cyc_soundness.specs.inside.Stacks as stacks
+use Rattle.cyc_soundness.specs.inside.Judgements as judgements
+use Rattle.cyc_soundness.specs.inside.Awaited.{IsLoop, Want, Nothing, Val, PlaceOf, Go, operands_in}
+use Rattle.cyc_soundness.specs.inside.Awaited as awaited
+use Rattle.cyc_soundness.specs.inside.Stacks.{IsLentOut, IsBlocked, IsReturn, IsStack, IsFocus, IsWell}
 use Rattle.cyc_soundness.proofs.flow.FlowLemmas.{holds_implied, full_added}
 use Rattle.cyc_soundness.proofs.states.StackLocals.{given_back}
 use Rattle.cyc_soundness.proofs.states.StackLemmas.{none_lent, full_at_grown}
@@ -64,7 +66,7 @@ module _ (p : Program) (g : Typing) (e : Environment) (w : World) (typed : IsTyp
         → IsWell p (Running (Evaluating condition) (Needs (Test condition body) ∷ k) e w)
     tests_again condition body k y l v u h live loop holds stack =
         running p g y bs e w typed globals bound variables (Evaluating condition) (Needs (Test condition body) ∷ k) live
-        (loop.context, v, l.head, u, loop.stands, holds, loop.first, ([], bs, Go h, stacks.tests (stacks.seen_by condition loop.first.typed) l v u h loop, tt, stack))
+        (loop.context, v, l.head, u, loop.stands, holds, loop.first, ([], bs, Go h, awaited.tests (judgements.seen_by condition loop.first.typed) l v u h loop, tt, stack))
 
     -- ---- a loan ends
 

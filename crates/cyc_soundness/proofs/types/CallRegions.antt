@@ -18,7 +18,7 @@ use Rattle.cyc_soundness.specs.inside.Lives.{Life, Lives, at, value_at, heap_lif
 use Rattle.cyc_soundness.specs.inside.Worlds.{Outlasts, heap as for_ever, IsNumber}
 use Rattle.cyc_soundness.specs.inside.Classes.{IsDeclarable}
 use Rattle.cyc_soundness.specs.inside.Frames.{later, InScope, Names, life_named, is_live_named, lives_in, read, read_value, home_of, lives_among, IsThereBy, Exits, AreNamed, Stand, IsHome, AreKnownLocals, AreKnown, IsContext}
-use Rattle.cyc_soundness.specs.inside.Stacks.{regions_at_call, IsInstance}
+use Rattle.cyc_soundness.specs.inside.Awaited.{regions_at_call, IsInstance}
 use Rattle.cyc_soundness.proofs.types.TypeLemmas.{all_in_weaker, every_in, read_alike, value_alike, lives_by, instance_by, result_by}
 use Rattle.cyc_soundness.proofs.types.RegionLemmas.{other_name, same_name, other_life, other_there, also_opened, again_life, again_there, in_value, every_value, others_value, known_others, scope_kept, known_behind, known_opened, known_live, known_pairs, renamed, there_of, agrees_of}
 

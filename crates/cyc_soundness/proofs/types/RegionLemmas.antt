@@ -19,7 +19,7 @@ use Rattle.cyc_soundness.specs.inside.Lives.{Life, OfRegion, Kept, Lives, at, li
 use Rattle.cyc_soundness.specs.inside.Worlds.{Thing, KeyOf, PointerTo, Typing, IsKnownLife, IsOpenIn, lent_now, Outlasts, heap as for_ever, stays, encloses, whole, behind, AgreesWith, IsNumber, IsKnownOwner}
 use Rattle.cyc_soundness.specs.inside.Frames.{later, InScope, Variable, Level, Names, Instance, Home, life_named, is_live_named, lives_in, read_value, home_of, AreVariables}
 use Rattle.cyc_soundness.specs.inside.Frames.{IsThereBy, IsThere, IsScope, IsLasting, IsLiveIn, AreLiveIn, Exits, AreNamed, Stand, IsHome, AreKnownLocals, AreKnown, IsContext}
-use Rattle.cyc_soundness.specs.inside.Stacks.{IsNew}
+use Rattle.cyc_soundness.specs.inside.Awaited.{IsNew}
 use Rattle.cyc_soundness.proofs.types.TypeLemmas.{all_in_weaker, every_in, read_alike, value_alike}
 use Rattle.cyc_soundness.proofs.types.ValueLemmas.{given_agree}
 

@@ -10,7 +10,7 @@ use Rattle.cyc_types.specs.typing.Tests.{is_key, is_moved, is_unique}
 use Rattle.cyc_soundness.specs.inside.Lives.{Life, OfRegion, Owned, Kept, heap_life, RunTy, Pointer, Lives, at}
 use Rattle.cyc_soundness.specs.inside.Worlds.{Typing, IsKnownLife, IsKeyless, IsPlain, AtStart}
 use Rattle.cyc_soundness.specs.inside.Frames.{InScope, AreVariables, lives_in, life_named, read, Stand}
-use Rattle.cyc_soundness.specs.inside.Stacks.{KeepsUnique, IsCommonLife, IsByType}
+use Rattle.cyc_soundness.specs.inside.Awaited.{KeepsUnique, IsCommonLife, IsByType}
 use Rattle.cyc_soundness.proofs.types.RegionLemmas.{name_known}
 
 -- ---- lives
