@@ -1,102 +1,35 @@
 -- What a step does depends on the newest entry alone: what waits below it stays as it is.
-use Rattle.std.proofs.Common.{◌≡◌, ℕ, suc, Bool, true, false, List, [], ◌∷◌, ◌++◌, length, reverse, Option, Some, None, refl}
-use Rattle.std.specs.Prelude.{◌==◌, ◌*◌, ◌&&◌, nat_le, if◌then◌else◌, slice_get}
-use Rattle.cyc_types.specs.declared.typed.Kind.{Kind}
+use Rattle.std.proofs.Common.{◌≡◌, ℕ, suc, List, [], ◌∷◌, ◌++◌, length, reverse, Option, Some, None, refl}
+use Rattle.std.specs.Prelude.{◌==◌, slice_get}
 use Rattle.cyc_types.specs.declared.typed.Kind.TheVariants as kinds
 use Rattle.cyc_types.specs.declared.typed.Callee.{Callee}
 use Rattle.cyc_types.specs.declared.typed.Callee.TheVariants as callees
-use Rattle.cyc_types.specs.declared.typed.LogicalOperator.{LogicalOperator}
-use Rattle.cyc_types.specs.declared.typed.PointerOperator.{PointerOperator}
-use Rattle.cyc_types.specs.declared.typed.PointerOperator.TheVariants as pointers
 use Rattle.cyc_types.specs.Types.{Ty}
-use Rattle.cyc_types.specs.TypedTrees.{Expression, Number, NullPointer, HeapRegion, Counter, Copy, Move, Peek, Load, AddressOf, AddressOfCell, NumberOfElements, FreeUnique, FreeKey, Call, Unary, Binary, Assign, New}
-use Rattle.cyc_types.specs.TypedTrees.{Dereference, Target, Member, Element, Placement, OnHeap, AsUnique, ByHandle, Initial, Plain, Fields, Array, Converted, Convert, Arguments, NoArguments, MoreArguments, Operations}
-use Rattle.cyc_types.specs.TypedTrees.{NoOperations, ThenCompute, ThenTest, ThenPointer, ThenPointerPeek, Side, VariableSide, CellSide, Statement, Block, Empty, Evaluate, Swap, If, While, Break, Continue, Throw}
-use Rattle.cyc_types.specs.TypedTrees.{Try, Items, NoItems, MoreItems, Execute, Declare, DeclareRegion, OpenRegion, DeclareAlias, DeclareKey, Clauses, NoClauses, Default, Case, StructType, Function, Program}
+use Rattle.cyc_types.specs.TypedTrees.{Expression, Converted, Convert, Statement, Block, Empty, Evaluate, Swap, If, While, Break, Continue, Throw, Try, Items, NoItems, MoreItems, Execute, Declare, DeclareRegion, OpenRegion, DeclareAlias, DeclareKey, Clauses, NoClauses, Default, Case}
+use Rattle.cyc_types.specs.TypedTrees.{Function, Program}
 use Rattle.cyc_types.specs.TypedTrees as typed
-use Rattle.cyc_meaning.specs.Values.{Value, Int, Null, Thin, Fat, Handle, Key, Operand, kind_of, is_kind, bytes_of_kind, words_for}
-use Rattle.cyc_meaning.specs.Operators.{Result, Gives, Raises, Misfits, is_zero, binary_result, unary_result, unary_kind, truth_of, decides}
-use Rattle.cyc_meaning.specs.Pointers.{element_count, pointer_result, takes_kind, Reach, At, Stops, Nowhere, followed}
-use Rattle.cyc_meaning.specs.Conversion.{conversion}
-use Rattle.cyc_meaning.specs.State.{Region, Owner, InRegion, Unique, Object, World, Access, Found, Closed, Missing, region_at, Located, cell_at, Environment, Awaiting, ConvertTo, Operate, Chain, Apply, ApplyPointer, Decide, Store, StoreCell}
-use Rattle.cyc_meaning.specs.State.{Pass, Follow, FollowMember, Index, Advance, CountElements, FreeObject, CloseByKey, PlaceBy, BesideHandle, MakePlain, MakeFields, MakeArray, FillElement, Initialise, Choose, Test, Return, ThrowWith, OpenBy}
-use Rattle.cyc_meaning.specs.State.{AliasOf, LoadFrom, TakeAddress, StoreTo, SwapLeft, SwapRight, Entry, Needs, NeedsPlace, Discard, Rest, Join, Loop, CloseRegion, CloseLexical, EndLoan, Handler, Caller, Main, Write, Focus, Evaluating, Locating}
-use Rattle.cyc_meaning.specs.State.{Given, GivenPlace, Executing, Proceeding, Calling, Entering, Binding, Naming, Writing, Beginning, Repeating, Swapping, Breaking, Continuing, Returning, Throwing, Catching, State, Running, Ended, Dead, Wrong}
-use Rattle.cyc_meaning.specs.Objects.{compared, created}
-use Rattle.cyc_meaning.specs.Parts.{computed, leads_to, object_of, read, loaded, loaded_from, stored, stored_at, step_writing, declared, closing}
-use Rattle.cyc_meaning.specs.Places.{arrives, member_of, locates_member, step_locating, loaded_at, step_given_place}
-use Rattle.cyc_meaning.specs.Swaps.{finds_right_object, finds_right, finds_left_object, swaps, swap_content, swap_loaded, swap_loaded_at, step_swapping}
-use Rattle.cyc_meaning.specs.Allocation.{blanks_of, filled, makes_of, makes_fields, blanks, begun, makes_array, fills_element, makes, makes_by, allocates, most_words}
-use Rattle.cyc_meaning.specs.Exceptions.{throws, throws_value, catches, step_catching}
-use Rattle.cyc_meaning.specs.Regions.{is_dynamic, closing_lexical, opened_by, opens_with, closes_dynamic, closes_with, frees_in_region, frees_owned, frees_object, frees}
-use Rattle.cyc_meaning.specs.Step.{values_of, called, step_calling, step_binding, passes, assigned, addressed, counts, step_evaluating, decided, tested, awaits_right, chained, tells, applies_pointer, chosen, looped}
-use Rattle.cyc_meaning.specs.Step.{supplied, step_given, step_executing, declares, continues_with, step_proceeding, step_breaking, step_continuing, returned, ends_with, main_returned, step_returning, step_throwing, stepped}
+use Rattle.cyc_meaning.specs.Values.{Value, Int, Null, Thin, Fat, Handle, Key, Operand, kind_of, is_kind}
+use Rattle.cyc_meaning.specs.State.{Region, World, Access, Found, Closed, Missing, region_at, Environment, OpenBy, AliasOf, Entry, Needs, NeedsPlace, Discard, Rest, Join, Loop, CloseRegion, CloseLexical, EndLoan, Handler, Caller, Main, Write, Focus, Evaluating, Locating, Given, GivenPlace}
+use Rattle.cyc_meaning.specs.State.{Executing, Proceeding, Calling, Entering, Binding, Naming, Writing, Beginning, Repeating, Swapping, Breaking, Continuing, Returning, Throwing, Catching, State}
+use Rattle.cyc_meaning.specs.Objects.{created}
+use Rattle.cyc_meaning.specs.Parts.{step_writing, closing}
+use Rattle.cyc_meaning.specs.Allocation.{blanks}
+use Rattle.cyc_meaning.specs.Exceptions.{throws, catches, step_catching}
+use Rattle.cyc_meaning.specs.Regions.{closing_lexical}
+use Rattle.cyc_meaning.specs.Step.{values_of, called, step_calling, step_binding, step_executing, declares, continues_with, step_proceeding, step_breaking, step_continuing, returned, ends_with, main_returned, step_returning, step_throwing, stepped}
 use Rattle.cyc_meaning.specs.Step as steps
+use Rattle.cyc_bound.proofs.FrameValues.{under, either, loads_from, stores_at, names, locating, swapping, swapping_values, given_place, begins, evaluating, given}
 
 module _ (program : Program) (below : List Entry) where
-  -- a state, with more entries below its stack
-  abbrev pub under : State → State
-  under (Running focus stack e w) = Running focus (stack ++ below) e w
-  under (Ended ending output input) = Ended ending output input
-  under (Dead output input) = Dead output input
-  under (Wrong output input) = Wrong output input
+  abbrev U : State → State
+  U s = under program below s
 
-  either : (b : Bool) (s t u v : State) → s ≡ under u → t ≡ under v → (if b then s else t) ≡ under (if b then u else v)
-  either true s t u v first second = first
-  either false s t u v first second = second
-
-  computes : (kind : Kind) (r : Result) (stack : List Entry) (e : Environment) (w : World) → computed kind r (stack ++ below) e w ≡ under (computed kind r stack e w)
-  computes kind (Gives value) stack e w = refl
-  computes kind (Raises tag) stack e w = refl
-  computes kind Misfits stack e w = refl
-
-  reads_cell : (kind : Kind) (o : Option Value) (stack : List Entry) (e : Environment) (w : World) → read kind o (stack ++ below) e w ≡ under (read kind o stack e w)
-  reads_cell kind (Some value) stack e w = refl
-  reads_cell kind None stack e w = refl
-
-  loads : (kind : Kind) (a : Access Located) (stack : List Entry) (e : Environment) (w : World) → loaded kind a (stack ++ below) e w ≡ under (loaded kind a stack e w)
-  loads kind (Found at) stack e w = either (is_kind at.cell.kind kind) _ _ _ _ (reads_cell kind at.cell.content stack e w) refl
-  loads kind Closed stack e w = refl
-  loads kind Missing stack e w = refl
-
-  loads_from : (kind : Kind) (o : Option ℕ) (stack : List Entry) (e : Environment) (w : World) → loaded_from kind o (stack ++ below) e w ≡ under (loaded_from kind o stack e w)
-  loads_from kind (Some object) stack e w = loads kind (cell_at w object 0) stack e w
-  loads_from kind None stack e w = refl
-
-  stores : (a : Access Located) (object offset : ℕ) (v : Operand) (focus : Focus) (stack : List Entry) (e : Environment) (w : World) → stored a object offset v focus (stack ++ below) e w ≡ under (stored a object offset v focus stack e w)
-  stores (Found at) object offset v focus stack e w = either (is_kind at.cell.kind v.kind) _ _ _ _ refl refl
-  stores Closed object offset v focus stack e w = refl
-  stores Missing object offset v focus stack e w = refl
-
-  stores_at : (place : Value) (v : Operand) (focus : Focus) (stack : List Entry) (e : Environment) (w : World) → stored_at place v focus (stack ++ below) e w ≡ under (stored_at place v focus stack e w)
-  stores_at (Thin object offset) v focus stack e w = stores (cell_at w object offset) object offset v focus stack e w
-  stores_at Null v focus stack e w = refl
-  stores_at (Int n) v focus stack e w = refl
-  stores_at (Fat object start count index) v focus stack e w = refl
-  stores_at (Handle region) v focus stack e w = refl
-  stores_at (Key region) v focus stack e w = refl
-
-  writing : (writes : List Write) (o : Option Operand) (stack : List Entry) (e : Environment) (w : World) → step_writing writes o (stack ++ below) e w ≡ under (step_writing writes o stack e w)
+  writing : (writes : List Write) (o : Option Operand) (stack : List Entry) (e : Environment) (w : World) → step_writing writes o (stack ++ below) e w ≡ U (step_writing writes o stack e w)
   writing [] (Some v) stack e w = refl
   writing [] None stack e w = refl
-  writing (x ∷ writes) o stack e w = stores_at x.place x.operand (Writing writes o) stack e w
+  writing (x ∷ writes) o stack e w = stores_at program below x.place x.operand (Writing writes o) stack e w
 
-  names : (a : Access Region) (focus : Focus) (number : ℕ) (kind : Kind) (content : Option Value) (stack : List Entry) (e : Environment) (w : World) → declared a focus number kind content (stack ++ below) e w ≡ under (declared a focus number kind content stack e w)
-  names (Found r) focus number kind content stack e w = refl
-  names Closed focus number kind content stack e w = refl
-  names Missing focus number kind content stack e w = refl
-
-  closes : (a : Access Region) (focus : Focus) (region home : ℕ) (stack : List Entry) (e : Environment) (w : World) → closing a focus region home (stack ++ below) e w ≡ under (closing a focus region home stack e w)
-  closes (Found r) focus region home stack e w = refl
-  closes Closed focus region home stack e w = refl
-  closes Missing focus region home stack e w = refl
-
-  closes_lexical : (a : Access Region) (focus : Focus) (region : ℕ) (stack : List Entry) (e : Environment) (w : World) → closing_lexical a focus region (stack ++ below) e w ≡ under (closing_lexical a focus region stack e w)
-  closes_lexical (Found r) focus region stack e w = refl
-  closes_lexical Closed focus region stack e w = refl
-  closes_lexical Missing focus region stack e w = refl
-
-  putchar_prints : (arguments : List Value) (stack : List Entry) (e : Environment) (w : World) → steps.prints arguments (stack ++ below) e w ≡ under (steps.prints arguments stack e w)
+  putchar_prints : (arguments : List Value) (stack : List Entry) (e : Environment) (w : World) → steps.prints arguments (stack ++ below) e w ≡ U (steps.prints arguments stack e w)
   putchar_prints [] stack e w = refl
   putchar_prints (Int word ∷ []) stack e w = refl
   putchar_prints (Int word ∷ value ∷ arguments) stack e w = refl
@@ -106,365 +39,43 @@ module _ (program : Program) (below : List Entry) where
   putchar_prints (Handle region ∷ arguments) stack e w = refl
   putchar_prints (Key region ∷ arguments) stack e w = refl
 
-  getchar_reads : (arguments : List Value) (stack : List Entry) (e : Environment) (w : World) → steps.reads arguments (stack ++ below) e w ≡ under (steps.reads arguments stack e w)
+  getchar_reads : (arguments : List Value) (stack : List Entry) (e : Environment) (w : World) → steps.reads arguments (stack ++ below) e w ≡ U (steps.reads arguments stack e w)
   getchar_reads [] stack e w = refl
   getchar_reads (value ∷ arguments) stack e w = refl
 
-  binding : (number : ℕ) (types : List Ty) (arguments : List Operand) (body : Items) (stack : List Entry) (e : Environment) (w : World) → step_binding number types arguments body (stack ++ below) e w ≡ under (step_binding number types arguments body stack e w)
+  binding : (number : ℕ) (types : List Ty) (arguments : List Operand) (body : Items) (stack : List Entry) (e : Environment) (w : World) → step_binding number types arguments body (stack ++ below) e w ≡ U (step_binding number types arguments body stack e w)
   binding number [] [] body stack e w = refl
   binding number [] (value ∷ arguments) body stack e w = refl
   binding number (type ∷ types) [] body stack e w = refl
   binding number (type ∷ types) (value ∷ arguments) body stack e w =
-      either (is_kind value.kind (kind_of type)) _ _ _ _ (names (region_at w e.home) (Binding (suc number) types arguments body) number (kind_of type) (Some value.value) stack e w) refl
-
-  -- ---- places
-
-  arriving : (r : Reach) (stack : List Entry) (e : Environment) (w : World) → arrives r (stack ++ below) e w ≡ under (arrives r stack e w)
-  arriving (At object offset) stack e w = refl
-  arriving (Stops tag) stack e w = refl
-  arriving Nowhere stack e w = refl
-
-  locating_member : (o : Option StructType) (pointer : Kind) (a : Expression) (field : ℕ) (stack : List Entry) (e : Environment) (w : World) → locates_member o pointer a field (stack ++ below) e w ≡ under (locates_member o pointer a field stack e w)
-  locating_member (Some s) pointer a field stack e w = refl
-  locating_member None pointer a field stack e w = refl
-
-  locating : (d : Dereference) (stack : List Entry) (e : Environment) (w : World) → step_locating program d (stack ++ below) e w ≡ under (step_locating program d stack e w)
-  locating (Target pointer a type) stack e w = refl
-  locating (Member pointer a s field type) stack e w = locating_member (slice_get program.structs s) pointer a field stack e w
-  locating (Element a i type) stack e w = refl
-
-  loading_at : (kind : Kind) (place : Value) (stack : List Entry) (e : Environment) (w : World) → loaded_at kind place (stack ++ below) e w ≡ under (loaded_at kind place stack e w)
-  loading_at kind (Thin object offset) stack e w = loads kind (cell_at w object offset) stack e w
-  loading_at kind Null stack e w = refl
-  loading_at kind (Int n) stack e w = refl
-  loading_at kind (Fat object start count index) stack e w = refl
-  loading_at kind (Handle region) stack e w = refl
-  loading_at kind (Key region) stack e w = refl
-
-  -- ---- swaps
-
-  finding_right_object : (kind : Kind) (before : Value) (o : Option ℕ) (stack : List Entry) (e : Environment) (w : World) → finds_right_object kind before o (stack ++ below) e w ≡ under (finds_right_object kind before o stack e w)
-  finding_right_object kind before (Some object) stack e w = refl
-  finding_right_object kind before None stack e w = refl
-
-  finding_right : (kind : Kind) (peek : Option ℕ) (is_cell : Bool) (before : Value) (right : Side) (stack : List Entry) (e : Environment) (w : World) → finds_right kind peek is_cell before right (stack ++ below) e w ≡ under (finds_right kind peek is_cell before right stack e w)
-  finding_right kind peek is_cell before (VariableSide l type) stack e w = finding_right_object kind before (object_of e l) stack e w
-  finding_right kind peek is_cell before (CellSide d) stack e w = refl
-
-  finding_left : (kind : Kind) (o : Option ℕ) (right : Side) (stack : List Entry) (e : Environment) (w : World) → finds_left_object kind o right (stack ++ below) e w ≡ under (finds_left_object kind o right stack e w)
-  finding_left kind (Some object) right stack e w = finding_right kind None false (Thin object 0) right stack e w
-  finding_left kind None right stack e w = refl
-
-  swapping : (first right : Side) (stack : List Entry) (e : Environment) (w : World) → swaps first right (stack ++ below) e w ≡ under (swaps first right stack e w)
-  swapping (VariableSide l type) right stack e w = finding_left (kind_of type) (object_of e l) right stack e w
-  swapping (CellSide d) right stack e w = refl
-
-  swap_reads : (kind : Kind) (first right : Value) (before : Option Operand) (o : Option Value) (stack : List Entry) (e : Environment) (w : World) → swap_content kind first right before o (stack ++ below) e w ≡ under (swap_content kind first right before o stack e w)
-  swap_reads kind first right None (Some value) stack e w = refl
-  swap_reads kind first right (Some before) (Some value) stack e w = refl
-  swap_reads kind first right before None stack e w = refl
-
-  swap_loads : (kind : Kind) (first right : Value) (before : Option Operand) (a : Access Located) (stack : List Entry) (e : Environment) (w : World) → swap_loaded kind first right before a (stack ++ below) e w ≡ under (swap_loaded kind first right before a stack e w)
-  swap_loads kind first right before (Found at) stack e w = either (is_kind at.cell.kind kind) _ _ _ _ (swap_reads kind first right before at.cell.content stack e w) refl
-  swap_loads kind first right before Closed stack e w = refl
-  swap_loads kind first right before Missing stack e w = refl
-
-  swap_loads_at : (kind : Kind) (first right : Value) (before : Option Operand) (place : Value) (stack : List Entry) (e : Environment) (w : World) → swap_loaded_at kind first right before place (stack ++ below) e w ≡ under (swap_loaded_at kind first right before place stack e w)
-  swap_loads_at kind first right before (Thin object offset) stack e w = swap_loads kind first right before (cell_at w object offset) stack e w
-  swap_loads_at kind first right before Null stack e w = refl
-  swap_loads_at kind first right before (Int n) stack e w = refl
-  swap_loads_at kind first right before (Fat object start count index) stack e w = refl
-  swap_loads_at kind first right before (Handle region) stack e w = refl
-  swap_loads_at kind first right before (Key region) stack e w = refl
-
-  swapping_values : (kind : Kind) (first right : Value) (o : Option Operand) (stack : List Entry) (e : Environment) (w : World) → step_swapping kind first right o (stack ++ below) e w ≡ under (step_swapping kind first right o stack e w)
-  swapping_values kind first right None stack e w = swap_loads_at kind first right None first stack e w
-  swapping_values kind first right (Some before) stack e w = swap_loads_at kind first right (Some before) right stack e w
-
-  given_place : (place : Value) (entry : Entry) (stack : List Entry) (e : Environment) (w : World) → step_given_place place (entry ∷ (stack ++ below)) e w ≡ under (step_given_place place (entry ∷ stack) e w)
-  given_place place (NeedsPlace (LoadFrom kind)) stack e w = loading_at kind place stack e w
-  given_place place (NeedsPlace TakeAddress) stack e w = refl
-  given_place place (NeedsPlace (StoreTo peek (Convert from to a))) stack e w = refl
-  given_place place (NeedsPlace (SwapLeft kind peek right)) stack e w = finding_right kind peek true place right stack e w
-  given_place place (NeedsPlace (SwapRight kind peek is_cell before)) stack e w = refl
-  given_place place (Needs a) stack e w = refl
-  given_place place Discard stack e w = refl
-  given_place place (Rest items) stack e w = refl
-  given_place place Join stack e w = refl
-  given_place place (Loop condition body) stack e w = refl
-  given_place place (CloseRegion region home) stack e w = refl
-  given_place place (CloseLexical region) stack e w = refl
-  given_place place (EndLoan lent) stack e w = refl
-  given_place place (Handler handler) stack e w = refl
-  given_place place (Caller outer) stack e w = refl
-  given_place place Main stack e w = refl
-
-  -- ---- new objects
-
-  filling : (a : Access World) (object : ℕ) (values : List Operand) (stack : List Entry) (e : Environment) (w : World) → filled a object values (stack ++ below) e w ≡ under (filled a object values stack e w)
-  filling (Found new) object values stack e w = refl
-  filling Closed object values stack e w = refl
-  filling Missing object values stack e w = refl
-
-  making : (owner : Owner) (values : List Operand) (stack : List Entry) (e : Environment) (w : World) → makes_of owner values (stack ++ below) e w ≡ under (makes_of owner values stack e w)
-  making owner values stack e w = filling (created w owner (blanks_of values)) (length w.objects) values stack e w
-
-  making_fields : (owner : Owner) (before : List Operand) (fields : Arguments) (stack : List Entry) (e : Environment) (w : World) → makes_fields owner before fields (stack ++ below) e w ≡ under (makes_fields owner before fields stack e w)
-  making_fields owner before NoArguments stack e w = making owner (reverse before) stack e w
-  making_fields owner before (MoreArguments (Convert from to a) fields) stack e w = refl
-
-  begins : (a : Access World) (object count level : ℕ) (kind : Kind) (element : Expression) (stack : List Entry) (e : Environment) (w : World) → begun a object count level kind element (stack ++ below) e w ≡ under (begun a object count level kind element stack e w)
-  begins (Found new) object count level kind element stack e w = refl
-  begins Closed object count level kind element stack e w = refl
-  begins Missing object count level kind element stack e w = refl
-
-  making_array : (owner : Owner) (level : ℕ) (kind : Kind) (element : Expression) (value : Value) (stack : List Entry) (e : Environment) (w : World) → makes_array owner level kind element value (stack ++ below) e w ≡ under (makes_array owner level kind element value stack e w)
-  making_array owner level kind element (Int count) stack e w = either (nat_le (words_for (count * bytes_of_kind kind)) most_words) _ _ _ _ refl refl
-  making_array owner level kind element Null stack e w = refl
-  making_array owner level kind element (Thin object offset) stack e w = refl
-  making_array owner level kind element (Fat object start count index) stack e w = refl
-  making_array owner level kind element (Handle region) stack e w = refl
-  making_array owner level kind element (Key region) stack e w = refl
-
-  filling_element : (object count index level : ℕ) (kind : Kind) (element : Expression) (v : Operand) (stack : List Entry) (e : Environment) (w : World) → fills_element object count index level kind element v (stack ++ below) e w ≡ under (fills_element object count index level kind element v stack e w)
-  filling_element object count index level kind element v stack e w =
-      either (is_kind v.kind kind) _ _ _ _ (stores (cell_at w object index) object index v (Repeating object count (suc index) level kind element) stack e w) refl
-
-  making_initial : (owner : Owner) (initial : Initial) (stack : List Entry) (e : Environment) (w : World) → makes owner initial (stack ++ below) e w ≡ under (makes owner initial stack e w)
-  making_initial owner (Plain kind a) stack e w = refl
-  making_initial owner (Fields fields) stack e w = making_fields owner [] fields stack e w
-  making_initial owner (Array place level count kind element) stack e w = refl
-
-  allocating : (placement : Placement) (initial : Initial) (stack : List Entry) (e : Environment) (w : World) → allocates placement initial (stack ++ below) e w ≡ under (allocates placement initial stack e w)
-  allocating OnHeap initial stack e w = making_initial (InRegion 0) initial stack e w
-  allocating AsUnique initial stack e w = making_initial (Unique true) initial stack e w
-  allocating (ByHandle a) initial stack e w = refl
-
-  placing : (initial : Initial) (value : Value) (stack : List Entry) (e : Environment) (w : World) → makes_by initial value (stack ++ below) e w ≡ under (makes_by initial value stack e w)
-  placing initial (Handle region) stack e w = making_initial (InRegion region) initial (Needs (BesideHandle region) ∷ stack) e w
-  placing initial Null stack e w = refl
-  placing initial (Int n) stack e w = refl
-  placing initial (Thin object offset) stack e w = refl
-  placing initial (Fat object start count index) stack e w = refl
-  placing initial (Key region) stack e w = refl
-
-  -- ---- regions
-
-  opening_by : (a : Access Region) (region number lent : ℕ) (items : Items) (stack : List Entry) (e : Environment) (w : World) → opened_by a region number lent items (stack ++ below) e w ≡ under (opened_by a region number lent items stack e w)
-  opening_by (Found r) region number lent items stack e w = either (is_dynamic r.sort) _ _ _ _ refl refl
-  opening_by Closed region number lent items stack e w = refl
-  opening_by Missing region number lent items stack e w = refl
-
-  opening_with : (number lent : ℕ) (items : Items) (key : Value) (stack : List Entry) (e : Environment) (w : World) → opens_with number lent items key (stack ++ below) e w ≡ under (opens_with number lent items key stack e w)
-  opening_with number lent items (Key region) stack e w = opening_by (region_at w region) region number lent items stack e w
-  opening_with number lent items Null stack e w = refl
-  opening_with number lent items (Int n) stack e w = refl
-  opening_with number lent items (Thin object offset) stack e w = refl
-  opening_with number lent items (Fat object start count index) stack e w = refl
-  opening_with number lent items (Handle region) stack e w = refl
-
-  closing_dynamic : (a : Access Region) (region : ℕ) (stack : List Entry) (e : Environment) (w : World) → closes_dynamic a region (stack ++ below) e w ≡ under (closes_dynamic a region stack e w)
-  closing_dynamic (Found r) region stack e w = either (is_dynamic r.sort) _ _ _ _ refl refl
-  closing_dynamic Closed region stack e w = refl
-  closing_dynamic Missing region stack e w = refl
-
-  closing_with : (key : Value) (stack : List Entry) (e : Environment) (w : World) → closes_with key (stack ++ below) e w ≡ under (closes_with key stack e w)
-  closing_with (Key region) stack e w = closing_dynamic (region_at w region) region stack e w
-  closing_with Null stack e w = refl
-  closing_with (Int n) stack e w = refl
-  closing_with (Thin object offset) stack e w = refl
-  closing_with (Fat object start count index) stack e w = refl
-  closing_with (Handle region) stack e w = refl
-
-  freeing_in_region : (a : Access Region) (w : World) → frees_in_region a w ≡ under (frees_in_region a w)
-  freeing_in_region (Found r) w = refl
-  freeing_in_region Closed w = refl
-  freeing_in_region Missing w = refl
-
-  freeing_owned : (owner : Owner) (number : ℕ) (x : Object) (stack : List Entry) (e : Environment) (w : World) → frees_owned owner number x (stack ++ below) e w ≡ under (frees_owned owner number x stack e w)
-  freeing_owned (InRegion region) number x stack e w = freeing_in_region (region_at w region) w
-  freeing_owned (Unique true) number x stack e w = refl
-  freeing_owned (Unique false) number x stack e w = refl
-
-  freeing_object : (o : Option Object) (number : ℕ) (stack : List Entry) (e : Environment) (w : World) → frees_object o number (stack ++ below) e w ≡ under (frees_object o number stack e w)
-  freeing_object (Some x) number stack e w = freeing_owned x.owner number x stack e w
-  freeing_object None number stack e w = refl
-
-  freeing : (value : Value) (stack : List Entry) (e : Environment) (w : World) → frees value (stack ++ below) e w ≡ under (frees value stack e w)
-  freeing Null stack e w = refl
-  freeing (Thin object offset) stack e w = either (offset == 0) _ _ _ _ (freeing_object (slice_get w.objects object) object stack e w) refl
-  freeing (Fat object start count index) stack e w = either (start == 0) _ _ _ _ (freeing_object (slice_get w.objects object) object stack e w) refl
-  freeing (Int n) stack e w = refl
-  freeing (Handle region) stack e w = refl
-  freeing (Key region) stack e w = refl
+      either program below (is_kind value.kind (kind_of type)) _ _ _ _ (names program below (region_at w e.home) (Binding (suc number) types arguments body) number (kind_of type) (Some value.value) stack e w) refl
 
   -- ---- exceptions
 
-  throwing_new : (tag : ℕ) (o : Option Expression) (stack : List Entry) (e : Environment) (w : World) → throws tag o (stack ++ below) e w ≡ under (throws tag o stack e w)
-  throwing_new tag None stack e w = refl
-  throwing_new tag (Some a) stack e w = refl
-
-  throwing_value : (tag : ℕ) (value : Value) (stack : List Entry) (e : Environment) (w : World) → throws_value tag value (stack ++ below) e w ≡ under (throws_value tag value stack e w)
-  throwing_value tag (Int word) stack e w = refl
-  throwing_value tag Null stack e w = refl
-  throwing_value tag (Thin object offset) stack e w = refl
-  throwing_value tag (Fat object start count index) stack e w = refl
-  throwing_value tag (Handle region) stack e w = refl
-  throwing_value tag (Key region) stack e w = refl
-
-  catching_in : (value : ℕ) (number : Option ℕ) (items : Items) (stack : List Entry) (e : Environment) (w : World) → catches value number items (stack ++ below) e w ≡ under (catches value number items stack e w)
+  catching_in : (value : ℕ) (number : Option ℕ) (items : Items) (stack : List Entry) (e : Environment) (w : World) → catches value number items (stack ++ below) e w ≡ U (catches value number items stack e w)
   catching_in value None items stack e w = refl
   catching_in value (Some number) items stack e w = refl
 
-  catching : (tag value : ℕ) (clauses : Clauses) (stack : List Entry) (e : Environment) (w : World) → step_catching tag value clauses (stack ++ below) e w ≡ under (step_catching tag value clauses stack e w)
+  catching : (tag value : ℕ) (clauses : Clauses) (stack : List Entry) (e : Environment) (w : World) → step_catching tag value clauses (stack ++ below) e w ≡ U (step_catching tag value clauses stack e w)
   catching tag value NoClauses stack e w = refl
   catching tag value (Default region items) stack e w = catching_in value None items stack e w
-  catching tag value (Case caught number region items later) stack e w = either (caught == tag) _ _ _ _ (catching_in value number items stack e w) refl
-
-  -- ---- evaluation
-
-  passing : (callee : Callee) (before : List Operand) (later : Arguments) (stack : List Entry) (e : Environment) (w : World) → passes callee before later (stack ++ below) e w ≡ under (passes callee before later stack e w)
-  passing callee before NoArguments stack e w = refl
-  passing callee before (MoreArguments (Convert from to a) later) stack e w = refl
-
-  assigns : (o : Option ℕ) (c : Converted) (stack : List Entry) (e : Environment) (w : World) → assigned o c (stack ++ below) e w ≡ under (assigned o c stack e w)
-  assigns (Some object) (Convert from to a) stack e w = refl
-  assigns None c stack e w = refl
-
-  addressing : (o : Option ℕ) (stack : List Entry) (e : Environment) (w : World) → addressed o (stack ++ below) e w ≡ under (addressed o stack e w)
-  addressing (Some object) stack e w = refl
-  addressing None stack e w = refl
-
-  counting : (o : Option ℕ) (stack : List Entry) (e : Environment) (w : World) → counts o (stack ++ below) e w ≡ under (counts o stack e w)
-  counting (Some index) stack e w = refl
-  counting None stack e w = refl
-
-  evaluating : (a : Expression) (stack : List Entry) (e : Environment) (w : World) → step_evaluating a (stack ++ below) e w ≡ under (step_evaluating a stack e w)
-  evaluating (Number n) stack e w = refl
-  evaluating NullPointer stack e w = refl
-  evaluating HeapRegion stack e w = refl
-  evaluating (Counter level) stack e w = counting (e.counters level) stack e w
-  evaluating (Copy place type) stack e w = loads_from (kind_of type) (object_of e place) stack e w
-  evaluating (Move p number type) stack e w = loads_from (kind_of type) (e.locals number) stack e w
-  evaluating (Peek p number type) stack e w = loads_from (kind_of type) (e.locals number) stack e w
-  evaluating (Load d) stack e w = refl
-  evaluating (AddressOf place type) stack e w = addressing (object_of e place) stack e w
-  evaluating (AddressOfCell d type) stack e w = refl
-  evaluating (NumberOfElements a) stack e w = refl
-  evaluating (FreeUnique a) stack e w = refl
-  evaluating (FreeKey a) stack e w = refl
-  evaluating (Call callee later type) stack e w = passing callee [] later stack e w
-  evaluating (Unary operator a) stack e w = refl
-  evaluating (Binary a rest type) stack e w = refl
-  evaluating (Assign place c type) stack e w = assigns (object_of e place) c stack e w
-  evaluating (typed.Store d c type) stack e w = refl
-  evaluating (New placement initial type) stack e w = allocating placement initial stack e w
-
-  deciding : (decides fails : Bool) (b : Expression) (rest : Operations) (stack : List Entry) (e : Environment) (w : World) → decided decides fails b rest (stack ++ below) e w ≡ under (decided decides fails b rest stack e w)
-  deciding true fails b rest stack e w = refl
-  deciding false fails b rest stack e w = refl
-
-  testing : (o : Option Bool) (operator : LogicalOperator) (b : Expression) (rest : Operations) (stack : List Entry) (e : Environment) (w : World) → tested o operator b rest (stack ++ below) e w ≡ under (tested o operator b rest stack e w)
-  testing (Some fails) operator b rest stack e w = deciding (decides operator fails) fails b rest stack e w
-  testing None operator b rest stack e w = refl
-
-  awaiting_right : (fits : Bool) (waiting : Awaiting) (b : Expression) (rest : Operations) (stack : List Entry) (e : Environment) (w : World) → awaits_right fits waiting b rest (stack ++ below) e w ≡ under (awaits_right fits waiting b rest stack e w)
-  awaiting_right true waiting b rest stack e w = refl
-  awaiting_right false waiting b rest stack e w = refl
-
-  chaining : (rest : Operations) (v : Operand) (stack : List Entry) (e : Environment) (w : World) → chained rest v (stack ++ below) e w ≡ under (chained rest v stack e w)
-  chaining NoOperations v stack e w = refl
-  chaining (ThenCompute operator b rest) v stack e w = awaiting_right (is_kind v.kind kinds.Int) (Apply operator v) b rest stack e w
-  chaining (ThenTest operator b rest) v stack e w = testing (is_zero v.value) operator b rest stack e w
-  chaining (ThenPointer operator b rest) v stack e w = awaiting_right (takes_kind operator v.kind) (ApplyPointer None operator v) b rest stack e w
-  chaining (ThenPointerPeek number operator b rest) v stack e w = awaiting_right (takes_kind operator v.kind) (ApplyPointer (Some number) operator v) b rest stack e w
-
-  telling : (negated : Bool) (a : Access Bool) (stack : List Entry) (e : Environment) (w : World) → tells negated a (stack ++ below) e w ≡ under (tells negated a stack e w)
-  telling false (Found equal) stack e w = refl
-  telling true (Found equal) stack e w = refl
-  telling false Closed stack e w = refl
-  telling true Closed stack e w = refl
-  telling false Missing stack e w = refl
-  telling true Missing stack e w = refl
-
-  applying_pointer : (operator : PointerOperator) (first second : Value) (stack : List Entry) (e : Environment) (w : World) → applies_pointer operator first second (stack ++ below) e w ≡ under (applies_pointer operator first second stack e w)
-  applying_pointer pointers.EqualThin first second stack e w = telling false (compared w first second) stack e w
-  applying_pointer pointers.NotEqualThin first second stack e w = telling true (compared w first second) stack e w
-  applying_pointer pointers.AddFat first second stack e w = computes _ (pointer_result pointers.AddFat first second) stack e w
-  applying_pointer pointers.SubtractFat first second stack e w = computes _ (pointer_result pointers.SubtractFat first second) stack e w
-  applying_pointer pointers.ThinIsNull first second stack e w = computes _ (pointer_result pointers.ThinIsNull first second) stack e w
-  applying_pointer pointers.ThinIsNotNull first second stack e w = computes _ (pointer_result pointers.ThinIsNotNull first second) stack e w
-  applying_pointer pointers.FatIsNull first second stack e w = computes _ (pointer_result pointers.FatIsNull first second) stack e w
-  applying_pointer pointers.FatIsNotNull first second stack e w = computes _ (pointer_result pointers.FatIsNotNull first second) stack e w
-  applying_pointer pointers.NullIs first second stack e w = computes _ (pointer_result pointers.NullIs first second) stack e w
-  applying_pointer pointers.NullIsNot first second stack e w = computes _ (pointer_result pointers.NullIsNot first second) stack e w
-
-  choosing : (o : Option Bool) (first second : Statement) (stack : List Entry) (e : Environment) (w : World) → chosen o first second (stack ++ below) e w ≡ under (chosen o first second stack e w)
-  choosing (Some true) first second stack e w = refl
-  choosing (Some false) first second stack e w = refl
-  choosing None first second stack e w = refl
-
-  looping : (o : Option Bool) (condition : Expression) (body : Statement) (stack : List Entry) (e : Environment) (w : World) → looped o condition body (stack ++ below) e w ≡ under (looped o condition body stack e w)
-  looping (Some true) condition body stack e w = refl
-  looping (Some false) condition body stack e w = refl
-  looping None condition body stack e w = refl
-
-  supplying : (a : Awaiting) (v : Operand) (stack : List Entry) (e : Environment) (w : World) → supplied a v (stack ++ below) e w ≡ under (supplied a v stack e w)
-  supplying (ConvertTo from to target) v stack e w = either (is_kind v.kind from && leads_to w target (followed v.value)) _ _ _ _ (computes to (conversion to v.value) stack e w) refl
-  supplying (Operate operator) v stack e w = computes (unary_kind operator) (unary_result operator v.value) stack e w
-  supplying (Chain rest) v stack e w = chaining rest v stack e w
-  supplying (Apply operator before) v stack e w = computes kinds.Int (binary_result operator before.value v.value) stack e w
-  supplying (ApplyPointer peek operator before) v stack e w = applying_pointer operator before.value v.value stack e w
-  supplying Decide v stack e w = computes kinds.Int (truth_of (is_zero v.value)) stack e w
-  supplying (Store place) v stack e w = stores_at place v (Given v) stack e w
-  supplying (StoreCell peek place) v stack e w = stores_at place v (Given v) stack e w
-  supplying (Pass callee before later) v stack e w = passing callee (v ∷ before) later stack e w
-  supplying (Follow pointer target) v stack e w = either (is_kind v.kind pointer && leads_to w target (followed v.value)) _ _ _ _ (arriving (followed v.value) stack e w) refl
-  supplying (FollowMember pointer fields field) v stack e w = either (is_kind v.kind pointer) _ _ _ _ (arriving (member_of w (followed v.value) fields field) stack e w) refl
-  supplying (Index peek target index) v stack e w = either (is_kind v.kind kinds.Fat) _ _ _ _ refl refl
-  supplying (Advance peek target base) v stack e w = computes kinds.Fat (pointer_result pointers.AddFat base.value v.value) (Needs (Follow kinds.Fat target) ∷ stack) e w
-  supplying CountElements v stack e w = computes kinds.Int (element_count v.value) stack e w
-  supplying FreeObject v stack e w = freeing v.value stack e w
-  supplying CloseByKey v stack e w = closing_with v.value stack e w
-  supplying (PlaceBy initial) v stack e w = placing initial v.value stack e w
-  supplying (BesideHandle region) v stack e w = refl
-  supplying (MakePlain owner kind) v stack e w = either (is_kind v.kind kind) _ _ _ _ (making owner (v ∷ []) stack e w) refl
-  supplying (MakeFields owner before fields) v stack e w = making_fields owner (v ∷ before) fields stack e w
-  supplying (MakeArray owner level kind element) v stack e w = making_array owner level kind element v.value stack e w
-  supplying (FillElement object count index level kind element) v stack e w = filling_element object count index level kind element v stack e w
-  supplying (Initialise number kind items) v stack e w = either (is_kind v.kind kind) _ _ _ _ (names (region_at w e.home) Proceeding number kind (Some v.value) (Rest items ∷ stack) e w) refl
-  supplying (Choose first second) v stack e w = choosing (is_zero v.value) first second stack e w
-  supplying (Test condition body) v stack e w = looping (is_zero v.value) condition body stack e w
-  supplying Return v stack e w = refl
-  supplying (ThrowWith tag) v stack e w = throwing_value tag v.value stack e w
-  supplying (OpenBy number lent items) v stack e w = opening_with number lent items v.value stack e w
-  supplying (AliasOf number lent items) v stack e w = refl
-
-  given : (v : Operand) (entry : Entry) (stack : List Entry) (e : Environment) (w : World) → step_given v (entry ∷ (stack ++ below)) e w ≡ under (step_given v (entry ∷ stack) e w)
-  given v (Needs a) stack e w = supplying a v stack e w
-  given v (NeedsPlace a) stack e w = refl
-  given v Discard stack e w = refl
-  given v (Rest items) stack e w = refl
-  given v Join stack e w = refl
-  given v (Loop condition body) stack e w = refl
-  given v (CloseRegion region home) stack e w = refl
-  given v (CloseLexical region) stack e w = refl
-  given v (EndLoan lent) stack e w = refl
-  given v (Handler handler) stack e w = refl
-  given v (Caller outer) stack e w = refl
-  given v Main stack e w = refl
+  catching tag value (Case caught number region items later) stack e w = either program below (caught == tag) _ _ _ _ (catching_in value number items stack e w) refl
 
   -- ---- statements
 
-  returning_value : (o : Option Converted) (stack : List Entry) (e : Environment) (w : World) → steps.returns o (stack ++ below) e w ≡ under (steps.returns o stack e w)
+  returning_value : (o : Option Converted) (stack : List Entry) (e : Environment) (w : World) → steps.returns o (stack ++ below) e w ≡ U (steps.returns o stack e w)
   returning_value None stack e w = refl
   returning_value (Some (Convert from to a)) stack e w = refl
 
-  executing : (s : Statement) (stack : List Entry) (e : Environment) (w : World) → step_executing s (stack ++ below) e w ≡ under (step_executing s stack e w)
+  throwing_new : (tag : ℕ) (o : Option Expression) (stack : List Entry) (e : Environment) (w : World) → throws tag o (stack ++ below) e w ≡ U (throws tag o stack e w)
+  throwing_new tag None stack e w = refl
+  throwing_new tag (Some a) stack e w = refl
+
+  executing : (s : Statement) (stack : List Entry) (e : Environment) (w : World) → step_executing s (stack ++ below) e w ≡ U (step_executing s stack e w)
   executing (Block region items) stack e w = refl
   executing Empty stack e w = refl
   executing (Evaluate a) stack e w = refl
-  executing (Swap first right) stack e w = swapping first right stack e w
+  executing (Swap first right) stack e w = swapping program below first right stack e w
   executing (If condition first second) stack e w = refl
   executing (While place condition body) stack e w = refl
   executing (typed.Return value) stack e w = returning_value value stack e w
@@ -473,22 +84,32 @@ module _ (program : Program) (below : List Entry) where
   executing (Throw tag value) stack e w = throwing_new tag value stack e w
   executing (Try s handler) stack e w = refl
 
-  declaring : (number : ℕ) (type : Ty) (o : Option Converted) (items : Items) (stack : List Entry) (e : Environment) (w : World) → declares number type o items (stack ++ below) e w ≡ under (declares number type o items stack e w)
-  declaring number type None items stack e w = names (region_at w e.home) Proceeding number (kind_of type) None (Rest items ∷ stack) e w
+  declaring : (number : ℕ) (type : Ty) (o : Option Converted) (items : Items) (stack : List Entry) (e : Environment) (w : World) → declares number type o items (stack ++ below) e w ≡ U (declares number type o items stack e w)
+  declaring number type None items stack e w = names program below (region_at w e.home) Proceeding number (kind_of type) None (Rest items ∷ stack) e w
   declaring number type (Some (Convert from to a)) items stack e w = refl
 
-  continuing_with : (items : Items) (stack : List Entry) (e : Environment) (w : World) → continues_with items (stack ++ below) e w ≡ under (continues_with items stack e w)
+  continuing_with : (items : Items) (stack : List Entry) (e : Environment) (w : World) → continues_with items (stack ++ below) e w ≡ U (continues_with items stack e w)
   continuing_with NoItems stack e w = refl
   continuing_with (MoreItems (Execute s) items) stack e w = refl
   continuing_with (MoreItems (Declare number type value) items) stack e w = declaring number type value items stack e w
   continuing_with (MoreItems (DeclareRegion region number) items) stack e w = refl
-  continuing_with (MoreItems (OpenRegion region number p key) items) stack e w = loads_from kinds.Key (e.locals key) (Needs (OpenBy number key items) ∷ stack) e w
-  continuing_with (MoreItems (DeclareAlias region number type p source) items) stack e w = loads_from (kind_of type) (e.locals source) (Needs (AliasOf number source items) ∷ stack) e w
+  continuing_with (MoreItems (OpenRegion region number p key) items) stack e w = loads_from program below kinds.Key (e.locals key) (Needs (OpenBy number key items) ∷ stack) e w
+  continuing_with (MoreItems (DeclareAlias region number type p source) items) stack e w = loads_from program below (kind_of type) (e.locals source) (Needs (AliasOf number source items) ∷ stack) e w
   continuing_with (MoreItems (DeclareKey region number) items) stack e w = refl
 
   -- ---- entries that are left
 
-  proceeding : (entry : Entry) (stack : List Entry) (e : Environment) (w : World) → step_proceeding (entry ∷ (stack ++ below)) e w ≡ under (step_proceeding (entry ∷ stack) e w)
+  closes : (a : Access Region) (focus : Focus) (region home : ℕ) (stack : List Entry) (e : Environment) (w : World) → closing a focus region home (stack ++ below) e w ≡ U (closing a focus region home stack e w)
+  closes (Found r) focus region home stack e w = refl
+  closes Closed focus region home stack e w = refl
+  closes Missing focus region home stack e w = refl
+
+  closes_lexical : (a : Access Region) (focus : Focus) (region : ℕ) (stack : List Entry) (e : Environment) (w : World) → closing_lexical a focus region (stack ++ below) e w ≡ U (closing_lexical a focus region stack e w)
+  closes_lexical (Found r) focus region stack e w = refl
+  closes_lexical Closed focus region stack e w = refl
+  closes_lexical Missing focus region stack e w = refl
+
+  proceeding : (entry : Entry) (stack : List Entry) (e : Environment) (w : World) → step_proceeding (entry ∷ (stack ++ below)) e w ≡ U (step_proceeding (entry ∷ stack) e w)
   proceeding (Needs a) stack e w = refl
   proceeding (NeedsPlace a) stack e w = refl
   proceeding Discard stack e w = refl
@@ -502,7 +123,7 @@ module _ (program : Program) (below : List Entry) where
   proceeding (Caller outer) stack e w = refl
   proceeding Main stack e w = refl
 
-  breaking : (entry : Entry) (stack : List Entry) (e : Environment) (w : World) → step_breaking (entry ∷ (stack ++ below)) e w ≡ under (step_breaking (entry ∷ stack) e w)
+  breaking : (entry : Entry) (stack : List Entry) (e : Environment) (w : World) → step_breaking (entry ∷ (stack ++ below)) e w ≡ U (step_breaking (entry ∷ stack) e w)
   breaking (Needs a) stack e w = refl
   breaking (NeedsPlace a) stack e w = refl
   breaking Discard stack e w = refl
@@ -516,7 +137,7 @@ module _ (program : Program) (below : List Entry) where
   breaking (Caller outer) stack e w = refl
   breaking Main stack e w = refl
 
-  continuing : (entry : Entry) (stack : List Entry) (e : Environment) (w : World) → step_continuing (entry ∷ (stack ++ below)) e w ≡ under (step_continuing (entry ∷ stack) e w)
+  continuing : (entry : Entry) (stack : List Entry) (e : Environment) (w : World) → step_continuing (entry ∷ (stack ++ below)) e w ≡ U (step_continuing (entry ∷ stack) e w)
   continuing (Needs a) stack e w = refl
   continuing (NeedsPlace a) stack e w = refl
   continuing Discard stack e w = refl
@@ -530,7 +151,7 @@ module _ (program : Program) (below : List Entry) where
   continuing (Caller outer) stack e w = refl
   continuing Main stack e w = refl
 
-  ending_with : (value : Value) (w : World) → ends_with value w ≡ under (ends_with value w)
+  ending_with : (value : Value) (w : World) → ends_with value w ≡ U (ends_with value w)
   ending_with (Int word) w = refl
   ending_with Null w = refl
   ending_with (Thin object offset) w = refl
@@ -538,15 +159,15 @@ module _ (program : Program) (below : List Entry) where
   ending_with (Handle region) w = refl
   ending_with (Key region) w = refl
 
-  ending_main : (o : Option Operand) (w : World) → main_returned o w ≡ under (main_returned o w)
+  ending_main : (o : Option Operand) (w : World) → main_returned o w ≡ U (main_returned o w)
   ending_main None w = refl
   ending_main (Some v) w = ending_with v.value w
 
-  returning_to : (o : Option Operand) (stack : List Entry) (e : Environment) (w : World) → returned o (stack ++ below) e w ≡ under (returned o stack e w)
+  returning_to : (o : Option Operand) (stack : List Entry) (e : Environment) (w : World) → returned o (stack ++ below) e w ≡ U (returned o stack e w)
   returning_to (Some v) stack e w = refl
   returning_to None stack e w = refl
 
-  returning : (o : Option Operand) (entry : Entry) (stack : List Entry) (e : Environment) (w : World) → step_returning o (entry ∷ (stack ++ below)) e w ≡ under (step_returning o (entry ∷ stack) e w)
+  returning : (o : Option Operand) (entry : Entry) (stack : List Entry) (e : Environment) (w : World) → step_returning o (entry ∷ (stack ++ below)) e w ≡ U (step_returning o (entry ∷ stack) e w)
   returning o (Needs a) stack e w = refl
   returning o (NeedsPlace a) stack e w = refl
   returning o Discard stack e w = refl
@@ -560,7 +181,7 @@ module _ (program : Program) (below : List Entry) where
   returning o (Caller outer) stack e w = returning_to o stack outer w
   returning o Main stack e w = ending_main o w
 
-  throwing : (tag value : ℕ) (entry : Entry) (stack : List Entry) (e : Environment) (w : World) → step_throwing tag value (entry ∷ (stack ++ below)) e w ≡ under (step_throwing tag value (entry ∷ stack) e w)
+  throwing : (tag value : ℕ) (entry : Entry) (stack : List Entry) (e : Environment) (w : World) → step_throwing tag value (entry ∷ (stack ++ below)) e w ≡ U (step_throwing tag value (entry ∷ stack) e w)
   throwing tag value (Needs a) stack e w = refl
   throwing tag value (NeedsPlace a) stack e w = refl
   throwing tag value Discard stack e w = refl
@@ -576,30 +197,30 @@ module _ (program : Program) (below : List Entry) where
 
   -- ---- a step
 
-  calls_function : (o : Option Function) (arguments : List Operand) (stack : List Entry) (w : World) → called o arguments (stack ++ below) w ≡ under (called o arguments stack w)
-  calls_function (Some h) arguments stack w = either (length arguments == length h.parameters) _ _ _ _ refl refl
+  calls_function : (o : Option Function) (arguments : List Operand) (stack : List Entry) (w : World) → called o arguments (stack ++ below) w ≡ U (called o arguments stack w)
+  calls_function (Some h) arguments stack w = either program below (length arguments == length h.parameters) _ _ _ _ refl refl
   calls_function None arguments stack w = refl
 
-  calling : (callee : Callee) (arguments : List Operand) (stack : List Entry) (e : Environment) (w : World) → step_calling program callee arguments (stack ++ below) e w ≡ under (step_calling program callee arguments stack e w)
+  calling : (callee : Callee) (arguments : List Operand) (stack : List Entry) (e : Environment) (w : World) → step_calling program callee arguments (stack ++ below) e w ≡ U (step_calling program callee arguments stack e w)
   calling callees.Putchar arguments stack e w = putchar_prints (values_of arguments) stack e w
   calling callees.Getchar arguments stack e w = getchar_reads (values_of arguments) stack e w
   calling (callees.Function number) arguments stack e w = calls_function (slice_get program.functions number) (reverse arguments) (Caller e ∷ stack) w
 
-  pub stepping : (focus : Focus) (entry : Entry) (stack : List Entry) (e : Environment) (w : World) → stepped program focus (entry ∷ (stack ++ below)) e w ≡ under (stepped program focus (entry ∷ stack) e w)
-  stepping (Evaluating a) entry stack e w = evaluating a (entry ∷ stack) e w
-  stepping (Locating d) entry stack e w = locating d (entry ∷ stack) e w
-  stepping (Given v) entry stack e w = given v entry stack e w
-  stepping (GivenPlace place) entry stack e w = given_place place entry stack e w
+  pub stepping : (focus : Focus) (entry : Entry) (stack : List Entry) (e : Environment) (w : World) → stepped program focus (entry ∷ (stack ++ below)) e w ≡ under program below (stepped program focus (entry ∷ stack) e w)
+  stepping (Evaluating a) entry stack e w = evaluating program below a (entry ∷ stack) e w
+  stepping (Locating d) entry stack e w = locating program below d (entry ∷ stack) e w
+  stepping (Given v) entry stack e w = given program below v entry stack e w
+  stepping (GivenPlace place) entry stack e w = given_place program below place entry stack e w
   stepping (Executing s) entry stack e w = executing s (entry ∷ stack) e w
   stepping Proceeding entry stack e w = proceeding entry stack e w
   stepping (Calling callee arguments) entry stack e w = calling callee arguments (entry ∷ stack) e w
   stepping (Entering f arguments) entry stack e w = refl
   stepping (Binding number types arguments body) entry stack e w = binding number types arguments body (entry ∷ stack) e w
-  stepping (Naming number operand items) entry stack e w = names (region_at w e.home) Proceeding number operand.kind (Some operand.value) (Rest items ∷ entry ∷ stack) e w
+  stepping (Naming number operand items) entry stack e w = names program below (region_at w e.home) Proceeding number operand.kind (Some operand.value) (Rest items ∷ entry ∷ stack) e w
   stepping (Writing writes result) entry stack e w = writing writes result (entry ∷ stack) e w
-  stepping (Beginning owner count level kind element) entry stack e w = begins (created w owner (blanks count kind)) (length w.objects) count level kind element (entry ∷ stack) e w
-  stepping (Repeating object count index level kind element) entry stack e w = either (index == count) _ _ _ _ refl refl
-  stepping (Swapping kind first right before) entry stack e w = swapping_values kind first right before (entry ∷ stack) e w
+  stepping (Beginning owner count level kind element) entry stack e w = begins program below (created w owner (blanks count kind)) (length w.objects) count level kind element (entry ∷ stack) e w
+  stepping (Repeating object count index level kind element) entry stack e w = either program below (index == count) _ _ _ _ refl refl
+  stepping (Swapping kind first right before) entry stack e w = swapping_values program below kind first right before (entry ∷ stack) e w
   stepping Breaking entry stack e w = breaking entry stack e w
   stepping Continuing entry stack e w = continuing entry stack e w
   stepping (Returning o) entry stack e w = returning o entry stack e w

@@ -6,8 +6,10 @@ pub mod WalkLemmas
 pub mod CostsFound
 pub mod CostWorlds
 pub mod CostLemmas
+pub mod CostValues
 pub mod CostSteps
 pub mod CostRuns
+pub mod FrameValues
 pub mod FrameSteps
 pub mod KeptParts
 pub mod KeptSteps

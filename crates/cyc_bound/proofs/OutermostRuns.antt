@@ -33,7 +33,8 @@ use Rattle.cyc_bound.proofs.CallRuns.{run_in}
 use Rattle.cyc_bound.proofs.CostLemmas.{IsNoMore, always_fits}
 use Rattle.cyc_bound.proofs.CostWorlds.{site_at, regions_more, regions_closed, regions_made, Counts}
 use Rattle.cyc_bound.proofs.CostSteps.{step_costs}
-use Rattle.cyc_bound.proofs.FrameSteps.{under, stepping}
+use Rattle.cyc_bound.proofs.FrameValues.{under}
+use Rattle.cyc_bound.proofs.FrameSteps.{stepping}
 use Rattle.cyc_bound.proofs.KeptSteps.{CalleeFits, CalleeFitsIn, MayOpen, step_kept}
 
 -- ---- what is counted since a region was opened
