@@ -3,6 +3,7 @@ pub mod RangeLemmas
 pub mod ValueRoom
 pub mod ValueRanges
 pub mod ExpressionRanges
+pub mod ConditionRanges
 pub mod StatementRanges
 pub mod WellFormed
 pub mod PieceWords

@@ -15,11 +15,11 @@ ghost use Rattle.cyc_lower.specs.inside.Emission.{most_locals, view_starts, Have
 ghost use Rattle.cyc_lower.specs.inside.Lowered.{CanBeLowered};
 
 use crate::emitter::Emitter;
+use crate::exits::{Exits, nothing_opened};
 use crate::globals::{starts_of_globals, words_of_globals};
 use crate::locals::slots_of_locals;
 use crate::marks::Marks;
 use crate::starts::Starts;
-use crate::statements::{Exits, nothing_opened};
 use cyc_frame_count::{frame_count, items_need, kept_by_items, words_of, words_of_all};
 use cyc_plain::{Function, Instruction, Plain, RECORD_WORDS};
 use cyc_types::typed::{self, StructType};

@@ -19,7 +19,7 @@ use Rattle.cyc_plain.specs.declared.instruction.Instruction.{Instruction}
 use Rattle.cyc_plain.specs.declared.instruction.Instruction.TheVariants as instructions
 use Rattle.cyc_lower.specs.declared.operands.Condition.{Condition}
 use Rattle.cyc_lower.specs.declared.conditions.Pending.{Pending}
-use Rattle.cyc_lower.specs.declared.statements.Exits.{Exits}
+use Rattle.cyc_lower.specs.declared.exits.Exits.{Exits}
 use Rattle.cyc_lower.specs.inside.Slots.{Starts}
 use Rattle.cyc_lower.specs.inside.ControlCode.{failing_jump, inside_region, opened_code, closed_code, is_nothing, over_code, over_length}
 use Rattle.cyc_lower.specs.inside.Lowering.{branch_code, branch_of, statement_code, items_code}

@@ -15,7 +15,7 @@ use Rattle.cyc_types.proofs.TypedTreeViewLemmas.{view_typed_try}
 use Rattle.cyc_plain.specs.declared.instruction.Instruction.{Instruction}
 use Rattle.cyc_plain.specs.declared.instruction.Instruction.TheVariants as instructions
 use Rattle.cyc_meaning.specs.FrameCount.{kept_by_items, kept_by_clauses}
-use Rattle.cyc_lower.specs.declared.statements.Exits.{Exits}
+use Rattle.cyc_lower.specs.declared.exits.Exits.{Exits}
 use Rattle.cyc_lower.specs.inside.Slots.{Starts}
 use Rattle.cyc_lower.specs.inside.ControlCode.{other_jump, inside_try, behind_record, behind_record_in, kept_code, restored_code}
 use Rattle.cyc_lower.specs.inside.Lowering.{statement_code, clauses_code, caught_code, items_code}

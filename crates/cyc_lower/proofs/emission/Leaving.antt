@@ -4,7 +4,7 @@ use Rattle.cyc_words.proofs.Booleans.{or_false_parts}
 use Rattle.cyc_types.specs.Numbered.{Numbering}
 use Rattle.cyc_types.specs.TypedTrees.{Convert, Statement, Block, Empty, Evaluate, Swap, If, While, Return, Break, Continue, Throw, Try, Items, NoItems, MoreItems, Execute, Declare, DeclareRegion, OpenRegion, DeclareAlias, DeclareKey, Clauses, NoClauses, Default, Case}
 use Rattle.cyc_plain.specs.declared.instruction.Instruction.{Instruction}
-use Rattle.cyc_lower.specs.declared.statements.Exits.{Exits}
+use Rattle.cyc_lower.specs.declared.exits.Exits.{Exits}
 use Rattle.cyc_lower.specs.inside.Slots.{Types}
 use Rattle.cyc_lower.specs.inside.ControlCode.{inside_try, inside_region, behind_record_in, breaks, items_break, clauses_break}
 use Rattle.cyc_lower.proofs.relation.code.Statements.{StatementAt, ItemsAt, ClausesAt}

@@ -22,7 +22,7 @@ use Rattle.cyc_plain.specs.declared.instruction.Operand.{Operand}
 use Rattle.cyc_plain.specs.declared.instruction.Operand.TheVariants as operands
 use Rattle.cyc_plain.specs.declared.instruction.Instruction.{Instruction}
 use Rattle.cyc_store.specs.declared.range.TheConstants.{HEAP, UNIQUE}
-use Rattle.cyc_lower.specs.declared.statements.Exits.{Exits}
+use Rattle.cyc_lower.specs.declared.exits.Exits.{Exits}
 use Rattle.cyc_lower.specs.inside.Slots.{with_counter, Starts, slot_of, global_of}
 use Rattle.cyc_lower.specs.inside.ValueCode.{first_temporary, keeps_words, kind_behind, last_byte_code, kind_passed, converts_there, passed_words, operand_or, code_unless, code_unless_slot, left_with, next_slot, converted_by, conversion_code}
 use Rattle.cyc_lower.specs.inside.ValueCode.{divisor_code, operator_code, pointer_instructions, first_two, copy_code, address_code, behind_left, checked_code, span_of, span_in, followed_operand, followed_code, conversion_by, widened_code}

@@ -9,7 +9,7 @@ use Rattle.cyc_types.specs.TypedTrees.{Expression, Statement, While}
 use Rattle.cyc_plain.specs.declared.instruction.Instruction.{Instruction}
 use Rattle.cyc_plain.specs.declared.instruction.Instruction.TheVariants as instructions
 use Rattle.cyc_lower.specs.declared.operands.Condition.{Condition}
-use Rattle.cyc_lower.specs.declared.statements.Exits.{Exits}
+use Rattle.cyc_lower.specs.declared.exits.Exits.{Exits}
 use Rattle.cyc_lower.specs.inside.Slots.{Starts}
 use Rattle.cyc_lower.specs.inside.ControlCode.{holding_jump, body_target, inside_loop, entry_code, entry_length, over_code, over_length, failing_jump, through_end}
 use Rattle.cyc_lower.specs.inside.Lowering.{is_guard, choice_code, choice_of, statement_code, goes_through}

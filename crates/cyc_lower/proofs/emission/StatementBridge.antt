@@ -23,8 +23,8 @@ use Rattle.cyc_lower.specs.inside.ControlCode.{inside_try, closed_code, handlers
 use Rattle.cyc_lower.specs.inside.ExpressionCode.{source_of, operand_of, value_slot, converted_operand, printed_operand, expression_code, converted_operand_code, printed_code, place_operand, place_offset, place_code, brought_code}
 use Rattle.cyc_lower.specs.inside.Lowering.{assignment_code, assigned_operand, discarded_code, choice_code, choice_of, goes_through}
 use Rattle.cyc_lower.specs.inside.Lowering.{branch_code, branch_of, return_code, declaration_code, statement_code, items_code, results_of, side_code, read_side, write_side, exchange_code, swap_code, thrown_code, thrown_operand, caught_code, clauses_code, is_guard}
-use Rattle.cyc_lower.specs.declared.statements.Exits.{Exits}
-use Rattle.cyc_lower.specs.declared.statements.Opened.{Opened}
+use Rattle.cyc_lower.specs.declared.exits.Exits.{Exits}
+use Rattle.cyc_lower.specs.declared.exits.Opened.{Opened}
 use Rattle.cyc_lower.proofs.relation.code.Stands.{BranchesAt, AssignmentAt, EntryAt, OverAt}
 use Rattle.cyc_lower.proofs.relation.code.Statements.{DiscardedAt, ReturnAt, DeclarationAt, StatementAt, ItemsAt, HasSide, SideAt, ReadAt, WriteAt, SwapAt, LeaveAt, ThrownAt, CaughtAt, ClausesAt, ExchangeAt, ClosedAt, HandlersAt, MarksAt, KeptAt, RestoredAt, OpenedAt}
 use Rattle.cyc_types.specs.typing.Expressions.{type_of_side}

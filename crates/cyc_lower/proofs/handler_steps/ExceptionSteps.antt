@@ -32,7 +32,7 @@ use Rattle.cyc_store.specs.State.{lexical_count}
 use Rattle.cyc_meaning.specs.Regions.{closing_lexical}
 use Rattle.cyc_meaning.specs.Step.{inside}
 use Rattle.cyc_meaning.specs.Exceptions.{catches}
-use Rattle.cyc_lower.specs.declared.statements.Exits.{Exits}
+use Rattle.cyc_lower.specs.declared.exits.Exits.{Exits}
 use Rattle.cyc_lower.specs.inside.Slots.{slot_of}
 use Rattle.cyc_lower.specs.inside.ControlCode.{tag_operand, inside_try}
 use Rattle.cyc_lower.specs.inside.Lowering.{lower_program, scopes_of}

@@ -13,8 +13,8 @@ use Rattle.cyc_plain.specs.inside.Step.{advanced, operand_word, is_intact, close
 use Rattle.cyc_plain.specs.inside.Straight.{At}
 use Rattle.cyc_meaning.specs.State.{World, Environment, Entry, Rest, Join, Loop, CloseRegion, Handler, Caller, Main, Focus, Running, CloseLexical, EndLoan, Throwing}
 use Rattle.cyc_meaning.specs.Step.{step}
-use Rattle.cyc_lower.specs.declared.statements.Exits.{Exits}
-use Rattle.cyc_lower.specs.declared.statements.Opened.{Opened}
+use Rattle.cyc_lower.specs.declared.exits.Exits.{Exits}
+use Rattle.cyc_lower.specs.declared.exits.Opened.{Opened}
 use Rattle.cyc_lower.specs.inside.ControlCode.{outermost, with_handler, with_mark}
 use Rattle.cyc_lower.specs.inside.Lowering.{scopes_of}
 use Rattle.cyc_lower.proofs.relation.simulation.Weights.{weight}

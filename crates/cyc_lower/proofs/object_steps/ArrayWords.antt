@@ -13,7 +13,7 @@ use Rattle.cyc_plain.specs.inside.Operators.{truth}
 use Rattle.cyc_meaning.specs.Values.{bytes_of_kind, words_for}
 use Rattle.cyc_lower.specs.inside.ObjectCode.{most_elements}
 use Rattle.cyc_lower.proofs.place_steps.PlaceWords.{add_is, shifted_is, multiplied_is}
-use Rattle.cyc_lower.proofs.pointer_steps.Elements.{scaled}
+use Rattle.cyc_lower.proofs.pointer_steps.ElementWords.{scaled}
 
 -- The elements of a kind are few enough exactly where their words are.
 pub elements_few : (kind : Kind) (n : ℕ) → words_for (n * bytes_of_kind kind) ≤ MOST_BLOCK_WORDS → n ≤ most_elements (bytes_of_kind kind)

@@ -44,7 +44,7 @@ use Rattle.cyc_lower.proofs.relation.contents.Sharing.{shared_less}
 use Rattle.cyc_lower.proofs.place_steps.PlaceWords.{add_is, stays, cell_kind, word_is}
 use Rattle.cyc_lower.proofs.relation.simulation.Paths.{Link, is_quiet, end_of, IsPath, end_joined, path_joined, by_path}
 use Rattle.cyc_lower.proofs.place_steps.WideCells.{stored, all_links, all_path, shared_stored, data_stored, Parts, parts_of, stage, above_stored, frames_stored}
-use Rattle.cyc_lower.proofs.pointer_steps.Elements.{scaled}
+use Rattle.cyc_lower.proofs.pointer_steps.ElementWords.{scaled}
 use Rattle.cyc_lower.proofs.place_steps.CellWrites.{cell_is_there, with_word, saves_there, demand_there, shared_saved, data_saved, above_there, frames_there}
 use Rattle.cyc_lower.proofs.relation.code.Levels.{lands_arrays}
 use Rattle.cyc_lower.proofs.relation.simulation.Matched.{IsMatched, by_one, by_two, by_three, shared_way, shared_within}

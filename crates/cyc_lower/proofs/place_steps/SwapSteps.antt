@@ -18,7 +18,7 @@ use Rattle.cyc_meaning.specs.Step.{wrong, stored_at, object_of, step}
 use Rattle.cyc_meaning.specs.Swaps.{finds_right_object, finds_left_object, swap_read, swap_content, swap_loaded}
 use Rattle.cyc_objects.specs.inside.Tables.{Tables}
 use Rattle.cyc_objects.specs.inside.Words.{Points, Is}
-use Rattle.cyc_lower.specs.declared.statements.Exits.{Exits}
+use Rattle.cyc_lower.specs.declared.exits.Exits.{Exits}
 use Rattle.cyc_lower.specs.inside.ValueCode.{move_of, load_word}
 use Rattle.cyc_lower.specs.inside.ObjectCode.{right_slot, load_at}
 use Rattle.cyc_lower.specs.inside.Lowering.{lower_program}

@@ -1,14 +1,12 @@
 -- Accesses by fat pointers: the pointer is tested, its index is compared with its length, and the address of the cell at the index is
 -- computed. A pointer to a struct stands at the struct itself where the source does not go wrong.
-use Rattle.std.proofs.Common.{◌≡◌, ◌≢◌, ℕ, zero, suc, ◌+◌, ◌*◌, ◌≤◌, ◌<◌, Bool, true, false, List, [], ◌∷◌, ◌++◌, Option, None, Some, slice_get, refl, sym, ap, subst, ◌∙◌, arith, inl, inr}
-use Rattle.std.specs.Prelude.{◌==◌, ◌&&◌, nat_lt, nat_le, if◌then◌else◌, option_map, not}
-use Rattle.std.proofs.lemmas.Bool.{false_from_ne_true, eq-eqb, ne_eqb, eqb-true, cases_Bool, ltb-true, ltb-false, le-leb, lt-leb, and_parts}
-use Rattle.cyc_words.specs.Word.{add_of, mul_of, shl_of, IsWord as IsNumber}
-use Rattle.cyc_words.proofs.Items.{slice_get-map}
+use Rattle.std.proofs.Common.{◌≡◌, ◌≢◌, ℕ, ◌+◌, ◌≤◌, ◌<◌, Bool, true, false, List, [], ◌∷◌, ◌++◌, Option, None, Some, refl, sym, ap, subst, ◌∙◌, arith, inl, inr}
+use Rattle.std.specs.Prelude.{◌==◌, ◌&&◌, nat_lt, if◌then◌else◌, option_map, not}
+use Rattle.std.proofs.lemmas.Bool.{false_from_ne_true, eqb-true, cases_Bool, ltb-true, and_parts}
+use Rattle.cyc_words.specs.Word.{add_of, IsWord as IsNumber}
 use Rattle.cyc_types.specs.declared.typed.Kind.{Kind}
 use Rattle.cyc_types.specs.declared.typed.Kind.TheVariants as kinds
 use Rattle.cyc_types.specs.TypedTrees.{Expression, Program}
-use Rattle.cyc_store.specs.State.{StoreState}
 use Rattle.cyc_plain.specs.declared.instruction.BinaryOperator.TheVariants as plain_binary
 use Rattle.cyc_plain.specs.declared.instruction.Comparison.TheVariants as comparisons
 use Rattle.cyc_plain.specs.declared.instruction.Operand.{Operand}
@@ -20,240 +18,37 @@ use Rattle.cyc_plain.specs.inside.State.{Words, put, Configuration}
 use Rattle.cyc_plain.specs.inside.Step.{Choice, operand_word, with_slots, at, advanced, performed}
 use Rattle.cyc_plain.specs.inside.Straight.{At}
 use Rattle.cyc_plain.proofs.SlotLaws.{put-same, put-other}
-use Rattle.cyc_meaning.specs.Values.{Value, Int, Null, Thin, Fat, Handle, Key, Operand as Kinded, Cell, kinds_of, is_kind, is_thin, words_of_kind, bytes_of_kind}
+use Rattle.cyc_meaning.specs.Values.{Value, Int, Null, Thin, Fat, Handle, Key, Operand as Kinded, is_kind, is_thin, words_of_kind, bytes_of_kind}
 use Rattle.cyc_meaning.specs.Operators.{Result, null_exception, array_bounds}
 use Rattle.cyc_meaning.specs.Pointers.{Reach, Stops, followed}
 use Rattle.cyc_meaning.specs.Pointers as reaches
-use Rattle.cyc_meaning.specs.State.{Object, World, Environment, Follow, Index, Advance, Entry, Needs, Focus, Evaluating, Given, GivenPlace, Throwing, State, Running}
+use Rattle.cyc_meaning.specs.State.{World, Environment, Follow, Index, Advance, Entry, Needs, Focus, Evaluating, Given, GivenPlace, Throwing, State, Running}
 use Rattle.cyc_meaning.specs.Places.{arrives}
-use Rattle.cyc_meaning.specs.Parts.{is_target, cell_of}
 use Rattle.cyc_meaning.specs.Step.{wrong, computed, step, leads_to}
 use Rattle.cyc_objects.specs.inside.Tables.{Tables}
 use Rattle.cyc_objects.specs.inside.Words.{IsPartOf, Points, Is}
-use Rattle.cyc_objects.specs.inside.Related as objects
-use Rattle.cyc_objects.proofs.Pointers.{part-not-null, pointer-word, thinned, fat-moved}
+use Rattle.cyc_objects.proofs.Pointers.{part-not-null, pointer-word, fat-moved}
 use Rattle.cyc_lower.specs.inside.Lowerable.{is_pointer}
-use Rattle.cyc_lower.specs.inside.ValueCode.{raising, scale_of, reached_operand, followed_operand}
+use Rattle.cyc_lower.specs.inside.ValueCode.{scale_of, reached_operand, followed_operand}
 use Rattle.cyc_lower.specs.inside.Lowering.{lower_program}
 use Rattle.cyc_lower.proofs.slots.Widths.{same_kind, Outside}
-use Rattle.cyc_lower.proofs.slots.CellBytes.{wide_cell}
-use Rattle.cyc_lower.proofs.relation.contents.Moves.{put_elsewhere}
-use Rattle.cyc_lower.proofs.relation.code.Stands.{InsideAt, SteppedAt, ReachedBy, ReachedAt, FollowedAt, ValueAt}
+use Rattle.cyc_lower.proofs.relation.code.Stands.{InsideAt, ReachedAt, FollowedAt, ValueAt}
 use Rattle.cyc_lower.proofs.relation.contents.HeldValues.{IsIn, IsLow, Holds, held, IsParts}
 use Rattle.cyc_lower.proofs.relation.simulation.Relation.{as_operand, DataIn, SharedAt, Matches, ReadyAt, as_right, in_parts}
 use Rattle.cyc_lower.proofs.relation.simulation.Stacks.{types_at, types_on, floor, ValueStack, PlaceStack, code_of, bounds_at, top, base_of}
-use Rattle.cyc_lower.proofs.relation.contents.Data.{Is-same, height-least, Holds-same, in_words}
+use Rattle.cyc_lower.proofs.relation.contents.Data.{height-least, Holds-same, in_words}
 use Rattle.cyc_lower.proofs.relation.contents.HandlerData.{data_written, data_told}
 use Rattle.cyc_lower.proofs.relation.simulation.Accesses.{IsWell, is_fitting}
-use Rattle.cyc_lower.proofs.place_steps.PlaceWords.{narrow_element, byte_element, wide_element, stays}
+use Rattle.cyc_lower.proofs.place_steps.PlaceWords.{stays}
 use Rattle.cyc_lower.proofs.relation.simulation.Matched.{IsMatched, silently, by_one}
 use Rattle.cyc_lower.proofs.handler_steps.Handling.{raised}
 use Rattle.cyc_lower.proofs.pointer_steps.PointerSteps.{int_word, is_moved, outside_index}
 use Rattle.cyc_lower.proofs.relation.simulation.Paths.{Link, IsPath, end_of, end_joined, path_joined, is_quiet, by_path}
 use Rattle.cyc_lower.proofs.value_steps.ValueWords.{goes_wrong, branch_taken, branch_passed}
 use Rattle.cyc_plain.specs.inside.Operators.{truth}
-
--- ---- the words of an access
-
--- a number of bytes by an index that counts cells of four bytes, or of twelve
-abbrev pub scaled : (bytes index : ℕ) → ℕ
-scaled bytes index = if bytes == 4 then shl_of index 2 else if bytes == 1 then index else mul_of index 12
-
--- the words of a pointer in slots one behind the other
-pub parts_of : (t : Tables) (v : Value) (slots : Words) (n : ℕ) → Is t kinds.Fat v slots n → IsParts t v slots n (n + 2)
-parts_of t v slots n is = Is-same t kinds.Fat v slots (λ j. if j == 0 then slots n else if j == 1 then slots (n + 1) else slots (n + 2)) n 0 each is
-  where
-    each : (j : ℕ) → j < 3 → (if 0 + j == 0 then slots n else if 0 + j == 1 then slots (n + 1) else slots (n + 2)) ≡ slots (n + j)
-    each zero below = ap slots (let same : n ≡ n + 0 = omega arith in same)
-    each (suc zero) below = refl
-    each (suc (suc zero)) below = refl
-    each (suc (suc (suc j))) below = absurd (omega (arith, below))
-
--- the address of the cell at an index, by what the code computes of it
-module _ {t : Tables} where
-  pub element_is : {o start count w : ℕ} (i : ℕ) (part : IsPartOf t o start count w) → i < count → Points t o (start + i) (add_of w (scaled (bytes_of_kind part.kind) i))
-  element_is {o} {start} {count} {w} i part below = by (bytes_of_kind part.kind == 4) (bytes_of_kind part.kind == 1) refl refl
-    where
-      by : (narrow one : Bool) → (bytes_of_kind part.kind == 4) ≡ narrow → (bytes_of_kind part.kind == 1) ≡ one
-          → Points t o (start + i) (add_of w (if narrow then shl_of i 2 else if one then i else mul_of i 12))
-      by true one narrow is = narrow_element i part below (eqb-true (bytes_of_kind part.kind) 4 narrow)
-      by false true other is = byte_element i part below (eqb-true (bytes_of_kind part.kind) 1 is)
-      by false false other wide = wide_element i part below (ap bytes_of_kind (wide_cell part.kind other wide))
-
-  -- a struct is reached at its first cell
-  pub first_is : {o start count a : ℕ} (i : ℕ) → IsPartOf t o start count a → start + i ≡ 0 → i < count → Points t o (start + i) a
-  first_is {o} {start} {count} {a} i part first below =
-      let none : i ≡ 0 = omega (arith, first) in
-      subst (λ (j : ℕ). Points t o (start + j) a) (sym none) (subst (Points t o (start + 0)) (let same : a + 0 * bytes_of_kind part.kind ≡ a = omega arith in same) (thinned 0 part (omega (arith, below))))
-
--- ---- the cell that is reached
-
-abbrev some_or : (kind : Kind) → Option Kind → Kind
-some_or kind None = kind
-some_or kind (Some other) = other
-
--- where the tree says a kind, each cell of the part has its bytes
-module _ {t : Tables} {w : World} {s : StoreState} (related : objects.Related t w s) where
-  cell_of_kind : (kind : Kind) (offset : ℕ) (x : Option Object) → is_target (Some kind) offset (cell_of x offset) ≡ true → (y : Object) × (cell : Cell) × (x ≡ Some y) × (slice_get y.cells offset ≡ Some cell) × (cell.kind ≡ kind)
-  cell_of_kind kind offset None leads = absurd (let f : false ≡ true = leads in cc)
-  cell_of_kind kind offset (Some y) leads = by (slice_get y.cells offset) refl leads
-    where
-      by : (found : Option Cell) → slice_get y.cells offset ≡ found → is_target (Some kind) offset found ≡ true → (z : Object) × (cell : Cell) × (Some y ≡ Some z) × (slice_get z.cells offset ≡ Some cell) × (cell.kind ≡ kind)
-      by None at leads = absurd (let f : false ≡ true = leads in cc)
-      by (Some cell) at leads = (y, cell, refl, at, same_kind cell.kind kind leads)
-
-  pub part_bytes : {o start count a : ℕ} (i : ℕ) (part : IsPartOf t o start count a) (kind : Kind) → i < count → is_target (Some kind) (start + i) (cell_of (slice_get w.objects o) (start + i)) ≡ true
-      → bytes_of_kind part.kind ≡ bytes_of_kind kind
-  part_bytes {o} {start} {count} {a} i part kind below leads =
-      let (x, cell, there, at_cell, kind_is) = cell_of_kind kind (start + i) (slice_get w.objects o) leads in
-      let shape : part.kinds ≡ kinds_of x.cells = related.shapes o part.address part.kinds x there part.row in
-      let same : Some part.kind ≡ Some cell.kind = sym (part.even i below) ∙ (ap (λ ks. slice_get ks (start + i)) shape ∙ slice_get-map (λ (z : Cell). z.kind) x.cells (start + i) cell at_cell) in
-      ap bytes_of_kind (ap (some_or part.kind) same ∙ kind_is)
-
-  -- so its address is computed by them
-  pub cell_is : {o start count a : ℕ} (i m : ℕ) (part : IsPartOf t o start count a) (kind : Kind) → m ≡ i → i < count → is_target (Some kind) (start + i) (cell_of (slice_get w.objects o) (start + i)) ≡ true
-      → Points t o (start + i) (add_of a (scaled (bytes_of_kind kind) m))
-  cell_is {o} {start} {count} {a} i m part kind index_is below leads =
-      subst (λ (j : ℕ). Points t o (start + i) (add_of a (scaled (bytes_of_kind kind) j))) (sym index_is)
-      (subst (λ (j : ℕ). Points t o (start + i) (add_of a (scaled j i))) (part_bytes i part kind below leads) (element_is i part below))
-
--- the slots that an access writes: the first, and one so many behind it
-pub elsewhere : (slots : Words) (t far x y m : ℕ) → Outside t (far + 1) m → put (put slots (t + far) x) t y m ≡ slots m
-elsewhere slots t far x y m out =
-    put_elsewhere (put slots (t + far) x) t y (far + 1) m (omega arith) out ∙ put-other slots (t + far) m x (λ same. beside out same)
-  where
-    beside : Outside t (far + 1) m → m ≡ t + far → ⊥
-    beside (inl short) same = absurd (omega (arith, same, short))
-    beside (inr long) same = absurd (omega (arith, same, long))
-
--- and that where the scaled index comes
-scaled_elsewhere : (slots : Words) (t x m : ℕ) → Outside t 4 m → put slots (t + 3) x m ≡ slots m
-scaled_elsewhere slots t x m (inl short) = put-other slots (t + 3) m x (λ same. absurd (omega (arith, same, short)))
-scaled_elsewhere slots t x m (inr long) = put-other slots (t + 3) m x (λ same. absurd (omega (arith, same, long)))
-
--- the exception that an access outside raises, by the first word of its pointer
-abbrev failing_tag : (word : ℕ) → ℕ
-failing_tag word = add_of (truth (not (word == 0))) null_exception
-
-null_tag : (word : ℕ) → word ≡ 0 → failing_tag word ≡ null_exception
-null_tag word is_zero = ap (λ (b : Bool). add_of (truth (not b)) null_exception) (eq-eqb word 0 is_zero)
-
-other_tag : (word : ℕ) → word ≢ 0 → failing_tag word ≡ array_bounds
-other_tag word some = ap (λ (b : Bool). add_of (truth (not b)) null_exception) (ne_eqb word 0 some)
-
--- ---- the instructions of an access
+use Rattle.cyc_lower.proofs.pointer_steps.ElementWords.{scaled, parts_of, first_is, cell_is, elsewhere, scaled_elsewhere, failing_tag, null_tag, other_tag, scales}
 
 module _ (source : Program) (pages calls : ℕ) where
-  -- an index becomes a number of bytes in a slot
-  scales : (bytes x m : ℕ) (c : Configuration) (choice : Choice)
-      → performed (lower_program source) choice c (scale_of bytes x m) ≡ plain.Running (at (with_slots c (put c.active.slots x (scaled bytes (c.active.slots m)))) (c.active.next + 1))
-  scales bytes x m c choice = by (bytes == 4) (bytes == 1)
-    where
-      by : (narrow one : Bool)
-          → performed (lower_program source) choice c
-          (if narrow then instructions.Binary plain_binary.ShiftLeft x (operands.Slot m) (operands.Word 2) else if one then instructions.Move x (operands.Slot m) else instructions.Binary plain_binary.Multiply x (operands.Slot m) (operands.Word 12))
-          ≡ plain.Running
-          (at (with_slots c (put c.active.slots x (if narrow then shl_of (c.active.slots m) 2 else if one then c.active.slots m else mul_of (c.active.slots m) 12))) (c.active.next + 1))
-      by true one = refl
-      by false true = refl
-      by false false = refl
-
-  -- ---- the test for null
-
-  module _ (focus : Focus) (k₀ k : List Entry) (e : Environment) (w : World) (c : Configuration) (null : ℕ → Type 0) (n r : ℕ) (shared : SharedAt source pages calls k₀ e w c)
-      (test : (x : ℕ) × At (code_of source c.active.function) c.active.next (instructions.Branch comparisons.Equal (operands.Slot n) (operands.Word 0) x) × null x × (c.active.next + 1 ≡ r)) where
-    -- null leads elsewhere
-    pub leaves_null : (next : State) → c.active.slots n ≡ 0 → step source (Running focus k₀ e w) ≡ next → ((block : ℕ) → null block → Matches source pages calls next (plain.Running (at c block)))
-        → IsMatched source pages calls (Running focus k₀ e w) (plain.Running c)
-    leaves_null next is_zero does goes =
-        let (block, jump, leads, end) = test in
-        by_one source pages calls does shared jump
-        (λ choice. subst (Matches source pages calls next) (sym (branch_taken c (c.active.slots n == 0) block (eq-eqb (c.active.slots n) 0 is_zero))) (goes block leads))
-
-    -- where it raises an exception
-    pub raises_null : (shared_behind : SharedAt source pages calls k e w c) → DataIn source shared_behind.tables c.active.slots k e w c → c.active.slots n ≡ 0 → step source (Running focus k₀ e w) ≡ Running (Throwing null_exception 0) k e w
-        → ((block : ℕ) → null block → At (code_of source c.active.function) block (raising null_exception)) → IsMatched source pages calls (Running focus k₀ e w) (plain.Running c)
-    raises_null shared_behind facts is_zero does raises =
-        leaves_null (Running (Throwing null_exception 0) k e w) is_zero does
-        (λ block leads. raised source pages calls null_exception 0 k e w (at c block) (operands.Word null_exception) (operands.Word 0) (omega arith) shared_behind facts (raises block leads) refl refl)
-
-    -- and any other leads on
-    abbrev past_null : Link
-    past_null = record { instruction = instructions.Branch comparisons.Equal (operands.Slot n) (operands.Word 0) test.0; behind = at c r }
-
-    past_null_path : c.active.slots n ≢ 0 → (links : List Link) → IsPath source (at c r) links → IsPath source c (past_null ∷ links)
-    past_null_path some links path =
-        let (block, jump, leads, end) = test in
-        (jump, (λ choice. branch_passed c (c.active.slots n == 0) block (ne_eqb (c.active.slots n) 0 some) ∙ ap (λ i. plain.Running (at c i)) end), omega (arith, end), is_quiet c (at c r).active, path)
-
-  -- ---- an index that is compared before it is scaled
-
-  module _ (focus : Focus) (k₀ k : List Entry) (e : Environment) (w : World) (c : Configuration) (null : ℕ → Type 0) (span : Option ℕ) (n m t q : ℕ) (shared : SharedAt source pages calls k₀ e w c)
-      (here : ReachedBy (code_of source c.active.function) (bounds_at source c.active.function) (types_at source c.active.function) null span n m t c.active.next q) where
-    abbrev slots : Words
-    slots = c.active.slots
-
-    abbrev r : ℕ
-    r = here.0
-
-    abbrev s : ℕ
-    s = here.1
-
-    abbrev not_null : Link
-    not_null = past_null focus k₀ k e w c null n r shared here.2
-
-    not_null_path : slots n ≢ 0 → (links : List Link) → IsPath source (at c r) links → IsPath source c (not_null ∷ links)
-    not_null_path = past_null_path focus k₀ k e w c null n r shared here.2
-
-    abbrev in_bounds : Link
-    in_bounds = record { instruction = instructions.Branch comparisons.GreaterOrEqualUnsigned (operands.Slot m) (operands.Slot (n + 1)) here.3.0; behind = at c s }
-
-    in_bounds_leads : nat_lt (slots m) (slots (n + 1)) ≡ true → (choice : Choice) → performed (lower_program source) choice (at c r) in_bounds.instruction ≡ plain.Running (at c s)
-    in_bounds_leads less choice =
-        branch_passed (at c r) (nat_le (slots (n + 1)) (slots m)) here.3.0 (lt-leb (slots (n + 1)) (slots m) (ltb-true (slots m) (slots (n + 1)) less)) ∙ ap (λ i. plain.Running (at c i)) here.3.3
-
-    -- and so does an index that is not below the length
-    pub raises_bounds : (shared_behind : SharedAt source pages calls k e w c) → DataIn source shared_behind.tables c.active.slots k e w c → slots n ≢ 0 → nat_lt (slots m) (slots (n + 1)) ≡ false
-        → step source (Running focus k₀ e w) ≡ Running (Throwing array_bounds 0) k e w → IsMatched source pages calls (Running focus k₀ e w) (plain.Running c)
-    raises_bounds shared_behind facts some least does =
-        let (other, branch, raise, behind) = here.3 in
-        by_path source pages calls focus k₀ e w c (Running (Throwing array_bounds 0) k e w) (not_null ∷ []) in_bounds.instruction does shared (not_null_path some [] tt) branch
-        (λ choice. subst (Matches source pages calls (Running (Throwing array_bounds 0) k e w)) (sym (branch_taken (at c r) (nat_le (slots (n + 1)) (slots m)) other (le-leb (slots (n + 1)) (slots m) (ltb-false (slots m) (slots (n + 1)) least))))
-        (raised source pages calls array_bounds 0 k e w (at c other) (operands.Word array_bounds) (operands.Word 0) (omega arith) shared_behind facts raise refl refl))
-
-    -- the first cell is reached
-    pub reaches_first : span ≡ None → (next : State) → slots n ≢ 0 → nat_lt (slots m) (slots (n + 1)) ≡ true → step source (Running focus k₀ e w) ≡ next
-        → Matches source pages calls next (plain.Running (at c q)) → IsMatched source pages calls (Running focus k₀ e w) (plain.Running c)
-    reaches_first first next some less does goes =
-        let (other, branch, raise, behind) = here.3 in
-        let there : s ≡ q = subst (λ x. SteppedAt (code_of source c.active.function) (bounds_at source c.active.function) (types_at source c.active.function) x n m t s q) first here.4 in
-        by_path source pages calls focus k₀ e w c next (not_null ∷ []) in_bounds.instruction does shared (not_null_path some [] tt) branch
-        (λ choice. subst (Matches source pages calls next) (sym (in_bounds_leads less choice)) (subst (λ i. Matches source pages calls next (plain.Running (at c i))) (sym there) goes))
-
-    -- the cell at the index is reached, and its address comes to slot t
-    abbrev pub stepped : (bytes : ℕ) → Words
-    stepped bytes = put (put slots (t + 2) (scaled bytes (slots m))) t (add_of (slots n) (scaled bytes (slots m)))
-
-    pub reaches_cell : (bytes : ℕ) → span ≡ Some bytes → (next : State) → n ≤ t → slots n ≢ 0 → nat_lt (slots m) (slots (n + 1)) ≡ true → step source (Running focus k₀ e w) ≡ next
-        → Matches source pages calls next (plain.Running (at (with_slots c (stepped bytes)) q)) → IsMatched source pages calls (Running focus k₀ e w) (plain.Running c)
-    reaches_cell bytes cells next low some less does goes =
-        let g = c.active.function in
-        let (other, branch, raise, behind) = here.3 in
-        let (scale, sum, last) = subst (λ x. SteppedAt (code_of source g) (bounds_at source g) (types_at source g) x n m t s q) cells here.4 in
-        let far = scaled bytes (slots m) in
-        let before = put slots (t + 2) far in
-        let b : Configuration = at (with_slots c before) (s + 1) in
-        let first : before n ≡ slots n = put-other slots (t + 2) n far (λ same. absurd (omega (arith, same, low))) in
-        by_path source pages calls focus k₀ e w c next
-        (not_null ∷ in_bounds ∷ record { instruction = scale_of bytes (t + 2) m; behind = b } ∷ [])
-        (instructions.Binary plain_binary.Add t (operands.Slot n) (operands.Slot (t + 2))) does shared
-        (not_null_path some (in_bounds ∷ record { instruction = scale_of bytes (t + 2) m; behind = b } ∷ [])
-        (branch, in_bounds_leads less, omega (arith, behind), is_quiet (at c r) (at c s).active, (scale, scales bytes (t + 2) m (at c s), omega arith, is_quiet (at c s) b.active, tt)))
-        sum
-        (λ choice. subst (λ (x : ℕ). Matches source pages calls next (plain.Running (at (with_slots c (put before t x)) (s + 1 + 1))))
-        (sym (ap (λ (y : ℕ). add_of y (before (t + 2))) first ∙ ap (add_of (slots n)) (put-same slots (t + 2) far)))
-        (subst (λ i. Matches source pages calls next (plain.Running (at (with_slots c (stepped bytes)) i))) (sym last) goes))
-
   -- ---- an index that is compared with a length, which is 0 where the pointer is null
 
   -- behind instructions that lead from one configuration to another
@@ -369,7 +164,7 @@ module _ (source : Program) (pages calls : ℕ) where
     scaling_path : IsPath source c scaling
     scaling_path = (
       here.2.0,
-      (λ choice. scales bytes (t + 3) m c choice ∙ ap (λ i. plain.Running (at (with_slots c before) i)) here.2.1),
+      (λ choice. scales source bytes (t + 3) m c choice ∙ ap (λ i. plain.Running (at (with_slots c before) i)) here.2.1),
       omega (arith, here.2.1),
       is_quiet c behind_scaling.active,
       tt,
@@ -387,10 +182,6 @@ module _ (source : Program) (pages calls : ℕ) where
     -- so the index is below the length or not as before
     below_stays : (less : Bool) → nat_lt (c.active.slots m) (c.active.slots (n + 1)) ≡ less → nat_lt (before m) (before (n + 1)) ≡ less
     below_stays less is = ap (λ (x : ℕ). nat_lt x (before (n + 1))) index_stays ∙ (ap (nat_lt (c.active.slots m)) length_stays ∙ is)
-
-  -- what raises the exception that null raises
-  abbrev pub RaisesNull : ℕ → (block : ℕ) → Type 0
-  RaisesNull g block = At (code_of source g) block (raising null_exception)
 
   -- ---- a place is reached
 

@@ -29,7 +29,8 @@ use Rattle.cyc_lower.proofs.relation.simulation.Stacks.{types_at, floor, ValueSt
 use Rattle.cyc_lower.proofs.relation.contents.Data.{height-least, Holds-same}
 use Rattle.cyc_lower.proofs.relation.contents.HandlerData.{data_written}
 use Rattle.cyc_lower.proofs.relation.simulation.Matched.{IsMatched}
-use Rattle.cyc_lower.proofs.pointer_steps.Elements.{scaled, first_is, cell_is, elsewhere, leaves_null, raises_null, raises_bounds, reaches_first, reaches_cell, RaisesNull}
+use Rattle.cyc_lower.proofs.pointer_steps.ElementWords.{scaled, first_is, cell_is, elsewhere}
+use Rattle.cyc_lower.proofs.pointer_steps.Narrowing.{leaves_null, raises_null, raises_bounds, reaches_first, reaches_cell, RaisesNull}
 
 module _ (source : Program) (pages calls : ℕ) where
   -- a pointer in slot n and those behind it, where null leads to a place of which something is said

@@ -27,7 +27,7 @@ use Rattle.cyc_objects.specs.inside.Tables.{Tables, with_handle, Grows}
 use Rattle.cyc_objects.proofs.Values.{Grows-handle}
 use Rattle.cyc_objects.proofs.Variables.{handle-made}
 use Rattle.cyc_objects.proofs.Services.{opened-lexical, refusal-lexical, opened-dynamic, refusal-dynamic}
-use Rattle.cyc_lower.specs.declared.statements.Exits.{Exits}
+use Rattle.cyc_lower.specs.declared.exits.Exits.{Exits}
 use Rattle.cyc_lower.specs.inside.ControlCode.{inside_region}
 use Rattle.cyc_lower.specs.inside.Lowering.{scopes_of}
 use Rattle.cyc_lower.proofs.slots.Slots.{slot_types-many}

@@ -32,7 +32,7 @@ use Rattle.cyc_lower.specs.inside.ValueCode.{summed_code, bounded_code, past_bou
 use Rattle.cyc_lower.specs.inside.ObjectCode.{begun_code, filled_code, stores_code, cells_code, slots_of_kinds, object_code, saved_code, measured_code, sized_code}
 use Rattle.cyc_lower.specs.inside.ControlCode.{leave_code, opened_code, closed_code, named_code, handlers_code, marks_code, kept_code_in, restored_code_in}
 use Rattle.cyc_meaning.specs.Operators.{null_exception}
-use Rattle.cyc_lower.specs.declared.statements.Opened.{Opened}
+use Rattle.cyc_lower.specs.declared.exits.Opened.{Opened}
 use Rattle.cyc_lower.proofs.sizes.PieceWords.{passed_few}
 
 abbrev pub code_size : List Instruction → ℕ

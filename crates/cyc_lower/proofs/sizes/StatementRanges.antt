@@ -3,14 +3,11 @@ use Rattle.std.proofs.Common.{◌≡◌, ℕ, zero, suc, ◌+◌, ◌≤◌, ◌
 use Rattle.cyc_types.specs.declared.typed.Kind.{Kind}
 use Rattle.cyc_types.specs.declared.typed.Kind.TheVariants as kinds
 use Rattle.cyc_types.specs.declared.typed.Callee.TheVariants as callees
-use Rattle.cyc_types.specs.declared.typed.UnaryOperator.TheVariants as unary
 use Rattle.cyc_types.specs.Types.{Ty, words_of}
-use Rattle.cyc_types.specs.declared.typed.LogicalOperator.{LogicalOperator}
 use Rattle.cyc_types.specs.declared.typed.LogicalOperator.TheVariants as logical
-use Rattle.cyc_types.specs.TypedTrees.{Lvalue, Local, Global, Expression, Number, Call, Unary, Binary, Assign, Converted, Convert, Operations, NoOperations, ThenCompute, ThenTest, ThenPointer, ThenPointerPeek, type_of, Statement, Block, Empty, Evaluate, If, While}
+use Rattle.cyc_types.specs.TypedTrees.{Lvalue, Local, Global, Expression, Call, Assign, Converted, Convert, Statement, Block, Empty, Evaluate, If, While}
 use Rattle.cyc_types.specs.TypedTrees.{Return, Break, Continue, Items, NoItems, MoreItems, Execute, Declare, Signature, Store, Side, VariableSide, CellSide, Swap, Throw, Try, Clauses, NoClauses, Default, Case, DeclareRegion, OpenRegion, DeclareAlias, DeclareKey}
 use Rattle.cyc_types.specs.Numbered.{Numbering}
-use Rattle.cyc_plain.specs.declared.instruction.Comparison.{Comparison}
 use Rattle.cyc_plain.specs.declared.instruction.Operand.{Operand}
 use Rattle.cyc_plain.specs.declared.instruction.Operand.TheVariants as operands
 use Rattle.cyc_plain.specs.declared.instruction.Instruction.{Instruction}
@@ -20,29 +17,29 @@ use Rattle.cyc_plain.specs.declared.limits.TheConstants.{RECORD_WORDS}
 use Rattle.cyc_plain.specs.inside.WellFormed.{IsOperand, is_return}
 use Rattle.std.specs.Prelude.{if◌then◌else◌}
 use Rattle.cyc_meaning.specs.Values.{kind_of, words_of_kind}
-use Rattle.cyc_meaning.specs.FrameCount.{converted_words, expression_need, operations_need, operand_words, converted_need, initial_need, statement_need, items_need, place_words, side_need, kept_by, kept_by_items, clauses_need, kept_by_clauses, thrown_need}
-use Rattle.cyc_lower.specs.declared.statements.Exits.{Exits}
+use Rattle.cyc_meaning.specs.FrameCount.{converted_words, expression_need, converted_need, initial_need, statement_need, items_need, place_words, side_need, kept_by, kept_by_items, clauses_need, kept_by_clauses, thrown_need}
+use Rattle.cyc_lower.specs.declared.exits.Exits.{Exits}
 use Rattle.cyc_lower.specs.inside.Slots.{starts_of, slot_of, Types, global_of}
-use Rattle.cyc_lower.specs.inside.ValueCode.{passed_words, operand_or, slot_or, code_unless_slot, left_with, conversion_code, failing_comparison, span_of, word_by_word, global_code, keeps_words, kind_passed}
+use Rattle.cyc_lower.specs.inside.ValueCode.{passed_words, operand_or, slot_or, code_unless_slot, conversion_code, span_of, word_by_word, global_code, keeps_words, kind_passed}
 use Rattle.cyc_lower.specs.inside.ObjectCode.{right_slot, load_at}
-use Rattle.cyc_lower.specs.declared.operands.Condition.{Condition}
-use Rattle.cyc_lower.specs.inside.ControlCode.{failing_jump, holding_jump, deciding_jump, are_tests, body_target, inside_loop, leave_code, tag_operand, clause_code, opened_code, closed_code, named_code, dynamic_code, handlers_code, marks_code, kept_code, kept_code_in}
+use Rattle.cyc_lower.specs.inside.ControlCode.{failing_jump, holding_jump, body_target, inside_loop, leave_code, tag_operand, clause_code, opened_code, closed_code, named_code, dynamic_code, handlers_code, marks_code, kept_code, kept_code_in}
 use Rattle.cyc_lower.specs.inside.ControlCode.{through_by, through_end, looped_code}
-use Rattle.cyc_lower.specs.inside.ControlCode.{restored_code, restored_code_in, behind_record, behind_record_in, inside_try, inside_region, outermost, entry_code, entry_length, is_nothing, over_code, over_length, null_compared, pointers_failing, nulled_or, turned_test}
-use Rattle.cyc_lower.specs.inside.ExpressionCode.{source_of, operand_of, value_slot, slot_with, value_operand, converted_operand, printed_operand, expression_code, converted_operand_code, printed_code, brought_code, is_simple}
-use Rattle.cyc_lower.specs.inside.Lowering.{spare_slots, assignment_code, discarded_code, first_operand, first_code, second_code, pair_code, condition_code, condition_of, others_code, last_condition, tests_code, behind_tests, choice_code, choice_of, branch_code}
+use Rattle.cyc_lower.specs.inside.ControlCode.{restored_code, restored_code_in, behind_record, behind_record_in, inside_try, inside_region, outermost, entry_code, entry_length, is_nothing, over_code, over_length}
+use Rattle.cyc_lower.specs.inside.ExpressionCode.{source_of, operand_of, value_slot, converted_operand, printed_operand, expression_code, converted_operand_code, printed_code, brought_code}
+use Rattle.cyc_lower.specs.inside.Lowering.{spare_slots, assignment_code, discarded_code, choice_code, choice_of, branch_code}
 use Rattle.cyc_lower.specs.inside.Lowering.{branch_of, return_code, declaration_code, statement_code, items_code, results_of, side_code, read_side, write_side, exchange_code, swap_code, thrown_code, thrown_operand, caught_code, clauses_code, is_guard, goes_through}
 use Rattle.cyc_lower.proofs.slots.Widths.{kind_positive, kind_few, type_words, words_in, HasRoom, keeps_wide}
-use Rattle.cyc_lower.proofs.relation.code.Fitting.{FitsPlace, Fits, FitOperations, FitsConverted, FitsReturn, FitsInitial, FitsStatement, FitItems, FitsSide, FitsThrown, FitsCaught, FitClauses}
+use Rattle.cyc_lower.proofs.relation.code.Fitting.{FitsPlace, Fits, FitsConverted, FitsReturn, FitsInitial, FitsStatement, FitItems, FitsSide, FitsThrown, FitsCaught, FitClauses}
 use Rattle.cyc_types.specs.typing.Expressions.{type_of_side}
-use Rattle.cyc_lower.proofs.slots.Slots.{words_positive, global-room, global-inside}
-use Rattle.cyc_lower.specs.declared.statements.Opened.{Opened}
+use Rattle.cyc_lower.proofs.slots.Slots.{global-room, global-inside}
+use Rattle.cyc_lower.specs.declared.exits.Opened.{Opened}
 use Rattle.cyc_lower.proofs.emission.Loops.{entry_long, over_length_is}
-use Rattle.cyc_lower.proofs.sizes.RangeLemmas.{operand_positive, converted_few, results_few, IsKnown, AreGlobals, HasEnd}
+use Rattle.cyc_lower.proofs.sizes.RangeLemmas.{converted_few, results_few, IsKnown, AreGlobals, HasEnd}
 use Rattle.cyc_lower.proofs.sizes.ValueRanges.{AreIn, append, unless_in, unless_slot_in, move_in, conversion_in, loads_in, global_in, assigned_in, stores_in, addressed_in, stored_in, load_of_in, blank_in}
-use Rattle.cyc_lower.proofs.sizes.ValueRoom.{kind_at, HasOperand, slot_fits, value_room, value_in, converted_room, printed_value_in, slot_with_in, left_with_in}
-use Rattle.cyc_lower.proofs.emission.Conditions.{tests_same, branch_same}
+use Rattle.cyc_lower.proofs.sizes.ValueRoom.{kind_at, HasOperand, slot_fits, value_room, value_in, converted_room, printed_value_in}
+use Rattle.cyc_lower.proofs.emission.Conditions.{branch_same}
 use Rattle.cyc_lower.proofs.sizes.ExpressionRanges.{expression_in, place_in, initial_in, converted_operand_in, printed_in, brought_in}
+use Rattle.cyc_lower.proofs.sizes.ConditionRanges.{choice_in, chosen_in, branch_in, branched_in, entry_in}
 
 module _ (program : PlainProgram) (r : Routine) (b : Numbering) (types : Types) (locals : (n : ℕ) → n < b.locals → slot_of (starts_of types) n + words_in types.locals n ≤ r.slots) (levels : (l slot : ℕ) → slice_get types.counters l ≡ Some slot → slot < r.slots) (globals : AreGlobals program types.globals) (called : (n : ℕ) (s : Signature) → slice_get b.functions n ≡ Some s → IsKnown program n s) (results : r.results ≡ results_of b.result) (behind : HasEnd r types) (no_return : All (λ i. is_return i ≡ false) r.code) where
   assignment_in : (l : Lvalue) (c : Converted) (p t : ℕ) → FitsPlace b types l (kind_passed c) → FitsConverted b types c → t + converted_words c ≤ r.slots → t + converted_need c ≤ r.slots → p + length (assignment_code (starts_of types) l c p t) < length r.code → AreIn program r b types locals levels globals called results behind (assignment_code (starts_of types) l c p t)
@@ -66,67 +63,6 @@ module _ (program : PlainProgram) (r : Routine) (b : Numbering) (types : Types) 
       (λ q less. converted_operand_in program r b called results types locals levels globals behind c q (t + 1) numbered (omega (arith, few)) (omega (arith, few)) less)
   discarded_in a p t numbered few short =
       unless_in program r b types locals levels globals called results behind (operand_of (starts_of types) a) (expression_code (starts_of types) a p t t) p short (λ less. expression_in program r b called results types locals levels globals behind a p t t numbered (omega (arith, few, kind_few (kind_at r b types locals levels a))) (omega (arith, few)) less)
-
-  -- ---- statements
-
-  -- two operands that are compared, by the code of the second
-  pair_in : (a c : Expression) (p t : ℕ) → Fits b types a → t + expression_need a + spare_slots ≤ r.slots → p + length (pair_code (starts_of types) a c p t) < length r.code
-      → (p + length (first_code (starts_of types) a c p t) + length (second_code (starts_of types) c (p + length (first_code (starts_of types) a c p t)) t) < length r.code → AreIn program r b types locals levels globals called results behind (second_code (starts_of types) c (p + length (first_code (starts_of types) a c p t)) t)) → AreIn program r b types locals levels globals called results behind (pair_code (starts_of types) a c p t)
-  pair_in a c p t numbered few short second =
-      let slot = slot_with (starts_of types) (is_simple (starts_of types) c) a t in
-      let front = first_code (starts_of types) a c p t in
-      let back = second_code (starts_of types) c (p + length front) t in
-      let long = length-append front back in
-      append program r b types locals levels globals called results behind front back
-      (unless_in program r b types locals levels globals called results behind (left_with (is_simple (starts_of types) c) (operand_of (starts_of types) a)) (expression_code (starts_of types) a p slot t) p (omega (arith, short, long))
-      (λ less. expression_in program r b called results types locals levels globals behind a p slot t numbered (slot_with_in r b types locals levels (is_simple (starts_of types) c) a t numbered (omega (arith, few, kind_few (kind_at r b types locals levels a)))) (omega (arith, few)) less))
-      (second (omega (arith, short, long)))
-
-  -- what a condition compares
-  sides_in : (null beside : Option Comparison) (a c whole : Expression) (p t : ℕ) → Fits b types a → Fits b types c → Fits b types whole
-      → t + expression_need a + spare_slots ≤ r.slots → suc t + expression_need c + spare_slots ≤ r.slots → t + expression_need whole + spare_slots ≤ r.slots
-      → p + length (pair_code (starts_of types) (nulled_or null beside a c whole).left (nulled_or null beside a c whole).right p t) < length r.code
-      → AreIn program r b types locals levels globals called results behind (pair_code (starts_of types) (nulled_or null beside a c whole).left (nulled_or null beside a c whole).right p t)
-  sides_in (Some failing) beside a c whole p t first second all few few_second few_all short = pair_in a (Number 0) p t first few short (λ less. tt)
-  sides_in None (Some failing) a c whole p t first second all few few_second few_all short =
-      let next = p + length (first_code (starts_of types) a c p t) in
-      let free : suc t + words_of_kind (kind_at r b types locals levels c) ≤ r.slots = omega (arith, few_second, kind_few (kind_at r b types locals levels c)) in
-      pair_in a c p t first few short
-      (λ less. unless_in program r b types locals levels globals called results behind (operand_of (starts_of types) c) (expression_code (starts_of types) c next (value_slot (starts_of types) c (suc t)) (suc t)) next less
-      (λ fits. expression_in program r b called results types locals levels globals behind c next (value_slot (starts_of types) c (suc t)) (suc t) second (slot_fits r b types locals levels c (suc t) second free) (omega (arith, few_second)) fits))
-  sides_in None None a c whole p t first second all few few_second few_all short = pair_in whole (Number 0) p t all few_all short (λ less. tt)
-
-  condition_in : (a : Expression) (p t : ℕ) → Fits b types a → t + expression_need a + spare_slots ≤ r.slots → p + length (condition_code (starts_of types) a p t) < length r.code → AreIn program r b types locals levels globals called results behind (condition_code (starts_of types) a p t)
-  condition_in (Unary unary.Not a) p t numbered few short = condition_in a p t numbered (omega (arith, few)) short
-  condition_in (Binary a (ThenCompute o c NoOperations) ty) p t (first, (second, none)) few short =
-      sides_in None (failing_comparison o) a c (Binary a (ThenCompute o c NoOperations) ty) p t first second (first, (second, none)) (omega (arith, few)) (omega (arith, few, operand_positive (type_of a), operand_positive (type_of c), words_positive ty)) few short
-  condition_in (Binary a (ThenPointer o c NoOperations) ty) p t (first, (wide, second, none)) few short =
-      sides_in (null_compared o c) (pointers_failing o) a c (Binary a (ThenPointer o c NoOperations) ty) p t first second (first, (wide, second, none)) (omega (arith, few)) (omega (arith, few, operand_positive (type_of a), operand_positive (type_of c), words_positive ty)) few short
-  condition_in (Binary a (ThenPointerPeek n o c NoOperations) ty) p t (first, (wide, second, none)) few short =
-      sides_in (null_compared o c) (pointers_failing o) a c (Binary a (ThenPointerPeek n o c NoOperations) ty) p t first second (first, (wide, second, none)) (omega (arith, few)) (omega (arith, few, operand_positive (type_of a), operand_positive (type_of c), words_positive ty)) few short
-  condition_in a p t numbered few short = pair_in a (Number 0) p t numbered few short (λ less. tt)
-
-  sides_are_operands : (null beside : Option Comparison) (a c whole : Expression) (t : ℕ) → Fits b types a → Fits b types c → Fits b types whole
-      → t + expression_need a + spare_slots ≤ r.slots → suc t + expression_need c + spare_slots ≤ r.slots → t + expression_need whole + spare_slots ≤ r.slots
-      → IsOperand r (first_operand (starts_of types) (nulled_or null beside a c whole).left (nulled_or null beside a c whole).right t) × IsOperand r (value_operand (starts_of types) (nulled_or null beside a c whole).right (suc t))
-  sides_are_operands (Some failing) beside a c whole t first second all few few_second few_all =
-      (value_in r b types locals levels a t first (omega (arith, few, kind_few (kind_at r b types locals levels a))), tt)
-  sides_are_operands None (Some failing) a c whole t first second all few few_second few_all = (
-    left_with_in r b types locals levels (is_simple (starts_of types) c) a t first (omega (arith, few, kind_few (kind_at r b types locals levels a))),
-    value_in r b types locals levels c (suc t) second (omega (arith, few_second, kind_few (kind_at r b types locals levels c))),
-  )
-  sides_are_operands None None a c whole t first second all few few_second few_all =
-      (value_in r b types locals levels whole t all (omega (arith, few_all, kind_few (kind_at r b types locals levels whole))), tt)
-
-  compared_in : (a : Expression) (t : ℕ) → Fits b types a → t + expression_need a + spare_slots ≤ r.slots → IsOperand r (condition_of (starts_of types) a t).left × IsOperand r (condition_of (starts_of types) a t).right
-  compared_in (Unary unary.Not a) t numbered few = compared_in a t numbered (omega (arith, few))
-  compared_in (Binary a (ThenCompute o c NoOperations) ty) t (first, (second, none)) few =
-      sides_are_operands None (failing_comparison o) a c (Binary a (ThenCompute o c NoOperations) ty) t first second (first, (second, none)) (omega (arith, few)) (omega (arith, few, operand_positive (type_of a), operand_positive (type_of c), words_positive ty)) few
-  compared_in (Binary a (ThenPointer o c NoOperations) ty) t (first, (wide, second, none)) few =
-      sides_are_operands (null_compared o c) (pointers_failing o) a c (Binary a (ThenPointer o c NoOperations) ty) t first second (first, (wide, second, none)) (omega (arith, few)) (omega (arith, few, operand_positive (type_of a), operand_positive (type_of c), words_positive ty)) few
-  compared_in (Binary a (ThenPointerPeek n o c NoOperations) ty) t (first, (wide, second, none)) few =
-      sides_are_operands (null_compared o c) (pointers_failing o) a c (Binary a (ThenPointerPeek n o c NoOperations) ty) t first second (first, (wide, second, none)) (omega (arith, few)) (omega (arith, few, operand_positive (type_of a), operand_positive (type_of c), words_positive ty)) few
-  compared_in a t numbered few = (value_in r b types locals levels a t numbered (omega (arith, few, kind_few (kind_at r b types locals levels a))), tt)
 
   -- ---- regions
 
@@ -327,101 +263,9 @@ module _ (program : PlainProgram) (r : Routine) (b : Numbering) (types : Types) 
   exits_inside exits slot ((loop_record, loop_mark), (first_record, first_mark)) room =
       ((record_behind exits.in_loop.handler slot loop_record room, loop_mark), (record_behind exits.in_function.handler slot first_record room, first_mark))
 
-  -- the operands of tests, whose jumps lead to a place in the code
-  deciding_in : (u : LogicalOperator) (c : Condition) (x : ℕ) (code : List Instruction) → IsOperand r c.left × IsOperand r c.right → x < length r.code → AreIn program r b types locals levels globals called results behind code → AreIn program r b types locals levels globals called results behind (deciding_jump u c x ∷ code)
-  deciding_in logical.AndThen c x code (left, right) inside all = ((left, right, inside), all)
-  deciding_in logical.OrElse c x code (left, right) inside all = ((left, right, inside), all)
-
-  others_in : (u : LogicalOperator) (os : Operations) (ty : Ty) (words : ℕ) (c : Condition) (x p t : ℕ) → FitOperations b types words ty os → IsOperand r c.left × IsOperand r c.right → x < length r.code
-      → t + operations_need os ty words + spare_slots ≤ r.slots → p + length (others_code (starts_of types) u os c x p t) < length r.code → AreIn program r b types locals levels globals called results behind (others_code (starts_of types) u os c x p t)
-  others_in u NoOperations ty words c x p t fits room inside few short = tt
-  others_in u (ThenTest o a os) ty words c x p t (first, fits) room inside few short =
-      let operand = condition_code (starts_of types) a (p + 1) t in
-      let front = deciding_jump u c x ∷ operand in
-      let rest = others_code (starts_of types) u os (condition_of (starts_of types) a t) x (p + length front) t in
-      let long = length-append front rest in
-      append program r b types locals levels globals called results behind front rest
-      (deciding_in u c x operand room inside (condition_in a (p + 1) t first (omega (arith, few)) (omega (arith, short, long))))
-      (others_in u os ty (words_of ty) (condition_of (starts_of types) a t) x (p + length front) t fits (compared_in a t first (omega (arith, few))) inside (omega (arith, few)) (omega (arith, short, long)))
-  others_in u (ThenCompute o a os) ty words c x p t (first, fits) room inside few short = others_in u os ty (words_of ty) c x p t fits room inside (omega (arith, few)) short
-  others_in u (ThenPointer o a os) ty words c x p t (wide, first, fits) room inside few short = others_in u os ty (words_of ty) c x p t fits room inside (omega (arith, few)) short
-  others_in u (ThenPointerPeek n o a os) ty words c x p t (wide, first, fits) room inside few short = others_in u os ty (words_of ty) c x p t fits room inside (omega (arith, few)) short
-
-  last_in : (os : Operations) (ty : Ty) (words : ℕ) (c : Condition) (t : ℕ) → FitOperations b types words ty os → IsOperand r c.left × IsOperand r c.right → t + operations_need os ty words + spare_slots ≤ r.slots
-      → IsOperand r (last_condition (starts_of types) os c t).left × IsOperand r (last_condition (starts_of types) os c t).right
-  last_in NoOperations ty words c t fits room few = room
-  last_in (ThenTest o a os) ty words c t (first, fits) room few = last_in os ty (words_of ty) (condition_of (starts_of types) a t) t fits (compared_in a t first (omega (arith, few))) (omega (arith, few))
-  last_in (ThenCompute o a os) ty words c t (first, fits) room few = last_in os ty (words_of ty) c t fits room (omega (arith, few))
-  last_in (ThenPointer o a os) ty words c t (wide, first, fits) room few = last_in os ty (words_of ty) c t fits room (omega (arith, few))
-  last_in (ThenPointerPeek n o a os) ty words c t (wide, first, fits) room few = last_in os ty (words_of ty) c t fits room (omega (arith, few))
-
-  -- a condition with a jump behind it, and something behind that
-  choice_in : (u : LogicalOperator) (a : Expression) (p t : ℕ) → Fits b types a → t + expression_need a + spare_slots ≤ r.slots → p + length (choice_code (starts_of types) u a p t) + 1 < length r.code → AreIn program r b types locals levels globals called results behind (choice_code (starts_of types) u a p t)
-  choice_in u (Unary unary.Not a) p t numbered few short = choice_in (turned_test u) a p t numbered (omega (arith, few)) short
-  choice_in u (Binary a os ty) p t (first, fits) few short = by (are_tests u os) short
-    where
-      by : (tests : Bool) → p + length (if tests then tests_code (starts_of types) u a os (behind_tests (starts_of types) u a os p t) p t else condition_code (starts_of types) (Binary a os ty) p t) + 1 < length r.code
-          → AreIn program r b types locals levels globals called results behind (if tests then tests_code (starts_of types) u a os (behind_tests (starts_of types) u a os p t) p t else condition_code (starts_of types) (Binary a os ty) p t)
-      by true short =
-          let x = behind_tests (starts_of types) u a os p t in
-          let front = condition_code (starts_of types) a p t in
-          let rest = others_code (starts_of types) u os (condition_of (starts_of types) a t) x (p + length front) t in
-          let long = length-append front rest in
-          append program r b types locals levels globals called results behind front rest (condition_in a p t first (omega (arith, few)) (omega (arith, short, long)))
-          (others_in u os ty (operand_words (type_of a)) (condition_of (starts_of types) a t) x (p + length front) t fits (compared_in a t first (omega (arith, few)))
-          (omega (arith, short, tests_same (starts_of types) u a os 0 x p t)) (omega (arith, few)) (omega (arith, short, long)))
-      by false short = condition_in (Binary a os ty) p t (first, fits) few (omega (arith, short))
-  choice_in u a p t numbered few short = condition_in a p t numbered few (omega (arith, short))
-
-  chosen_in : (u : LogicalOperator) (a : Expression) (t : ℕ) → Fits b types a → t + expression_need a + spare_slots ≤ r.slots → IsOperand r (choice_of (starts_of types) u a t).left × IsOperand r (choice_of (starts_of types) u a t).right
-  chosen_in u (Unary unary.Not a) t numbered few = chosen_in (turned_test u) a t numbered (omega (arith, few))
-  chosen_in u (Binary a os ty) t (first, fits) few = by (are_tests u os)
-    where
-      by : (tests : Bool) → IsOperand r (if tests then last_condition (starts_of types) os (condition_of (starts_of types) a t) t else condition_of (starts_of types) (Binary a os ty) t).left
-          × IsOperand r (if tests then last_condition (starts_of types) os (condition_of (starts_of types) a t) t else condition_of (starts_of types) (Binary a os ty) t).right
-      by true = last_in os ty (operand_words (type_of a)) (condition_of (starts_of types) a t) t fits (compared_in a t first (omega (arith, few))) (omega (arith, few))
-      by false = compared_in (Binary a os ty) t (first, fits) few
-  chosen_in u a t numbered few = compared_in a t numbered few
-
-  -- the condition of a branch, whose operands lead to a place in the code
-  branch_in : (u : LogicalOperator) (a : Expression) (x p t : ℕ) → Fits b types a → t + expression_need a + spare_slots ≤ r.slots → x < length r.code → p + length (branch_code (starts_of types) u a x p t) + 1 < length r.code
-      → AreIn program r b types locals levels globals called results behind (branch_code (starts_of types) u a x p t)
-  branch_in u (Unary unary.Not a) x p t numbered few inside short = branch_in (turned_test u) a x p t numbered (omega (arith, few)) inside short
-  branch_in u (Binary a os ty) x p t (first, fits) few inside short = by (are_tests u os) short
-    where
-      by : (tests : Bool) → p + length (if tests then tests_code (starts_of types) u a os x p t else choice_code (starts_of types) (turned_test u) (Binary a os ty) p t) + 1 < length r.code
-          → AreIn program r b types locals levels globals called results behind (if tests then tests_code (starts_of types) u a os x p t else choice_code (starts_of types) (turned_test u) (Binary a os ty) p t)
-      by true short =
-          let front = condition_code (starts_of types) a p t in
-          let rest = others_code (starts_of types) u os (condition_of (starts_of types) a t) x (p + length front) t in
-          let long = length-append front rest in
-          append program r b types locals levels globals called results behind front rest (condition_in a p t first (omega (arith, few)) (omega (arith, short, long)))
-          (others_in u os ty (operand_words (type_of a)) (condition_of (starts_of types) a t) x (p + length front) t fits (compared_in a t first (omega (arith, few))) inside (omega (arith, few)) (omega (arith, short, long)))
-      by false short = choice_in (turned_test u) (Binary a os ty) p t (first, fits) few short
-  branch_in u a x p t numbered few inside short = choice_in (turned_test u) a p t numbered few short
-
-  branched_in : (u : LogicalOperator) (a : Expression) (t : ℕ) → Fits b types a → t + expression_need a + spare_slots ≤ r.slots → IsOperand r (branch_of (starts_of types) u a t).left × IsOperand r (branch_of (starts_of types) u a t).right
-  branched_in u (Unary unary.Not a) t numbered few = branched_in (turned_test u) a t numbered (omega (arith, few))
-  branched_in u (Binary a os ty) t (first, fits) few = by (are_tests u os)
-    where
-      by : (tests : Bool) → IsOperand r (if tests then last_condition (starts_of types) os (condition_of (starts_of types) a t) t else choice_of (starts_of types) (turned_test u) (Binary a os ty) t).left
-          × IsOperand r (if tests then last_condition (starts_of types) os (condition_of (starts_of types) a t) t else choice_of (starts_of types) (turned_test u) (Binary a os ty) t).right
-      by true = last_in os ty (operand_words (type_of a)) (condition_of (starts_of types) a t) t fits (compared_in a t first (omega (arith, few))) (omega (arith, few))
-      by false = chosen_in (turned_test u) (Binary a os ty) t (first, fits) few
-  branched_in u a t numbered few = chosen_in (turned_test u) a t numbered few
-
   exits_behind : (exits : Exits) (slot : ℕ) → HasExits exits → slot < r.slots → HasExits (inside_region exits slot)
   exits_behind exits slot ((loop_record, loop_mark), (first_record, first_mark)) room =
       ((loop_record, mark_behind exits.in_loop.mark slot loop_mark room), (first_record, mark_behind exits.in_function.mark slot first_mark room))
-
-  -- what leads into a loop, whose body and condition stand before the end
-  entry_in : (guarded : Bool) (a : Expression) (p t test : ℕ) → Fits b types a → t + expression_need a + spare_slots ≤ r.slots
-      → (p + entry_length guarded (choice_code (starts_of types) logical.AndThen a p t) + 1 < length r.code) × (test < length r.code)
-      → AreIn program r b types locals levels globals called results behind (entry_code guarded (choice_code (starts_of types) logical.AndThen a p t) (holding_jump (choice_of (starts_of types) logical.AndThen a t)) test p)
-  entry_in true a p t test numbered few (short, there) =
-      let (left, right) = chosen_in logical.AndThen a t numbered (omega (arith, few)) in
-      append program r b types locals levels globals called results behind (choice_code (starts_of types) logical.AndThen a p t) _ (choice_in logical.AndThen a p t numbered (omega (arith, few)) (omega (arith, short))) ((left, right, omega (arith, short)), tt)
-  entry_in false a p t test numbered few (short, there) = (there, tt)
 
   over_in : (last : Bool) (target : ℕ) → target < length r.code → AreIn program r b types locals levels globals called results behind (over_code last target)
   over_in true target inside = tt
@@ -453,10 +297,10 @@ module _ (program : PlainProgram) (r : Routine) (b : Numbering) (types : Types) 
         let long_front = length-append condition jump_first in
         let long_back = length-append over second in
         let long_over = over_length_is last (q + length second) in
-        let (left, right) = branched_in logical.AndThen a t numbered_a (omega (arith, few)) in
+        let (left, right) = branched_in program r b types locals levels globals called results behind logical.AndThen a t numbered_a (omega (arith, few)) in
         let inside : q < length r.code = omega (arith, short, long, long_front, long_back, long_over, same) in
         append program r b types locals levels globals called results behind (condition ++ jump_first) (over ++ second)
-        (append program r b types locals levels globals called results behind condition jump_first (branch_in logical.AndThen a q p t numbered_a (omega (arith, few)) inside (omega (arith, short, long, long_front)))
+        (append program r b types locals levels globals called results behind condition jump_first (branch_in program r b types locals levels globals called results behind logical.AndThen a q p t numbered_a (omega (arith, few)) inside (omega (arith, short, long, long_front)))
         ((left, right, inside), statement_in s in_loop (m + 1) exits t numbered_s around outside (omega (arith, few)) (omega (arith, short, long, long_front, long_back, long_over, same))))
         (append program r b types locals levels globals called results behind over second (over_in last (q + length second) (omega (arith, short, long, long_front, long_back, long_over, same))) (statement_in u in_loop q exits t numbered_u around outside (omega (arith, few)) (omega (arith, short, long, long_front, long_back, long_over, same))))
     statement_in (While w a s) in_loop p exits t (numbered_a, numbered_s) around outside few short =
@@ -470,18 +314,18 @@ module _ (program : PlainProgram) (r : Routine) (b : Numbering) (types : Types) 
         let long_through = length-append front (exit ∷ ((within ++ other) ++ tail)) in
         let long_inner = length-append (within ++ other) tail in
         let long_body = length-append within other in
-        let (fails_left, fails_right) = chosen_in logical.OrElse a t numbered_a (omega (arith, few)) in
-        let (holds_left, holds_right) = chosen_in logical.AndThen a t numbered_a (omega (arith, few)) in
+        let (fails_left, fails_right) = chosen_in program r b types locals levels globals called results behind logical.OrElse a t numbered_a (omega (arith, few)) in
+        let (holds_left, holds_right) = chosen_in program r b types locals levels globals called results behind logical.AndThen a t numbered_a (omega (arith, few)) in
         either_in (goes_through (starts_of types) a s)
         (through_by front (failing_jump (choice_of (starts_of types) logical.OrElse a t)) within other (holding_jump (choice_of (starts_of types) logical.AndThen a t) x) p)
         (looped_code (is_guard (starts_of types) a) (λ q. choice_code (starts_of types) logical.AndThen a q t) (λ leaving. statement_code (starts_of types) s (body_target leaving) (inside_loop p leaving exits) t) (holding_jump (choice_of (starts_of types) logical.AndThen a t)) p)
         p short
-        (λ short. append program r b types locals levels globals called results behind front (exit ∷ ((within ++ other) ++ tail)) (choice_in logical.OrElse a p t numbered_a (omega (arith, few)) (omega (arith, short, long_through))) (
+        (λ short. append program r b types locals levels globals called results behind front (exit ∷ ((within ++ other) ++ tail)) (choice_in program r b types locals levels globals called results behind logical.OrElse a p t numbered_a (omega (arith, few)) (omega (arith, short, long_through))) (
           (fails_left, fails_right, omega (arith, short, long_through, long_inner, long_body)),
           append program r b types locals levels globals called results behind (within ++ other) tail
               (append program r b types locals levels globals called results behind within other
               (statement_in s true x (inside_loop p p exits) t numbered_s (λ looping. (omega (arith, short, long_through), omega (arith, short, long_through))) ((tt, tt), outside.1) (omega (arith, few)) (omega (arith, short, long_through, long_inner, long_body)))
-              (choice_in logical.AndThen a (x + length within) t numbered_a (omega (arith, few)) (omega (arith, short, long_through, long_inner, long_body))))
+              (choice_in program r b types locals levels globals called results behind logical.AndThen a (x + length within) t numbered_a (omega (arith, few)) (omega (arith, short, long_through, long_inner, long_body))))
               ((holds_left, holds_right, omega (arith, short, long_through, long_inner, long_body)), (omega (arith, short, long_through, long_inner, long_body), tt)),
         ))
         (λ short.
@@ -500,13 +344,13 @@ module _ (program : PlainProgram) (r : Routine) (b : Numbering) (types : Types) 
         let long_front = length-append body condition in
         let whole = length-append entry (leave ∷ ((body ++ condition) ++ test)) in
         let entered = entry_long guarded first jump m p in
-        let (left, right) = chosen_in logical.AndThen a t numbered_a (omega (arith, few)) in
-        append program r b types locals levels globals called results behind entry (leave ∷ ((body ++ condition) ++ test)) (entry_in guarded a p t m numbered_a (omega (arith, few)) (omega (arith, short, long, long_front, whole, entered), omega (arith, short, long, long_front, whole, entered))) (
+        let (left, right) = chosen_in program r b types locals levels globals called results behind logical.AndThen a t numbered_a (omega (arith, few)) in
+        append program r b types locals levels globals called results behind entry (leave ∷ ((body ++ condition) ++ test)) (entry_in program r b types locals levels globals called results behind guarded a p t m numbered_a (omega (arith, few)) (omega (arith, short, long, long_front, whole, entered), omega (arith, short, long, long_front, whole, entered))) (
           omega (arith, short, long, long_front, whole, entered),
           append program r b types locals levels globals called results behind (body ++ condition) test
               (append program r b types locals levels globals called results behind body condition
               (statement_in s true (body_target l) inside t numbered_s (λ looping. (omega (arith, short, long, long_front, whole, entered), omega (arith, short, long, long_front, whole, entered))) ((tt, tt), outside.1) (omega (arith, few)) (omega (arith, short, long, long_front, whole, entered)))
-              (choice_in logical.AndThen a m t numbered_a (omega (arith, few)) (omega (arith, short, long, long_front, whole, entered))))
+              (choice_in program r b types locals levels globals called results behind logical.AndThen a m t numbered_a (omega (arith, few)) (omega (arith, short, long, long_front, whole, entered))))
               ((left, right, omega (arith, short, long, long_front, whole, entered)), tt),
         ))
     statement_in (Return v) in_loop p exits t numbered around outside few short = return_in v p exits t numbered outside (omega (arith, few)) short

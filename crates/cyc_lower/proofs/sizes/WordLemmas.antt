@@ -22,7 +22,7 @@ use Rattle.cyc_plain.proofs.Steps.{function_known}
 use Rattle.cyc_plain.specs.inside.WellFormed.{IsOfWord, HasWord, HasWords, is_return}
 use Rattle.cyc_lower.specs.inside.Words.{IsOfWords, IsOfWordsConverted, AreOfWordsOperations, IsOfWordsInitial, IsOfWordsStatement, AreOfWordsItems, IsOfWordsConstant, AreOfWordsGlobals, AreOfWordsFunctions, IsOfWordsProgram, IsOfWordsSide, IsOfWordsThrown, AreOfWordsClauses}
 use Rattle.cyc_plain.specs.declared.limits.TheConstants.{RECORD_WORDS}
-use Rattle.cyc_lower.specs.declared.statements.Exits.{Exits}
+use Rattle.cyc_lower.specs.declared.exits.Exits.{Exits}
 use Rattle.cyc_lower.specs.inside.Slots.{slot_of, Starts, global_of}
 use Rattle.std.specs.Prelude.{if◌then◌else◌, replicate}
 use Rattle.std.proofs.lemmas.List.Elements.{All-from_recursion}
@@ -39,7 +39,7 @@ use Rattle.cyc_lower.specs.inside.Lowering.{assignment_code, discarded_code, fir
 use Rattle.cyc_lower.specs.inside.Lowering.{branch_code, branch_of, return_code, declaration_code, statement_code, items_code, initial_word, lower_function, lower_program, store_address_code, caught_code, clauses_code, blocks_kept}
 use Rattle.cyc_lower.specs.inside.Lowering.{function_code, side_code, read_side, write_side, exchange_code, swap_code, globals_of, lower_globals, starts_with, raises_of, scopes_of, body_code, farthest, with_blocks, is_guard}
 use Rattle.cyc_lower.proofs.slots.Widths.{kind_few}
-use Rattle.cyc_lower.specs.declared.statements.Opened.{Opened}
+use Rattle.cyc_lower.specs.declared.exits.Opened.{Opened}
 use Rattle.cyc_lower.proofs.sizes.PieceWords.{IsMade, made_word, made_no_return, HaveWords, append, unless_words, unless_slot_words, conversion_words, taken_words, blocks_words, move_words, brought_by_words, load_word_of, stores_words, saved_words, blank_words}
 use Rattle.cyc_lower.proofs.sizes.ExpressionWords.{known_word, converted_word, printed_word, left_with_word, loads_words, global_words, expression_words, address_of_words, initial_words, converted_operand_words, printed_words}
 

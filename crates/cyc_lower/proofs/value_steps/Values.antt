@@ -27,7 +27,7 @@ use Rattle.cyc_meaning.specs.State.{MakeArray, FillElement, Initialise, Choose, 
 use Rattle.cyc_meaning.specs.State.{Running, FollowMember, StoreCell, FreeObject, ThrowWith, CountElements, Index, Advance, InRegion, PlaceBy, BesideHandle, CloseByKey, OpenBy, AliasOf, status_of}
 use Rattle.cyc_meaning.specs.Step.{leads_to, wrong, stored_at, declared, passes, chosen, looped, step}
 use Rattle.cyc_meaning.specs.SourceMachine.{status_in}
-use Rattle.cyc_lower.specs.declared.statements.Exits.{Exits}
+use Rattle.cyc_lower.specs.declared.exits.Exits.{Exits}
 use Rattle.cyc_lower.specs.inside.Slots.{slot_of, Types}
 use Rattle.cyc_lower.proofs.slots.Slots.{slot-room, room-inside}
 use Rattle.cyc_lower.proofs.slots.Widths.{kind_positive, same_kind, HasRoom, Outside, made_kind, kind_in}

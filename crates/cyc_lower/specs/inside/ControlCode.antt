@@ -17,8 +17,8 @@ use Rattle.cyc_plain.specs.declared.instruction.Instruction.TheVariants as instr
 use Rattle.cyc_plain.specs.declared.limits.TheConstants.{RECORD_WORDS}
 use Rattle.cyc_lower.specs.inside.Slots.{Starts, slot_of}
 use Rattle.cyc_lower.specs.declared.operands.Condition.{Condition}
-use Rattle.cyc_lower.specs.declared.statements.Exits.{Exits}
-use Rattle.cyc_lower.specs.declared.statements.Opened.{Opened}
+use Rattle.cyc_lower.specs.declared.exits.Exits.{Exits}
+use Rattle.cyc_lower.specs.declared.exits.Opened.{Opened}
 use Rattle.cyc_lower.specs.inside.ValueCode.{failing_comparison, move_of}
 
 -- ---- conditions, branches and loops

@@ -28,7 +28,7 @@ use Rattle.cyc_meaning.specs.Values.{kind_of, words_of_kind}
 use Rattle.cyc_meaning.specs.FrameCount.{frame_count, items_need, words_of_all, kept_by_items}
 use Rattle.cyc_lower.specs.inside.Slots.{Types, Starts, starts_from, slot_of, global_of, global_types}
 use Rattle.cyc_lower.specs.declared.operands.Condition.{Condition}
-use Rattle.cyc_lower.specs.declared.statements.Exits.{Exits}
+use Rattle.cyc_lower.specs.declared.exits.Exits.{Exits}
 use Rattle.cyc_lower.specs.inside.ValueCode.{slot_types, tag_slot, first_temporary, operand_or, code_unless, slot_or, code_unless_slot, left_with, blocks, failing_comparison, move_of, conversion_code, span_of, addressed_by, word_by_word, global_code, passed_words, kind_passed, blank_code}
 use Rattle.cyc_lower.specs.inside.ObjectCode.{stores_code, stored_by, load_at, right_slot}
 use Rattle.cyc_lower.specs.inside.ControlCode.{compared_of, negated_condition, turned_test, failing_jump, holding_jump, deciding_jump, are_tests, if_code, break_target, continue_target, named_code, opened_code, closed_code, dynamic_code, leave_code}

@@ -12,7 +12,7 @@ use Rattle.cyc_plain.specs.declared.instruction.Operand.TheVariants as operands
 use Rattle.cyc_plain.specs.inside.State.{Frame}
 use Rattle.cyc_meaning.specs.State.{FreeObject, CloseByKey, PlaceBy, BesideHandle, CountElements, Index, Advance, ThrowWith, SwapLeft, SwapRight, Handler, ConvertTo, Operate, Chain, Apply, ApplyPointer, Follow, LoadFrom, Decide, Store, Pass, MakePlain, MakeFields}
 use Rattle.cyc_meaning.specs.State.{MakeArray, FillElement, Initialise, Choose, Test, Return, Entry, Needs, NeedsPlace, Discard, Rest, Join, Loop, CloseRegion, EndLoan, CloseLexical, Caller, Main, FollowMember, TakeAddress, StoreTo, StoreCell, OpenBy, AliasOf}
-use Rattle.cyc_lower.specs.declared.statements.Exits.{Exits}
+use Rattle.cyc_lower.specs.declared.exits.Exits.{Exits}
 use Rattle.cyc_lower.specs.inside.ValueCode.{reached_operand, followed_operand}
 use Rattle.cyc_meaning.specs.Pointers.{result_kind as operator_kind}
 use Rattle.cyc_lower.proofs.slots.Widths.{chain_kind, made_kind}

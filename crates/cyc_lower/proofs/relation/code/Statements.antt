@@ -16,8 +16,8 @@ use Rattle.cyc_plain.specs.declared.instruction.Instruction.{Instruction}
 use Rattle.cyc_plain.specs.declared.instruction.Instruction.TheVariants as instructions
 use Rattle.cyc_plain.specs.inside.Straight.{At}
 use Rattle.cyc_meaning.specs.Values.{words_of_kind, kind_of}
-use Rattle.cyc_lower.specs.declared.statements.Exits.{Exits}
-use Rattle.cyc_lower.specs.declared.statements.Opened.{Opened}
+use Rattle.cyc_lower.specs.declared.exits.Exits.{Exits}
+use Rattle.cyc_lower.specs.declared.exits.Opened.{Opened}
 use Rattle.cyc_lower.specs.inside.Slots.{Types, starts_of, slot_of, global_of}
 use Rattle.cyc_lower.specs.inside.ValueCode.{move_of, span_of, kind_passed}
 use Rattle.cyc_lower.specs.inside.ObjectCode.{right_slot, load_at}

@@ -31,7 +31,7 @@ use Rattle.cyc_meaning.specs.State.{World, Environment, Operate, Chain, Apply, A
 use Rattle.cyc_meaning.specs.State.{Locating, Given, Executing, Proceeding, Calling, Entering, Binding, Writing, Beginning, Repeating, Breaking, Continuing, Returning, Throwing, State, Running, Ended, GivenPlace, Swapping, Naming, Catching, Advance}
 use Rattle.cyc_meaning.specs.Operators.{is_zero}
 use Rattle.cyc_meaning.specs.FrameCount.{words_of_all}
-use Rattle.cyc_lower.specs.declared.statements.Exits.{Exits}
+use Rattle.cyc_lower.specs.declared.exits.Exits.{Exits}
 use Rattle.cyc_lower.specs.inside.Slots.{slot_of}
 use Rattle.cyc_lower.specs.inside.ValueCode.{move_of, reached_operand, unary_instruction}
 use Rattle.cyc_lower.specs.inside.ObjectCode.{right_slot}

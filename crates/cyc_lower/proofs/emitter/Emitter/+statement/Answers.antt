@@ -13,8 +13,8 @@ use Rattle.cyc_plain.specs.declared.instruction.Instruction.{Instruction}
 use Rattle.cyc_plain.specs.declared.instruction.Instruction.TheVariants.{Jump, Leave}
 use Rattle.cyc_lower.specs.inside.ControlCode.{other_jump, inside_try, is_nothing}
 use Rattle.cyc_lower.specs.inside.Lowering.{items_code, statement_code, goes_through}
-use Rattle.cyc_lower.specs.declared.statements.Exits.{Exits}
-use Rattle.cyc_lower.specs.declared.statements.Opened.{Opened}
+use Rattle.cyc_lower.specs.declared.exits.Exits.{Exits}
+use Rattle.cyc_lower.specs.declared.exits.Opened.{Opened}
 use Rattle.cyc_lower.specs.inside.Emission.{view_starts}
 use Rattle.cyc_lower.proofs.emission.Branching.{made_block, made_if, made_then, made_alone, if_viewed, item_room, more_items, closes_begin, closes_next, closes_end}
 use Rattle.cyc_lower.proofs.emission.Conditions.{before_more}

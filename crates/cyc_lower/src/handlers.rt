@@ -1,0 +1,139 @@
+//! The code of exceptions: a throw, and the clauses of a `try`. Each method adds its code behind what there is.
+ghost use Rattle.std.specs.Prelude.{◌≡◌, ◌+◌, ◌≤◌, ◌<◌, [], ◌∷◌, ◌++◌, length, set, option_map, IfOk, OnOk};
+ghost use Rattle.cyc_types.specs.TypedTrees.{NoClauses};
+ghost use Rattle.cyc_types.specs.TypedTreeView.{view_expression, items_of, clauses_of, default_of};
+ghost use Rattle.cyc_meaning.specs.FrameCount.{kept_by_items, kept_by_clauses};
+ghost use Rattle.cyc_lower.specs.inside.ControlCode.{other_jump, goes_on};
+ghost use Rattle.cyc_lower.specs.inside.Lowering.{clauses_code, caught_code};
+ghost use Rattle.cyc_lower.specs.inside.Emission.{Appends, most_locals, throw_code, case_code, BeginClauses, view_starts};
+
+use crate::emitter::Emitter;
+use crate::exits::Exits;
+use crate::locals::slot_of;
+use crate::operators::{goes_on, other_jump, tag_operand};
+use crate::starts::Starts;
+use cyc_plain::{Instruction, Operand};
+use cyc_types::typed::{Body, Clause, Expr};
+use std::alloc::AllocError;
+
+impl Emitter {
+    /// An exception with what it tells, which is 0 where it has no int.
+    pub(crate) fn lower_throw(
+        &mut self,
+        starts: &Starts,
+        tag: usize,
+        value: &Option<Expr>,
+        free: usize,
+    ) -> Result<(), AllocError>
+        requires { free ≤ most_locals + length self.old.code.items }
+        ensures { Appends result self.old self.new (throw_code (view_starts starts.now) tag (option_map view_expression value.now) (length self.old.code.items) free) }
+    {
+        let value = match value {
+            Some(value) => self.lower_operand(starts, value, free)?,
+            None => Operand::Word { word: 0 },
+        };
+        self.emit(Instruction::Throw {
+            tag: tag_operand(tag),
+            value,
+        })
+    }
+
+    /// The local of a clause gets what the exception tells.
+    fn lower_caught(
+        &mut self,
+        starts: &Starts,
+        number: Option<usize>,
+        free: usize,
+    ) -> Result<(), AllocError>
+        requires { free ≤ most_locals }
+        ensures { Appends result self.old self.new (caught_code (view_starts starts.now) number free) }
+    {
+        let Some(number) = number else {
+            return Ok(());
+        };
+        self.emit(Instruction::Move {
+            destination: slot_of(starts, number),
+            source: Operand::Slot { number: free + 1 },
+        })
+    }
+
+    /// A clause. The jump behind it leads to that over all clauses.
+    #[cycle(statement)]
+    fn lower_clause(
+        &mut self,
+        starts: &Starts,
+        clause: &Clause,
+        out: usize,
+        exits: Exits,
+        free: usize,
+    ) -> Result<(), AllocError>
+        requires slots { free + kept_by_items (items_of clause.now.items.items) ≤ most_locals }
+        requires begun { exits.head ≤ length self.old.code.items }
+        ensures { Appends result self.old self.new (case_code (view_starts starts.now) clause.now.tag clause.now.number (items_of clause.now.items.items) (length self.old.code.items) out exits free) }
+    {
+        let over = self.reserve()?;
+        self.lower_caught(starts, clause.number, free)?;
+        self.lower_items(starts, &clause.items, exits, free)?;
+        self.emit(Instruction::Jump { target: out })?;
+        let target = self.place();
+        self.patch(over, other_jump(clause.tag, free, target));
+        Ok(())
+    }
+
+    /// The clauses of a `try` but its default, whichever that is.
+    #[cycle(statement)]
+    pub(crate) fn lower_clauses(
+        &mut self,
+        starts: &Starts,
+        clauses: &[Clause],
+        out: usize,
+        exits: Exits,
+        free: usize,
+    ) -> Result<(), AllocError>
+        requires slots { free + kept_by_clauses (clauses_of clauses.now NoClauses) ≤ most_locals }
+        requires begun { exits.head ≤ length self.old.code.items }
+        ensures { OnOk result (BeginClauses (view_starts starts.now) clauses.now out exits free self.old.code.items self.new.code.items) }
+    {
+        for clause in clauses {
+            self.lower_clause(starts, clause, out, exits, free)?;
+        }
+        Ok(())
+    }
+
+    /// The default of a `try`. Where there is none, an exception that no clause catches goes on.
+    #[cycle(statement)]
+    pub(crate) fn lower_default(
+        &mut self,
+        starts: &Starts,
+        default: &Option<Body>,
+        exits: Exits,
+        free: usize,
+    ) -> Result<(), AllocError>
+        requires slots { free + kept_by_clauses (default_of default.now) ≤ most_locals }
+        requires begun { exits.head ≤ length self.old.code.items }
+        ensures { Appends result self.old self.new (clauses_code (view_starts starts.now) (default_of default.now) (length self.old.code.items) 0 exits free) }
+    {
+        match default {
+            Some(body) => self.lower_items(starts, &body.items, exits, free),
+            None => self.emit(goes_on(free)),
+        }
+    }
+
+    /// The body of a `try` is done: its handler is closed, and its clauses are jumped over. At the place that was kept comes the opening.
+    pub(crate) fn end_body(&mut self, opening: usize, free: usize) -> Result<usize, AllocError>
+        requires { opening < length self.old.code.items }
+        ensures { IfOk result (λ out. (out ≡ length self.old.code.items + 1) × (self.new.code.items ≡ set (self.old.code.items ++ Instruction.Leave free ∷ Instruction.Jump 0 ∷ []) opening (Instruction.Try free (length self.old.code.items + 2)))) }
+    {
+        self.emit(Instruction::Leave { first: free })?;
+        let out = self.reserve()?;
+        let handler = self.place();
+        self.patch(
+            opening,
+            Instruction::Try {
+                first: free,
+                handler,
+            },
+        );
+        Ok(out)
+    }
+}
