@@ -6,10 +6,10 @@ each.
     python3 tests/runners/codes.py [--program PATH] [--write]
 
 The docstrings of crates/cyc_words/src/fault.rt, the messages and hints of crates/cyc_terminal/src/advice.rt, the pages in
-crates/cyc_terminal/src/pages.rt and in docs/CODES.md, what `cyclone explain` prints and the table of codes in docs/LANGUAGE.md have to say
-what docs/codes.txt says. --write makes the pages and the table in docs/LANGUAGE.md of it, and tries nothing. The table in
-crates/cyc_terminal/src/habits.rt has to be that of docs/habits.txt, row by row. `cyclone --version` has to name the toolchain's logic as
-`rt --version` does. The last line is `N passed, M failed`, of the files, the version, the codes and the habits.
+crates/cyc_terminal/src/pages.rt, the folder beside it and docs/CODES.md, what `cyclone explain` prints and the table of codes in
+docs/LANGUAGE.md have to say what docs/codes.txt says. --write makes the pages and the table in docs/LANGUAGE.md of it, and tries nothing.
+The table in crates/cyc_terminal/src/habits.rt has to be that of docs/habits.txt, row by row. `cyclone --version` has to name the
+toolchain's logic as `rt --version` does. The last line is `N passed, M failed`, of the files, the version, the codes and the habits.
 """
 import os
 import re
@@ -25,6 +25,13 @@ LANGUAGE = os.path.join(suite.ROOT, "docs", "LANGUAGE.md")
 FAULTS = os.path.join(suite.ROOT, "crates", "cyc_words", "src", "fault.rt")
 ADVICE = os.path.join(suite.ROOT, "crates", "cyc_terminal", "src", "advice.rt")
 PAGES = os.path.join(suite.ROOT, "crates", "cyc_terminal", "src", "pages.rt")
+# The parts of the pages, each with the first number that is no longer a code's of it, and with which codes it has.
+PARTS = {
+    "syntax": (20, "the codes of tokens and of the grammar"),
+    "types": (40, "the codes of the typing rules"),
+    "flow": (50, "the codes of the flow rules"),
+    "limits": (60, "the codes by which `compile` alone refuses"),
+}
 BOOK = os.path.join(suite.ROOT, "docs", "CODES.md")
 FIELDS = {"meaning", "place", "message", "hint", "text", "at", "by", "rule", "breaks", "mended"}
 HABITS = os.path.join(suite.ROOT, "docs", "habits.txt")
@@ -47,12 +54,14 @@ Each refusal has a code, by which its last line names it: `fault 22 at 3:14` is 
 `cyclone explain 22` prints of it, and so for each: the rule, a text that breaks it, and that text mended. The suite
 checks each text. `docs/LANGUAGE.md` has the codes in one table.
 """
-PAGES_HEAD = """//! The page of each code of a refusal, which `cyclone explain` prints: the rule, a text that breaks it, and that text mended. They are made
-//! of `docs/codes.txt` by `python3 tests/runners/codes.py --write`.
-ghost use Rattle.std.specs.Prelude.{◌≡◌};
-ghost use Rattle.cyc_terminal.specs.inside.Pages.{page_of};
+MADE = "//! They are made of `docs/codes.txt` by `python3 tests/runners/codes.py --write`.\n"
+PAGES_HEAD = f"""//! The page of each code of a refusal, which `cyclone explain` prints: the rule, a text that breaks it, and that text mended.
+{MADE}
+ghost use Rattle.std.specs.Prelude.{{◌≡◌}};
+ghost use Rattle.cyc_terminal.specs.inside.Pages.{{page_of}};
 
 use cyc_words::Code;
+
 """
 PAGES_FUNCTION = """
 /// The page of a code, in lines.
@@ -313,11 +322,20 @@ def literal(text):
     return text.replace("\\", "\\\\").replace('"', '\\"')
 
 
+def part_of(code):
+    """The part of the pages that a code's page stands in."""
+    return next(part for part, (end, _) in PARTS.items() if code.number < end)
+
+
 def pages_in_code(found):
-    """The file of the pages in the program."""
-    constants = [f'\nconst {code.constant()}: &str = "\\\n{literal(code.page())}";\n' for code in found]
-    arms = [f"        Code::{code.name} => {code.constant()},\n" for code in found]
-    return PAGES_HEAD + "".join(constants) + PAGES_FUNCTION + "".join(arms) + "    }\n}\n"
+    """The files of the pages in the program, by their paths."""
+    modules = [f"mod {part};\n" for part in sorted(PARTS)]
+    arms = [f"        Code::{code.name} => {part_of(code)}::{code.constant()},\n" for code in found]
+    files = {PAGES: PAGES_HEAD + "".join(modules) + PAGES_FUNCTION + "".join(arms) + "    }\n}\n"}
+    for part, (_, kept) in PARTS.items():
+        constants = [f'\npub(super) const {code.constant()}: &str = "\\\n{literal(code.page())}";\n' for code in found if part_of(code) == part]
+        files[os.path.join(PAGES.removesuffix(".rt"), part + ".rt")] = f"//! The pages of {kept}.\n{MADE}" + "".join(constants)
+    return files
 
 
 def book(found):
@@ -347,7 +365,7 @@ def main():
     found = codes()
     if options.write:
         before, _, behind = table_of(content(LANGUAGE))
-        for path, text in ((LANGUAGE, before + table_for(found) + behind), (PAGES, pages_in_code(found)), (BOOK, book(found))):
+        for path, text in ((LANGUAGE, before + table_for(found) + behind), *pages_in_code(found).items(), (BOOK, book(found))):
             with open(path, "w", encoding="utf-8") as file:
                 file.write(text)
         return
@@ -356,7 +374,7 @@ def main():
         (FAULTS, faults_of_docstrings),
         (ADVICE, faults_of_advice),
         (LANGUAGE, faults_of_language),
-        (PAGES, lambda found: faults_of_file(PAGES, pages_in_code(found))),
+        *((path, lambda _, path=path, text=text: faults_of_file(path, text)) for path, text in pages_in_code(found).items()),
         (BOOK, lambda found: faults_of_file(BOOK, book(found))),
     ]
     program = suite.program_of(options, len(files) + 2 + len(found) + len(usual))

@@ -4,9 +4,10 @@ use Rattle.cyc_words.specs.declared.fault.Code.{Code}
 use Rattle.cyc_words.specs.declared.fault.Code.TheVariants.{UnknownByte, UnclosedComment, NumberTooLarge, TextTooLong, Memory, TooManyTokens, UnexpectedToken, UnexpectedEnd, NestingTooDeep, ListTooLong, UnknownName, DeclaredTwice, TypeMismatch, NullForNonNull}
 use Rattle.cyc_words.specs.declared.fault.Code.TheVariants.{RegionNotLive, NotOutlived, EffectNotCovered, UniqueShared, NotAPlace, RegionOrKeyMisused, BadMain, OutsideLoop, EmptyVariable, LockedVariable, LoopEmptiesVariable, MissingReturn, TooManyFunctions}
 use Rattle.cyc_words.specs.declared.fault.Code.TheVariants.{FrameTooLarge}
-use Rattle.cyc_terminal.specs.declared.pages.TheConstants.{UNKNOWN_BYTE, UNCLOSED_COMMENT, NUMBER_TOO_LARGE, TEXT_TOO_LONG, MEMORY, TOO_MANY_TOKENS, UNEXPECTED_TOKEN, UNEXPECTED_END, NESTING_TOO_DEEP, LIST_TOO_LONG}
-use Rattle.cyc_terminal.specs.declared.pages.TheConstants.{UNKNOWN_NAME, DECLARED_TWICE, TYPE_MISMATCH, NULL_FOR_NON_NULL, REGION_NOT_LIVE, NOT_OUTLIVED, EFFECT_NOT_COVERED, UNIQUE_SHARED, NOT_A_PLACE}
-use Rattle.cyc_terminal.specs.declared.pages.TheConstants.{REGION_OR_KEY_MISUSED, BAD_MAIN, OUTSIDE_LOOP, EMPTY_VARIABLE, LOCKED_VARIABLE, LOOP_EMPTIES_VARIABLE, MISSING_RETURN, TOO_MANY_FUNCTIONS, FRAME_TOO_LARGE}
+use Rattle.cyc_terminal.specs.declared.pages.syntax.TheConstants.{UNKNOWN_BYTE, UNCLOSED_COMMENT, NUMBER_TOO_LARGE, TEXT_TOO_LONG, MEMORY, TOO_MANY_TOKENS, UNEXPECTED_TOKEN, UNEXPECTED_END, NESTING_TOO_DEEP, LIST_TOO_LONG}
+use Rattle.cyc_terminal.specs.declared.pages.types.TheConstants.{UNKNOWN_NAME, DECLARED_TWICE, TYPE_MISMATCH, NULL_FOR_NON_NULL, REGION_NOT_LIVE, NOT_OUTLIVED, EFFECT_NOT_COVERED, UNIQUE_SHARED, NOT_A_PLACE, REGION_OR_KEY_MISUSED, BAD_MAIN, OUTSIDE_LOOP}
+use Rattle.cyc_terminal.specs.declared.pages.flow.TheConstants.{EMPTY_VARIABLE, LOCKED_VARIABLE, LOOP_EMPTIES_VARIABLE, MISSING_RETURN}
+use Rattle.cyc_terminal.specs.declared.pages.limits.TheConstants.{TOO_MANY_FUNCTIONS, FRAME_TOO_LARGE}
 
 abbrev pub page_of : Code → List ℕ
 page_of UnknownByte = UNKNOWN_BYTE.now
