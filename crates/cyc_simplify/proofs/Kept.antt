@@ -1,13 +1,12 @@
--- In a run of a simplified program what its tables say is true: in the call that is executed, and in those that wait.
+-- In a run of a simplified program what its tables say stays true, step by step.
 use Rattle.std.proofs.Common.{◌≡◌, ℕ, suc, ◌+◌, ◌-◌, ◌*◌, ◌%◌, ◌^◌, ◌<◌, Bool, true, false, List, [], ◌∷◌, ◌++◌, drop, length, slice_get, Option, Some, None, refl, sym, ap, subst, ◌∙◌, arith, inl, inr}
-use Rattle.std.specs.Prelude.{◌==◌, if◌then◌else◌, unwrap_or, slice_index}
+use Rattle.std.specs.Prelude.{◌==◌, if◌then◌else◌, unwrap_or}
 use Rattle.std.proofs.lemmas.Bool.{cases_Bool, eq-eqb, or_left, or_right, cond_both, false≢true, not_from_false}
 use Rattle.cyc_words.specs.Ending.{Uncaught}
 use Rattle.cyc_words.specs.Word.{signed, add_of}
 use Rattle.cyc_words.specs.Bytes.{with_byte, word_of}
 use Rattle.cyc_words.proofs.Numbers.{eqb_next}
-use Rattle.cyc_words.proofs.Items.{below_from_slice_get}
-use Rattle.cyc_store.specs.State.{StoreState, lexical_count}
+use Rattle.cyc_store.specs.State.{lexical_count}
 use Rattle.cyc_store.specs.Services as services
 use Rattle.cyc_store.specs.Services.{Call, Refusal, refusal}
 use Rattle.cyc_plain.specs.declared.instruction.Instruction.{Instruction}
@@ -21,111 +20,39 @@ use Rattle.cyc_plain.specs.inside.Operators.{unary_result, has_no_result, binary
 use Rattle.cyc_plain.specs.inside.Requests.{destination_of}
 use Rattle.cyc_plain.specs.inside.Program.{Program, routine_at}
 use Rattle.cyc_plain.specs.inside.State.{Words, put, copied, Handler, Open, Caught, Activation, Frame, Configuration, State, Running, Ended, Stuck}
-use Rattle.cyc_plain.specs.inside.Memory.{Range, OfGlobals, OfStore, OfSlots, range_of, is_pinned, global_at, slot_at, put_or, with_waiting, memory_at, with_global, with_slot, with_word, with_memory}
-use Rattle.cyc_plain.specs.inside.Step.{served_to, with_slots, Choice, gives, operand_word, returns, loads, saves, loads_byte, saves_byte, advanced, asks, is_intact, tries, closes, lands, throws, finishes, call_in, performed, start}
+use Rattle.cyc_plain.specs.inside.Memory.{Range, OfGlobals, OfStore, OfSlots, range_of, is_pinned, global_at, slot_at, memory_at, with_global, with_slot, with_word, with_memory}
+use Rattle.cyc_plain.specs.inside.Step.{served_to, with_slots, Choice, gives, operand_word, returns, loads, saves, loads_byte, saves_byte, advanced, asks, is_intact, tries, closes, lands, throws, finishes, call_in, performed}
 use Rattle.cyc_plain.proofs.RunLaws.{if_either}
-use Rattle.cyc_plain.proofs.MemoryLaws.{numbered-from, memory-global, written-global}
+use Rattle.cyc_plain.proofs.MemoryLaws.{memory-global, written-global}
 use Rattle.cyc_plain.proofs.SlotLaws.{put-other}
 use Rattle.cyc_plain.specs.inside.Uses.{At, is_slot, is_among, leads}
 use Rattle.cyc_plain.specs.inside.WellFormed.{IsWellFormed}
 use Rattle.cyc_simplify.specs.declared.fact.Fact.{Fact}
 use Rattle.cyc_simplify.specs.declared.fact.Fact.TheVariants as facts_are
 use Rattle.cyc_simplify.specs.declared.fact.Touched.TheVariants as touches
-use Rattle.cyc_simplify.specs.inside.Facts.{Scene, scene_of, AreTrueIn, IsTrueIfAny, IsMade, is_free, are_free, are_suited, written, touched_by, touched_by_words, leaves_slot, first_global, global_offset, touched_global, touched, kept, suited, held, held_global}
+use Rattle.cyc_simplify.specs.inside.Facts.{Scene, scene_of, AreTrueIn, IsTrueIfAny, IsMade, is_free, are_free, written, touched_by, touched_by_words, leaves_slot, first_global, global_offset, touched_global, touched, kept, suited, held, held_global}
 use Rattle.cyc_simplify.specs.inside.Table.{IsReplaced}
 use Rattle.cyc_simplify.proofs.Memory.{memory_other, memory_there, unnamed_left, IsAlike, memory_alike, global_at_offset}
-use Rattle.cyc_simplify.proofs.Truth.{IsLeft, IsUntouched, fact_free, kept_true, suited_true, kept_suited, AreTrueAlone, true_alone, true_behind_call, suited_if, free_there}
+use Rattle.cyc_simplify.proofs.Truth.{IsLeft, IsUntouched, fact_free, kept_true, suited_true, kept_suited, true_alone, true_behind_call, suited_if, free_there}
 use Rattle.cyc_simplify.proofs.Behind.{put_left, put_itself, copied_left, copied_made, told_left, moved_made, itself_word, test_made, not_made, computed_made, loaded_made, shown_true}
-
--- the global that an instruction loads or stores is there
-abbrev pub HasGlobal : Program → Instruction → Type 0
-HasGlobal program (instructions.LoadGlobal destination global) = global < length program.globals
-HasGlobal program (instructions.StoreGlobal global source) = global < length program.globals
-HasGlobal program i = Unit {0}
+use Rattle.cyc_simplify.proofs.States as states
+use Rattle.cyc_simplify.proofs.States.{HasGlobal}
 
 module _ (program simplified : Program) (replaced : (function : ℕ) → IsReplaced program (routine_at program function) (routine_at simplified function)) where
-  -- what is known at a place of a function
-  abbrev pub facts_in : (function index : ℕ) → List Fact
-  facts_in function index = (replaced function).table index
+  abbrev facts_in : (function index : ℕ) → List Fact
+  facts_in = states.facts_in program simplified replaced
 
   abbrev pins_in : (function : ℕ) → List Bool
-  pins_in function = (replaced function).pinned
+  pins_in = states.pins_in program simplified replaced
 
-  -- nothing is known where handlers are opened
-  abbrev pub AreOpen : (function : ℕ) → List Handler → Type 0
-  AreOpen function [] = Unit {0}
-  AreOpen function (Open index first contents ∷ handlers) = (facts_in function index ≡ []) × AreOpen function handlers
-  AreOpen function (Caught ∷ handlers) = AreOpen function handlers
+  abbrev AreOpen : (function : ℕ) → List Handler → Type 0
+  AreOpen = states.AreOpen program simplified replaced
 
-  -- a call that waits behind its call of this function, with slots of which is true what was known there
-  pub record Stands (callee : ℕ) (f : Frame) : Type 0 where
-    pub index : ℕ
-    pub arguments : ℕ
-    pub count : ℕ
-    pub behind : f.caller.next ≡ suc index
-    pub at : At (routine_at simplified f.caller.function) index (instructions.Call callee arguments count f.result)
-    pub holds : AreTrueAlone f.caller.slots (facts_in f.caller.function index)
-    pub open_handlers : AreOpen f.caller.function f.caller.handlers
+  abbrev AreWaiting : (callee : ℕ) → List Frame → Type 0
+  AreWaiting = states.AreWaiting program simplified replaced
 
-  abbrev pub AreWaiting : (callee : ℕ) → List Frame → Type 0
-  AreWaiting callee [] = Unit {0}
-  AreWaiting callee (f ∷ frames) = Stands callee f × AreWaiting f.caller.function frames
-
-  abbrev pub IsKnown : State → Type 0
-  IsKnown (Running c) =
-      AreTrueIn (scene_of program c) (facts_in c.active.function c.active.next)
-      × AreOpen c.active.function c.active.handlers
-      × AreWaiting c.active.function c.frames
-  IsKnown (Ended ending output input) = Unit {0}
-  IsKnown (Stuck output input) = Unit {0}
-
-  -- ---- stores
-
-  suited_at : (function index : ℕ) (i : Instruction) → At (routine_at simplified function) index i → are_suited (pins_in function) (facts_in function index) ≡ true
-  suited_at function index i at = (replaced function).is_table.suited index (below_from_slice_get (routine_at simplified function).code index i at)
-
-  free_unnamed : (function slot : ℕ) → is_free (pins_in function) slot ≡ true → is_pinned (routine_at program function).code slot ≡ false
-  free_unnamed function slot free = (replaced function).pins.right slot free
-
-  -- a store to a slot whose address is taken
-  pinned_put : (function : ℕ) (slots : Words) (slot word : ℕ) → is_pinned (routine_at program function).code slot ≡ true → (index : ℕ) (i : Instruction)
-      → At (routine_at simplified function) index i → AreTrueAlone slots (facts_in function index) → AreTrueAlone (put slots slot word) (facts_in function index)
-  pinned_put function slots slot word pinned index i at holds = λ memory.
-      suited_true (record { slots = slots; memory = memory }) (record { slots = put slots slot word; memory = memory }) (pins_in function)
-      (λ number free. put-other slots slot number word (λ same. both number free same)) (λ address. refl)
-      (kept (record { first = 0; count = 0 }) touches.All (facts_in function index))
-      (kept_suited (pins_in function) (record { first = 0; count = 0 }) touches.All (facts_in function index) (suited_at function index i at)) (holds memory)
-    where
-      both : (number : ℕ) → is_free (pins_in function) number ≡ true → number ≡ slot → ⊥
-      both number free same =
-          let e : false ≡ true =
-          sym (free_unnamed function number free) ∙ ap (is_pinned (routine_at program function).code) same ∙ pinned in cc
-
-  slot_pinned : (a : Activation) (address slot : ℕ) → slot_at program a address ≡ Some slot → is_pinned (routine_at program a.function).code slot ≡ true
-  slot_pinned a address slot at = (numbered-from (is_pinned (routine_at program a.function).code) a.base address slot at).1
-
-  waiting_written : (callee : ℕ) (frames : List Frame) (address word : ℕ) → AreWaiting callee frames → AreWaiting callee (with_waiting program frames address word)
-  waiting_written callee [] address word waiting = tt
-  waiting_written callee (f ∷ frames) address word (first, rest) =
-      go (slot_at program f.caller address) refl (waiting_written f.caller.function frames address word rest)
-    where
-      go : (slot : Option ℕ) → slot_at program f.caller address ≡ slot → AreWaiting f.caller.function (with_waiting program frames address word)
-          → AreWaiting callee (put_or slot word f frames (with_waiting program frames address word))
-      go (Some slot) at others = (
-        record {
-          index = first.index;
-          arguments = first.arguments;
-          count = first.count;
-          behind = first.behind;
-          at = first.at;
-          holds = pinned_put f.caller.function f.caller.slots slot word (slot_pinned f.caller address slot at) first.index _ first.at first.holds;
-          open_handlers = first.open_handlers;
-        },
-        rest,
-      )
-      go None at others = (first, others)
-
-  -- ---- steps
+  abbrev IsKnown : State → Type 0
+  IsKnown = states.IsKnown program simplified replaced
 
   module _ (choice : Choice) (c : Configuration) (i : Instruction) (at : At (routine_at simplified c.active.function) c.active.next i)
       (holds : AreTrueIn (scene_of program c) (facts_in c.active.function c.active.next)) (handling : AreOpen c.active.function c.active.handlers)
@@ -169,7 +96,7 @@ module _ (program simplified : Program) (replaced : (function : ℕ) → IsRepla
       where
         other : is_free slots_free destination ≡ true → (slot : ℕ) → is_pinned (routine_at program c.active.function).code slot ≡ true → slot ≡ destination → ⊥
         other free slot named same =
-            false≢true (sym (free_unnamed c.active.function destination free) ∙ ap (is_pinned (routine_at program c.active.function).code) (sym same) ∙ named)
+            false≢true (sym (states.free_unnamed program simplified replaced c.active.function destination free) ∙ ap (is_pinned (routine_at program c.active.function).code) (sym same) ∙ named)
 
     -- slots get words, one behind the other
     by_slots : (d : Configuration) (source count destination : ℕ) → IsAlike c d → d.active.slots ≡ copied old source count old destination
@@ -184,7 +111,7 @@ module _ (program simplified : Program) (replaced : (function : ℕ) → IsRepla
         outside : are_free slots_free destination count ≡ true → (slot : ℕ) → is_pinned (routine_at program c.active.function).code slot ≡ true
             → leaves_slot (record { first = destination; count = count }) slot ≡ true
         outside free slot named = elim (cases_Bool (is_among destination count slot)) [
-          | inl among ↦ absurd (false≢true (sym (free_unnamed c.active.function slot (free_there slots_free destination count slot free among)) ∙ named))
+          | inl among ↦ absurd (false≢true (sym (states.free_unnamed program simplified replaced c.active.function slot (free_there slots_free destination count slot free among)) ∙ named))
           | inr other ↦ not_from_false (is_among destination count slot) other
         ]
 
@@ -212,7 +139,7 @@ module _ (program simplified : Program) (replaced : (function : ℕ) → IsRepla
         go : (slot : Option ℕ) → AreTrueIn (scene_of program (advanced (with_slot program c slot address word))) (facts_in c.active.function (c.active.next + 1))
             → IsKnown (Running (advanced (with_slot program c slot address word)))
         go (Some number) goes_on = (goes_on, handling, waiting)
-        go None goes_on = (goes_on, handling, waiting_written c.active.function c.frames address word waiting)
+        go None goes_on = (goes_on, handling, states.waiting_written program simplified replaced c.active.function c.frames address word waiting)
 
     -- a store changes memory, and of the slots of this call at most one whose address is taken
     module _ (address word : ℕ) where
@@ -224,7 +151,7 @@ module _ (program simplified : Program) (replaced : (function : ℕ) → IsRepla
       between = record { slots = old; memory = memory_at program behind_store }
 
       free_left : (slot : ℕ) → is_free slots_free slot ≡ true → behind_store.active.slots slot ≡ old slot
-      free_left slot free = unnamed_left program c address word slot (free_unnamed c.active.function slot free)
+      free_left slot free = unnamed_left program c address word slot (states.free_unnamed program simplified replaced c.active.function slot free)
 
       memory_behind : (other : ℕ) → memory_at program behind_store other ≡ memory_at program (with_memory program c address word) other
       memory_behind other =
@@ -236,7 +163,7 @@ module _ (program simplified : Program) (replaced : (function : ℕ) → IsRepla
       stored none led untouched makes =
           goes (c.active.next + 1) (scene_of program behind_store) led
           (suited_true between (scene_of program behind_store) slots_free free_left (λ other. refl) (kept (written program i) (touched slots_free i) here)
-          (kept_suited slots_free (written program i) (touched slots_free i) here (suited_at c.active.function c.active.next i at))
+          (kept_suited slots_free (written program i) (touched slots_free i) here (states.suited_at program simplified replaced c.active.function c.active.next i at))
           (kept_true (scene_of program c) between (written program i) (λ slot leaves. refl) (touched slots_free i) untouched here holds))
           makes
 
@@ -462,7 +389,7 @@ module _ (program simplified : Program) (replaced : (function : ℕ) → IsRepla
         (loaded_made words (memory_at program d) pins address offset destination word
         (λ free.
         memory_alike program c d (record { function = refl; base = refl; frames = refl; globals = refl; store = refl })
-        (λ slot named. put-other words destination slot word (λ same. false≢true (sym (free_unnamed c.active.function destination free) ∙ ap (is_pinned (routine_at program c.active.function).code) (sym same) ∙ named))) a
+        (λ slot named. put-other words destination slot word (λ same. false≢true (sym (states.free_unnamed program simplified replaced c.active.function destination free) ∙ ap (is_pinned (routine_at program c.active.function).code) (sym same) ∙ named))) a
         ∙ there)))
 
     -- the word of a global comes to a slot
@@ -585,21 +512,3 @@ module _ (program simplified : Program) (replaced : (function : ℕ) → IsRepla
   pub known_behind : IsWellFormed program → (choice : Choice) (c : Configuration) (i : Instruction) → HasGlobal program i → At (routine_at simplified c.active.function) c.active.next i
       → IsKnown (Running c) → IsKnown (performed program choice c i)
   known_behind well choice c i has at (holds, handling, waiting) = performs choice c holds handling waiting well i has at
-
-  -- where a run begins
-  abbrev beginning : (base : ℕ) → StoreState → List ℕ → Configuration
-  beginning base store input = record {
-    active = record { function = program.main; next = 0; base = base; slots = λ (slot : ℕ). 0; handlers = [] };
-    frames = [];
-    globals = λ (global : ℕ). slice_index program.globals global;
-    store = store;
-    output = [];
-    input = input;
-  }
-
-  pub known_start : (base : ℕ) (store : StoreState) (input : List ℕ) → IsKnown (start program base store input)
-  known_start base store input = (
-    subst (AreTrueIn (scene_of program (beginning base store input))) (sym (replaced program.main).is_table.first) tt,
-    tt,
-    tt,
-  )

@@ -3,6 +3,7 @@ pub mod Memory
 -- facts that are true stay so
 pub mod Truth
 pub mod Behind
+pub mod States
 pub mod Kept
 -- what stands for an instruction does the same
 pub mod Same
@@ -13,7 +14,11 @@ pub mod Tables
 pub mod Alike
 pub mod Runs
 -- it is a plain program, and not larger
+pub mod Suited
+pub mod Words
 pub mod Sizes
+pub mod Routines
+pub mod Plain
 -- what is known of room is so, and a program does the same where nothing asks for it
 pub mod Rooms
 pub mod Spared

@@ -29,7 +29,8 @@ use Rattle.cyc_simplify.specs.inside.Replacement.{simplified_operand, right_oper
 use Rattle.cyc_simplify.specs.inside.Replacement.{may_vanish, vanishes, place_behind, put_at}
 use Rattle.cyc_simplify.specs.inside.Table.{IsReplaced, AreReplaced}
 use Rattle.cyc_simplify.proofs.Alike.{pinned_alike, DoAlike, either_performs}
-use Rattle.cyc_simplify.proofs.Kept.{HasGlobal, facts_in, IsKnown, known_behind, known_start}
+use Rattle.cyc_simplify.proofs.States.{HasGlobal, facts_in, IsKnown, known_start}
+use Rattle.cyc_simplify.proofs.Kept.{known_behind}
 use Rattle.cyc_simplify.proofs.Same.{passed_either}
 use Rattle.cyc_simplify.proofs.Steps.{performs_same, callee_same, limit_same, request_same}
 use Rattle.cyc_simplify.proofs.Tables.{unchanged, put_reached}

@@ -16,7 +16,7 @@ use Rattle.cyc_simplify.specs.inside.Room.{slots_in, room_behind, room_at, is_en
 use Rattle.cyc_simplify.specs.inside.Simplified.{IsSimplified}
 use Rattle.cyc_simplify.specs.inside.Table.{IsReplaced, AreReplaced}
 use Rattle.cyc_simplify.proofs.Runs.{each_replaced}
-use Rattle.cyc_simplify.proofs.Sizes.{is_plain, is_simplified}
+use Rattle.cyc_simplify.proofs.Plain.{is_plain, is_simplified}
 use Rattle.cyc_simplify.proofs.Spared.{spared_plain, spared_simplified}
 use Rattle.cyc_simplify.proofs.Walks.{get_before, get_last, next_replaced, routine_before, routine_last, routines_last}
 

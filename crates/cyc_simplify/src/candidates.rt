@@ -1,7 +1,6 @@
 //! Which functions are worth a look. Nothing is promised of it: any function may stay as it is.
-use crate::effects::is_any_slot;
 use crate::jumps::is_end;
-use crate::known::{are_same_operands, is_same_operator, is_same_word};
+use crate::known::{are_same_operands, is_any_slot, is_same_operator, is_same_word};
 use cyc_plain::{Comparison, Instruction, Operand, Request};
 
 /// Slots to which other slots were moved since the last call, from the first to the last.

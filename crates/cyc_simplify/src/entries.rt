@@ -1,10 +1,10 @@
 //! Looks for what is known at the places that are jumped to. Nothing is promised of it: it is checked where it is used.
-use crate::effects::made;
 use crate::entry::{Entry, enter};
-use crate::fact::Fact;
+use crate::fact::{Fact, MOST_FACTS};
 use crate::facts::Facts;
 use crate::jumps::{is_end, target_of};
 use crate::known::{are_known, follows, is_unreached};
+use crate::outcomes::made;
 use crate::replacement::put_at;
 use crate::walk::come_behind;
 use cyc_plain::{Function, Instruction, Plain};
@@ -12,6 +12,9 @@ use std::alloc::{AllocError, Global};
 
 /// How often code is gone through at most.
 const ROUNDS: usize = 4;
+
+/// So many facts are looked for at most at a place that is jumped to: each jump on a way there may show one more.
+const MOST_ENTRY_FACTS: usize = 4 * MOST_FACTS;
 
 /// Places of code, up to the one at the end. No jump leads into it or out of it, but to where a run ends.
 #[derive(Clone, Copy)]
@@ -104,6 +107,9 @@ fn come_to(
         if !is_end(code, place) {
             entry.facts.extend_from_slice(facts)?;
             if let Some(fact) = more {
+                if entry.facts.len() >= MOST_ENTRY_FACTS {
+                    entry.facts.remove(0);
+                }
                 entry.facts.push(fact)?;
             }
         }
@@ -195,14 +201,13 @@ fn unknown(alloc: Global, code: &[Instruction]) -> Result<Vec<Entry>, AllocError
             jumped_from: index,
             facts: Vec::new(alloc),
         })?;
-        match code[index] {
-            Instruction::Jump { target } | Instruction::Branch { target, .. } => {
-                if target <= index {
-                    mark(&mut entries, target, index);
-                }
+        if let Some(target) = target_of(code[index]) {
+            if target <= index {
+                mark(&mut entries, target, index);
             }
-            Instruction::Try { .. } => close(&mut entries, index),
-            _ => {}
+        }
+        if let Instruction::Try { .. } = code[index] {
+            close(&mut entries, index);
         }
     }
     Ok(entries)

@@ -4,7 +4,8 @@ ghost use Rattle.std.specs.Int.{bit_at};
 ghost use Rattle.cyc_simplify.specs.declared.fact.Fact.{Fact};
 ghost use Rattle.cyc_simplify.specs.inside.Copies.{IsMarked, AreMarked};
 
-use crate::effects::{keep, remember};
+use crate::changes::keep;
+use crate::effects::remember;
 use crate::fact::{Fact, Touched, Written};
 use cyc_plain::Operand;
 use std::alloc::{AllocError, Global};

@@ -19,6 +19,16 @@ pub(crate) fn is_slot(operand: Operand, slot: usize) -> bool
     }
 }
 
+/// Whether an operand is any slot.
+pub(crate) fn is_any_slot(operand: Operand) -> bool
+    ensures { result ≡ facts_of.is_any_slot operand }
+{
+    match operand {
+        Operand::Slot { .. } => true,
+        Operand::Word { .. } => false,
+    }
+}
+
 fn operator_number(operator: BinaryOperator) -> u8
     ensures { result ≡ facts_of.operator_number operator }
 {
@@ -286,7 +296,6 @@ pub(crate) fn follows(facts: &[Fact], more: Option<Fact>, fact: Fact) -> bool
 }
 
 /// Where a fact stands among these, from a place on, or how many there are if it does not.
-#[tactic(auto, using(crate::proofs::Found::found_is_known))]
 fn found_from(facts: &[Fact], place: usize, fact: Fact) -> usize
     ensures { result < length facts.now → facts_of.is_known facts.now fact ≡ true }
 {
@@ -299,7 +308,6 @@ fn found_from(facts: &[Fact], place: usize, fact: Fact) -> usize
 }
 
 /// Whether a fact follows that was found at a place, if there is one.
-#[tactic(auto, using(crate::proofs::Found::known_follows))]
 fn follows_found(facts: &[Fact], more: Option<Fact>, fact: Fact, place: usize) -> bool
     requires { place < length facts.now → facts_of.is_known facts.now fact ≡ true }
     ensures { result ≡ table.follows facts.now more fact }

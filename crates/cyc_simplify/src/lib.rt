@@ -2,6 +2,7 @@
 #![tactic(auto)]
 
 mod candidates;
+mod changes;
 mod effects;
 mod entries;
 mod entry;
@@ -10,6 +11,7 @@ mod facts;
 mod folding;
 mod jumps;
 mod known;
+mod outcomes;
 mod pins;
 mod replacement;
 mod room;

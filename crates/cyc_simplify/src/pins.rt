@@ -6,8 +6,9 @@ ghost use Rattle.cyc_simplify.specs.inside.Pins as pins;
 ghost use Rattle.cyc_simplify.specs.inside.Pins.{AreRanges};
 ghost use Rattle.cyc_simplify.specs.inside.Table.{ArePins};
 
-use crate::effects::{leaves_slot, suits};
+use crate::changes::leaves_slot;
 use crate::fact::{Fact, Written};
+use crate::outcomes::suits;
 use cyc_plain::{Function, Instruction, MOST_FRAME_WORDS, Operand, RECORD_WORDS};
 use std::alloc::{AllocError, Global};
 
@@ -22,7 +23,6 @@ pub(crate) fn is_free(pinned: &[bool], slot: usize) -> bool
 }
 
 /// Whether so many slots, from the first on, are.
-#[tactic(auto, using(crate::proofs::Ranges::free_more, crate::proofs::Ranges::not_all_free, crate::proofs::Ranges::free_within))]
 pub(crate) fn are_free(pinned: &[bool], first: usize, count: usize) -> bool
     ensures { result ≡ facts_of.are_free pinned.now first count }
 {
@@ -81,7 +81,6 @@ fn range_of(instruction: Instruction) -> Option<Written>
 }
 
 /// The slots whose address code takes.
-#[tactic(auto, using(crate::proofs::Ranges::no_range_yet, crate::proofs::Ranges::no_range, crate::proofs::Ranges::one_range, crate::proofs::Ranges::are_ranges))]
 fn ranges_of(alloc: Global, code: &[Instruction]) -> Result<Vec<Written>, AllocError>
     ensures { IfOk result (λ ranges. AreRanges code.now ranges.items) }
 {
@@ -95,7 +94,6 @@ fn ranges_of(alloc: Global, code: &[Instruction]) -> Result<Vec<Written>, AllocE
 }
 
 /// Which slots of a function have their address taken. Where its frame is too large, and it will be refused, all are as if they had.
-#[tactic(auto, using(crate::proofs::Ranges::all_pinned, crate::proofs::Ranges::no_pins, crate::proofs::Ranges::more_pins, crate::proofs::Ranges::are_pins))]
 pub(crate) fn pins_of(alloc: Global, function: &Function) -> Result<Vec<bool>, AllocError>
     ensures { IfOk result (λ pinned. ArePins (routine_of function.now) pinned.items) }
 {

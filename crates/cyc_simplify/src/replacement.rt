@@ -6,7 +6,7 @@ ghost use Rattle.cyc_simplify.specs.declared.fact.Fact.TheVariants as facts_are;
 ghost use Rattle.cyc_plain.specs.declared.instruction.Instruction.TheVariants as instructions;
 ghost use Rattle.cyc_plain.specs.declared.instruction.Operand.TheVariants as operands;
 
-use crate::effects::{first_global, global_offset, negated};
+use crate::changes::{first_global, global_offset};
 use crate::fact::Fact;
 use crate::facts::Facts;
 use crate::folding::{folded_at, folded_unary, right_operand};
@@ -14,6 +14,7 @@ use crate::known::{
     are_same_operands, is_known, is_same_comparison, is_same_operand, is_same_operator,
     is_same_word, is_slot, is_unreached,
 };
+use crate::outcomes::negated;
 use cyc_plain::{BinaryOperator, Comparison, Instruction, Operand, Request, UnaryOperator};
 
 /// Whether an operand serves in the place of a slot: a word may take lines of its own.
@@ -46,7 +47,6 @@ fn instead(fact: Fact, operand: Operand) -> Option<Operand>
 }
 
 /// What stands for the same word as an operand. For a word that is the word itself, whatever is known.
-#[tactic(auto, using(crate::proofs::Keeping::simplified_word))]
 pub(crate) fn operand_in(facts: &[Fact], operand: Operand) -> Operand
     ensures { result ≡ replacement.simplified_operand facts.now operand }
 {
@@ -446,7 +446,6 @@ fn simplified_request(facts: &Facts, request: Request) -> Request
 }
 
 /// An instruction that does exactly the same wherever the facts are true. Where there are none that is the instruction itself.
-#[tactic(auto, using(crate::proofs::Tables::unaltered_without))]
 pub(crate) fn simplified_instruction(facts: &Facts, instruction: Instruction) -> Instruction
     ensures { result ≡ replacement.simplified_instruction facts.now instruction }
 {

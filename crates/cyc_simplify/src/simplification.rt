@@ -16,7 +16,6 @@ use cyc_plain::{Function, Instruction, Plain};
 use std::alloc::{AllocError, Global};
 
 /// The code of a function, simplified.
-#[tactic(auto, using(crate::proofs::Walks::walked_replaced, crate::proofs::Tails::tailless_replaced))]
 fn simplified_code(
     alloc: Global,
     plain: &Plain,
@@ -35,7 +34,6 @@ fn simplified_code(
 }
 
 /// A function, simplified.
-#[tactic(auto, using(crate::proofs::Sparing::code_made))]
 fn simplified(alloc: Global, plain: &Plain, function: &Function) -> Result<Function, AllocError>
     ensures { IfOk result (λ made. IsMadeFunction plain.now (routine_of function.now) (routine_of made)) }
 {

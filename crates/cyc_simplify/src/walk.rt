@@ -5,12 +5,13 @@ ghost use Rattle.cyc_plain.specs.inside.Uses.{At};
 ghost use Rattle.cyc_simplify.specs.inside.Entries as entries_of;
 ghost use Rattle.cyc_simplify.specs.inside.Table as table;
 
-use crate::effects::{go_on, made};
+use crate::effects::go_on;
 use crate::entry::{Entry, enter, is_entry_suited, may_go_on, may_jump};
 use crate::fact::Fact;
 use crate::facts::Facts;
 use crate::jumps::goes_on;
 use crate::known::{is_unreached, never};
+use crate::outcomes::made;
 use crate::replacement::put_at;
 use cyc_plain::{Function, Instruction, Plain};
 use std::alloc::{AllocError, Global};
@@ -114,7 +115,6 @@ fn instruction_at(function: &Function, index: usize) -> Instruction
 }
 
 /// The code of a function, each instruction by what is known where it stands, if the entries are right.
-#[tactic(auto, using(crate::proofs::Walks::none_walked))]
 pub(crate) fn walked(
     alloc: Global,
     plain: &Plain,

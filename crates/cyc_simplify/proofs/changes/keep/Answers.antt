@@ -1,8 +1,8 @@
--- cyc_simplify/proofs/effects/keep/Answers.antt
+-- cyc_simplify/proofs/changes/keep/Answers.antt
 use Rattle.std.proofs.Common.{◌∙◌, rules, sym}
 use Rattle.std.proofs.lemmas.Fn.{filter_same}
 use Rattle.cyc_simplify.proofs.Keeping.{nothing_changed}
-use Rattle.cyc_simplify.proofs.effects.keep.Goals as goal
+use Rattle.cyc_simplify.proofs.changes.keep.Goals as goal
 
 pub returns-then-not-changes_nothing : goal.returns-then-not-changes_nothing
 returns-then-not-changes_nothing c = filter_same _ _ _ (λ x b f' k. search rules) _ _ c.retain.ensures.filtered
