@@ -18,7 +18,7 @@ use Rattle.cyc_plain.specs.inside.WellFormed.{HasSlots, IsOperand, IsCallInRange
 use Rattle.cyc_plain.specs.inside.Uses.{At}
 use Rattle.cyc_simplify.specs.declared.fact.Fact.{Fact}
 use Rattle.cyc_simplify.specs.declared.fact.Fact.TheVariants as facts_are
-use Rattle.cyc_simplify.specs.inside.Facts.{is_known, global_offset, is_free, suits_operand, suits, are_suited}
+use Rattle.cyc_simplify.specs.inside.Facts.{is_known, global_offset, is_free, suits_operand, are_suited}
 use Rattle.cyc_simplify.specs.inside.Replacement.{vanishes, place_behind, put_at, simplified_operand, word_in, takes_word, small_or, right_operand, folded_unary, simplified_unary}
 use Rattle.cyc_simplify.specs.inside.Replacement.{folded_at, holder_in, simplified_binary, simplified_move, decision_in, passed_by, simplified_branch, value_in, simplified_load, global_value, simplified_global, simplified_request, simplified_instruction}
 use Rattle.cyc_simplify.specs.inside.Simplified.{IsLike}

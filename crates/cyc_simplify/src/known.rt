@@ -308,6 +308,7 @@ fn found_from(facts: &[Fact], place: usize, fact: Fact) -> usize
 }
 
 /// Whether a fact follows that was found at a place, if there is one.
+#[tactic(auto, using(crate::proofs::Found::known_follows))]
 fn follows_found(facts: &[Fact], more: Option<Fact>, fact: Fact, place: usize) -> bool
     requires { place < length facts.now → facts_of.is_known facts.now fact ≡ true }
     ensures { result ≡ table.follows facts.now more fact }

@@ -293,6 +293,7 @@ fn are_copied(pinned: &[bool], destination: usize, source: usize, count: usize) 
 }
 
 /// One of the words that an instruction copies, if it copies so many, is the same as its source.
+#[tactic(auto, using(crate::proofs::Ranges::destination_within, crate::proofs::Ranges::source_within))]
 pub(crate) fn copied(pinned: &[bool], instruction: Instruction, index: usize) -> Option<Fact>
     ensures { result ≡ facts_of.copied pinned.now instruction index }
 {

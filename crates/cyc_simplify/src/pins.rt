@@ -23,6 +23,7 @@ pub(crate) fn is_free(pinned: &[bool], slot: usize) -> bool
 }
 
 /// Whether so many slots, from the first on, are.
+#[tactic(auto, using(crate::proofs::Ranges::free_more, crate::proofs::Ranges::not_all_free, crate::proofs::Ranges::free_within))]
 pub(crate) fn are_free(pinned: &[bool], first: usize, count: usize) -> bool
     ensures { result ≡ facts_of.are_free pinned.now first count }
 {
@@ -81,6 +82,7 @@ fn range_of(instruction: Instruction) -> Option<Written>
 }
 
 /// The slots whose address code takes.
+#[tactic(auto, using(crate::proofs::Ranges::no_range_yet, crate::proofs::Ranges::are_ranges))]
 fn ranges_of(alloc: Global, code: &[Instruction]) -> Result<Vec<Written>, AllocError>
     ensures { IfOk result (λ ranges. AreRanges code.now ranges.items) }
 {
@@ -94,6 +96,7 @@ fn ranges_of(alloc: Global, code: &[Instruction]) -> Result<Vec<Written>, AllocE
 }
 
 /// Which slots of a function have their address taken. Where its frame is too large, and it will be refused, all are as if they had.
+#[tactic(auto, using(crate::proofs::Ranges::all_pinned, crate::proofs::Ranges::no_pins, crate::proofs::Ranges::more_pins, crate::proofs::Ranges::are_pins))]
 pub(crate) fn pins_of(alloc: Global, function: &Function) -> Result<Vec<bool>, AllocError>
     ensures { IfOk result (λ pinned. ArePins (routine_of function.now) pinned.items) }
 {

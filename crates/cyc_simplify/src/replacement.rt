@@ -47,6 +47,7 @@ fn instead(fact: Fact, operand: Operand) -> Option<Operand>
 }
 
 /// What stands for the same word as an operand. For a word that is the word itself, whatever is known.
+#[tactic(auto, using(crate::proofs::Keeping::simplified_word))]
 pub(crate) fn operand_in(facts: &[Fact], operand: Operand) -> Operand
     ensures { result ≡ replacement.simplified_operand facts.now operand }
 {
@@ -446,6 +447,7 @@ fn simplified_request(facts: &Facts, request: Request) -> Request
 }
 
 /// An instruction that does exactly the same wherever the facts are true. Where there are none that is the instruction itself.
+#[tactic(auto, using(crate::proofs::Tables::unaltered_without))]
 pub(crate) fn simplified_instruction(facts: &Facts, instruction: Instruction) -> Instruction
     ensures { result ≡ replacement.simplified_instruction facts.now instruction }
 {

@@ -13,6 +13,7 @@ const MOST_ROOM: usize = usize::MAX;
 const ROUNDS: usize = 4;
 
 /// The room that a call of a function asks for: one more than it has slots.
+#[tactic(auto, using(crate::proofs::Sparing::slots_and_one_fit))]
 fn room_for(plain: &Plain, function: usize) -> usize
     ensures { result ≡ rooms_of.slots_in plain.now function + 1 }
 {
@@ -157,6 +158,7 @@ fn asks_for_room(code: &[Instruction]) -> bool {
 }
 
 /// The code with nothing where it asks for room that is known, if what is said of its places is right.
+#[tactic(auto, using(crate::proofs::Sparing::none_spared))]
 fn sparing(
     alloc: Global,
     plain: &Plain,
@@ -182,6 +184,7 @@ fn sparing(
 }
 
 /// The code with nothing where it asks for room that is known.
+#[tactic(auto, using(crate::proofs::Spared::code_unspared))]
 pub(crate) fn spare(
     alloc: Global,
     plain: &Plain,

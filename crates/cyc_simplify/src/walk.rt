@@ -115,6 +115,7 @@ fn instruction_at(function: &Function, index: usize) -> Instruction
 }
 
 /// The code of a function, each instruction by what is known where it stands, if the entries are right.
+#[tactic(auto, using(crate::proofs::Walks::none_walked))]
 pub(crate) fn walked(
     alloc: Global,
     plain: &Plain,
