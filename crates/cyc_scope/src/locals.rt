@@ -111,7 +111,6 @@ impl Locals {
         }
     }
 
-    #[tactic(auto, using(crate::proofs::LocalLemmas::as_many_locals))]
     pub(crate) fn len(&self) -> usize
         ensures { result ≡ length self.now }
     {
@@ -176,7 +175,6 @@ impl Locals {
     }
 
     /// Forgets the newest local.
-    #[tactic(auto, using(crate::proofs::LocalLemmas::local_in_range))]
     fn undo(&mut self)
         ensures { self.new ≡ drop 1 self.old }
     {
