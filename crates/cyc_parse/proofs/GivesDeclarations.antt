@@ -15,8 +15,8 @@ use Rattle.cyc_parse.specs.inside.Statements.{nested_statements}
 use Rattle.cyc_parse.specs.inside.Declarations.{begins_void, begins_constructor, number_value, member, field, has_int, constructor, more_of, some_of, parameter_list, effect_regions, effect, constraint}
 use Rattle.cyc_parse.specs.inside.Declarations.{constraints, parameters, value_by, value, global_value, function, typed, struct_fields, struct_or_typed, exceptions, declaration_by, declaration}
 use Rattle.cyc_parse.proofs.Rules.{Front, Fits, leaf_of, leaf_at}
-use Rattle.cyc_parse.proofs.Gives.{Derived, Gives, Follows, Spells, Any, part_then, spelled_then, last_then, pure_gives, Begins, Completed, IsLimit, Opened, possibly, unexpected_gives, begun_gives, leaf_begins, gives_as}
-use Rattle.cyc_parse.proofs.Gives.{item_gives, take_then, sign_then, word_then, identifier_then, region_then, advance_then, advance_bare_then, choose_gives, sees_gives, starts_gives, stuck_sign, some_place, numbered, opened_then}
+use Rattle.cyc_parse.proofs.Gives.{Derived, Gives, Follows, Spells, Any, part_then, spelled_then, last_then, pure_gives, Begins, Completed, IsLimit, Opened, possibly, unexpected_gives, begun_gives, leaf_begins, gives_as, item_gives, numbered, opened_then}
+use Rattle.cyc_parse.proofs.GivesSymbols.{take_then, sign_then, word_then, identifier_then, region_then, advance_then, advance_bare_then, choose_gives, sees_gives, starts_gives, stuck_sign, some_place}
 use Rattle.cyc_parse.proofs.Openings.{member_opened, field_opened, constructor_opened, constraint_opened}
 use Rattle.cyc_parse.proofs.GivesTypes.{separated_gives, regions_give, optional_regions_give, with_pointers_give, written_type_gives}
 use Rattle.cyc_parse.proofs.GivesStatements.{body_gives, nested_statements_give}

@@ -18,8 +18,8 @@ use Rattle.cyc_parse.specs.inside.Expressions.{begins_expression, begins_initial
 use Rattle.cyc_parse.specs.inside.Expressions.{primary, postfixes, with_postfixes, prefixed_by, unary_by, unary, assignment, binary, expression, more_values, values, fields, initial_from_name, array, initial_by, initial, nested}
 use Rattle.cyc_parse.proofs.Rules.{Fits, leaf_of, leaf_at}
 use Rattle.cyc_parse.proofs.OperatorSigns.{is_prefix_sign, is_operator_sign}
-use Rattle.cyc_parse.proofs.Gives.{Gives, Follows, Spells, part_then, spelled_then, last_then, pure_gives, possibly, unexpected_gives, limit_gives, item_refusal_gives, gives_as, gives_instead, some_place, sign_then}
-use Rattle.cyc_parse.proofs.Gives.{sign_item_then, word_then_at, identifier_then, advance_then, advance_leaf_then, choose_gives, test_gives, sees_gives, sees_limit_gives, is_gives, opened_item, opening_as}
+use Rattle.cyc_parse.proofs.Gives.{Gives, Follows, Spells, part_then, spelled_then, last_then, pure_gives, possibly, unexpected_gives, limit_gives, item_refusal_gives, gives_as, gives_instead, opened_item, opening_as}
+use Rattle.cyc_parse.proofs.GivesSymbols.{some_place, sign_then, sign_item_then, word_then_at, identifier_then, advance_then, advance_leaf_then, choose_gives, test_gives, sees_gives, sees_limit_gives, is_gives}
 use Rattle.cyc_parse.proofs.Openings.{named_at, zero_at, looser, expression_opened, group_opened, initial_opened}
 use Rattle.cyc_parse.proofs.GivesTypes.{separated_gives, region_list_gives}
 

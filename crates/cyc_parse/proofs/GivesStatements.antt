@@ -15,7 +15,7 @@ use Rattle.cyc_parse.specs.inside.Statements.{behind, statement_from_name, else_
 use Rattle.cyc_parse.specs.inside.Statements.{statement_by, statement, local_value, local, opened_key, region, alias, new_key, dynamic_region, let_by, executed, item_by, item, items_in, items, nested_statements}
 use Rattle.cyc_parse.proofs.Rules.{Fits, leaf_of, leaf_at}
 use Rattle.cyc_parse.proofs.Gives.{Gives, Follows, Spells, Any, part_then, spelled_then, last_then, pure_gives, possibly, unexpected_gives, then_unexpected, begun_gives, item_refusal_gives, gives_as, gives_instead}
-use Rattle.cyc_parse.proofs.Gives.{some_place, sign_then, sign_then_at, word_then, identifier_then, advance_then, advance_bare_then, choose_gives, test_gives, sees_gives, starts_gives, bare_gives, stuck_sign, stuck_word}
+use Rattle.cyc_parse.proofs.GivesSymbols.{some_place, sign_then, sign_then_at, word_then, identifier_then, advance_then, advance_bare_then, choose_gives, test_gives, sees_gives, starts_gives, bare_gives, stuck_sign, stuck_word}
 use Rattle.cyc_parse.proofs.Openings.{named_at, IsStatementBefore, statement_opened, items_opened}
 use Rattle.cyc_parse.proofs.GivesTypes.{region_of_gives, written_type_gives}
 use Rattle.cyc_parse.proofs.GivesExpressions.{Level, NestedGive, nested_give, named_climb_gives, assignment_gives}

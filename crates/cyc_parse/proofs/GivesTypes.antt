@@ -13,8 +13,8 @@ use Rattle.cyc_syntax.specs.Grammar.{IsNonempty, max_nesting, max_items}
 use Rattle.cyc_parse.specs.inside.Parsing.{Parser, TooLong, next, begins_region, region_name, region_list, more_items, separated, regions}
 use Rattle.cyc_parse.specs.inside.Types.{mark_at, optional_region, pointers_of, with_pointers, optional_regions, region_of, base_by, written_type}
 use Rattle.cyc_parse.proofs.Rules.{Fits, leaf_of, leaf_at}
-use Rattle.cyc_parse.proofs.Gives.{Gives, Follows, Spells, Any, spelled_then, last_then, pure_gives, Possible, Opened, possibly, unexpected_gives, limit_gives, item_refusal_gives, gives_as, item_gives, some_place}
-use Rattle.cyc_parse.proofs.Gives.{sign_then, region_then, identifier_then, advance_then, advance_leaf_then, choose_gives, sees_gives, starts_gives, is_gives, bare_gives, numbered, opened_item, opened_then}
+use Rattle.cyc_parse.proofs.Gives.{Gives, Follows, Spells, Any, spelled_then, last_then, pure_gives, Possible, Opened, possibly, unexpected_gives, limit_gives, item_refusal_gives, gives_as, item_gives, numbered, opened_item, opened_then}
+use Rattle.cyc_parse.proofs.GivesSymbols.{some_place, sign_then, region_then, identifier_then, advance_then, advance_leaf_then, choose_gives, sees_gives, starts_gives, is_gives, bare_gives}
 use Rattle.cyc_parse.proofs.Openings.{region_opened}
 
 -- ---- lists with commas between

@@ -24,6 +24,7 @@ pub mod DeclarationReads
 -- soundness: what the parser answers is a tree, and what a limit refuses is begun by a program
 pub mod Soundness
 pub mod Gives
+pub mod GivesSymbols
 pub mod Openings
 pub mod GivesTypes
 pub mod GivesExpressions

@@ -17,7 +17,8 @@ use Rattle.cyc_parse.proofs.Rules.{Front}
 use Rattle.cyc_parse.proofs.Locality.{left_of}
 use Rattle.cyc_parse.proofs.LocalExpressions.{was_read}
 use Rattle.cyc_parse.proofs.LocalDeclarations.{declaration_runs}
-use Rattle.cyc_parse.proofs.Gives.{Derived, answer_of, front-append, within-append, IsLimit, Gives, Spells, spelled_then, last_then, pure_gives, gives_instead, some_place, choose_gives}
+use Rattle.cyc_parse.proofs.Gives.{Derived, answer_of, front-append, within-append, IsLimit, Gives, Spells, spelled_then, last_then, pure_gives, gives_instead}
+use Rattle.cyc_parse.proofs.GivesSymbols.{some_place, choose_gives}
 use Rattle.cyc_parse.proofs.GivesDeclarations.{declaration_gives}
 
 -- ---- all symbols are read
