@@ -126,7 +126,7 @@ def without_lemma(text, name):
 
 
 # Files that are read for themselves: programs that are worked through, and what laws rest on by name.
-READ_ALONE = re.compile(r"Examples|Programs\.antt|Texts\.antt|/laws/|KeyFields|LaterRegions|ReadsFirst|/(Answers|Invariants|Proof)\.antt")
+READ_ALONE = re.compile(r"Examples|examples/|Programs\.antt|Texts\.antt|/laws/|KeyFields|LaterRegions|ReadsFirst|/(Answers|Invariants|Proof)\.antt")
 
 
 def lemmas_that_nothing_names():
