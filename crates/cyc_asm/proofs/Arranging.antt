@@ -12,7 +12,7 @@ use Rattle.cyc_words.proofs.Booleans.{and_right, and_left}
 use Rattle.cyc_isa.specs.declared.instr.Instr.{Instr}
 use Rattle.cyc_select.specs.declared.code.Line.{Line}
 use Rattle.cyc_select.specs.declared.code.Line.TheVariants as lines
-use Rattle.cyc_select.specs.inside.Labelled.{Labelled, Fits, IsFormed, IsFormedLine, AreAddresses, words_of, all_words}
+use Rattle.cyc_select.specs.inside.Labelled.{Labelled, Fits, IsFormed, IsFormedLine, IsReturnPoint, AreAddresses, words_of, all_words}
 use Rattle.cyc_asm.specs.inside.Slots.{is_movable, moves, label_of, is_label, is_named, moved, filling, AreNamed}
 use Rattle.cyc_asm.specs.inside.Order.{passes, passes_line, passes_at, passes_all, comes_down, sunk, sunk_from, tried, settled, arranged_before, arranged, in_order}
 use Rattle.cyc_asm.specs.inside.Layout.{addresses_of}
@@ -22,7 +22,7 @@ use Rattle.cyc_asm.specs.inside.Words.{assembled}
 use Rattle.cyc_asm.specs.inside.Machine.{Runs}
 use Rattle.cyc_asm.proofs.Fillings.{filled_moves}
 use Rattle.cyc_asm.proofs.Lengths.{length-arranged}
-use Rattle.cyc_asm.proofs.Exchanging.{IsExchange, exchange_runs}
+use Rattle.cyc_asm.proofs.Exchanging.{IsExchange, point_before, point_after, exchange_runs}
 use Rattle.cyc_asm.proofs.Standing.{in_order_means}
 use Rattle.cyc_asm.proofs.Running.{runs_in_order}
 
@@ -56,17 +56,22 @@ swap_places code number first second movable passing unnamed here behind =
 
 -- ---- what an order keeps
 
--- the same lines, and what runs as the second runs as the first
+-- the same lines, of which returns go to the same, and what runs as the second runs as the first
 pub record Keeps (globals : List ℕ) (code order : List Line) : Type 0 where
   pub permutes : IsPermutation code order
+  pub points : (line : ℕ) → IsReturnPoint (record { lines = order; globals = globals }) line → IsReturnPoint (record { lines = code; globals = globals }) line
+  pub new_points : (line : ℕ) → IsReturnPoint (record { lines = code; globals = globals }) line → IsReturnPoint (record { lines = order; globals = globals }) line
   pub runs : (addresses : ℕ → ℕ) (words : List ℕ) → Runs (record { lines = order; globals = globals }) addresses words → Runs (record { lines = code; globals = globals }) addresses words
 
 keeps_same : (globals : List ℕ) (code : List Line) → Keeps globals code code
-keeps_same globals code = record { permutes = IsPermutation-refl code; runs = λ addresses words runs. runs }
+keeps_same globals code =
+    record { permutes = IsPermutation-refl code; points = λ line point. point; new_points = λ line point. point; runs = λ addresses words runs. runs }
 
 keeps_more : (globals : List ℕ) (code middle order : List Line) → Keeps globals code middle → Keeps globals middle order → Keeps globals code order
 keeps_more globals code middle order first second = record {
   permutes = IsPermutation-trans code middle order first.permutes second.permutes;
+  points = λ line point. first.points line (second.points line point);
+  new_points = λ line point. second.new_points line (first.new_points line point);
   runs = λ addresses words runs. first.runs addresses words (second.runs addresses words runs);
 }
 
@@ -74,6 +79,8 @@ keeps_swapped : (globals : List ℕ) (code : List Line) (number : ℕ) (first se
 keeps_swapped globals code number first second x = record {
   permutes = IsPermutation-swap code (swap code number (suc number)) number (suc number)
       (slice_get_within code number (lines.Ordinary first) x.here) (slice_get_within code (suc number) (lines.Ordinary second) x.behind) refl;
+  points = point_before (record { lines = code; globals = globals }) (swap code number (suc number)) number first second x;
+  new_points = point_after (record { lines = code; globals = globals }) (swap code number (suc number)) number first second x;
   runs = λ addresses words runs. exchange_runs (record { lines = code; globals = globals }) (swap code number (suc number)) number first second x addresses words runs;
 }
 
@@ -212,19 +219,22 @@ still_fits code fits = let same = same_words code in omega (arith, same, fits)
 
 -- ---- the text
 
-same_addresses : (code other : Labelled) (addresses : ℕ → ℕ) → length other.lines ≡ length code.lines → AreAddresses code addresses → AreAddresses other addresses
-same_addresses code other addresses long places = record {
-  apart = λ a b in_a in_b. places.apart a b (omega (arith, in_a, long)) (omega (arith, in_b, long));
+abbrev Points : (code other : Labelled) → Type 0
+Points code other = (line : ℕ) → IsReturnPoint other line → IsReturnPoint code line
+
+same_addresses : (code other : Labelled) (addresses : ℕ → ℕ) → length other.lines ≡ length code.lines → Points code other → AreAddresses code addresses → AreAddresses other addresses
+same_addresses code other addresses long points places = record {
+  apart = λ a b point_a point_b. places.apart a b (points a point_a) (points b point_b);
   aligned = λ line inside. places.aligned line (omega (arith, inside, long));
   from = λ line inside. places.from line (omega (arith, inside, long));
   below = λ line inside. places.below line (omega (arith, inside, long));
 }
 
--- text of code is text of any code of the same size, in the same order
-text_as : (code other order : Labelled) (addresses : ℕ → ℕ) (words : List ℕ) → length other.lines ≡ length code.lines → all_words other.lines ≡ all_words code.lines
+-- text of code is text of any code of the same size in which returns go to the same lines, in the same order
+text_as : (code other order : Labelled) (addresses : ℕ → ℕ) (words : List ℕ) → length other.lines ≡ length code.lines → Points code other → all_words other.lines ≡ all_words code.lines
     → IsTextInOrder code order addresses words → IsTextInOrder other order addresses words
-text_as code other order addresses words long most text = record {
-  places = same_addresses code other addresses long text.places;
+text_as code other order addresses words long points most text = record {
+  places = same_addresses code other addresses long points text.places;
   first = text.first;
   stands = text.stands;
   all = subst (λ (count : ℕ). flat_map (own addresses) (range_with_len 0 count) ≡ stretch text_base (length words)) (sym long) text.all;
@@ -233,11 +243,13 @@ text_as code other order addresses words long most text = record {
 }
 
 pub in_its_order : (code : Labelled) (addresses : ℕ → ℕ) (words : List ℕ) → IsTextOf code addresses words → IsTextInOrder (in_order code) (in_order code) addresses words
-in_its_order code addresses words text = text_as code (in_order code) (in_order code) addresses words (length-arranged code.lines) (same_words code.lines) text
+in_its_order code addresses words text = text_as code (in_order code) (in_order code) addresses words (length-arranged code.lines)
+    (keeps_before code.globals code.lines (length code.lines)).points (same_words code.lines) text
 
 pub assembled_means : (code : Labelled) → IsFormed code → Fits code.lines → IsTextOf code (addresses_of code) (assembled code)
 assembled_means code formed fits =
-    text_as (in_order code) code (in_order code) (addresses_of code) (assembled code) (sym (length-arranged code.lines)) (sym (same_words code.lines))
+    text_as (in_order code) code (in_order code) (addresses_of code) (assembled code) (sym (length-arranged code.lines))
+    (keeps_before code.globals code.lines (length code.lines)).new_points (sym (same_words code.lines))
     (in_order_means (in_order code) (still_formed code.lines formed) (still_fits code.lines fits))
 
 -- words that mean labelled code run as it does

@@ -68,7 +68,7 @@ abbrev moving : Labelled
 moving = record {
   lines =
       lines.Ordinary (Immediate immediates.AddUnsigned (register_of 8) (register_of 8) 1)
-      ∷ lines.Branch (conditions.Registers NotEqual (register_of 9) (register_of 0)) 0
+      ∷ lines.Branch (conditions.Registers NotEqual (register_of 9) (register_of 0)) 4
       ∷ lines.Ordinary (Immediate immediates.AddUnsigned (register_of 8) (register_of 8) 1)
       ∷ lines.Jump 0
       ∷ lines.Ordinary (Immediate immediates.AddUnsigned (register_of 8) (register_of 8) 1)
@@ -81,7 +81,7 @@ moving = record {
 }
 
 moving_words : assembled moving ≡
-    0x1520ffff ∷ 0x25080001
+    0x15200003 ∷ 0x25080001
     ∷ 0x08100000 ∷ 0x25080001
     ∷ 0x25080001
     ∷ 0x1500fffa ∷ 0
@@ -99,7 +99,7 @@ calling = record {
       lines.Ordinary (Immediate immediates.AddUnsigned (register_of 31) (register_of 0) 4)
       ∷ lines.Call 4
       ∷ lines.Ordinary (Memory StoreWord (register_of 8) (register_of 29) 4)
-      ∷ lines.Call 4
+      ∷ lines.Call 7
       ∷ lines.Ordinary (Memory LoadWord (register_of 31) (register_of 29) 4)
       ∷ lines.Ordinary (Immediate immediates.AddUnsigned (register_of 29) (register_of 29) 32)
       ∷ lines.Return
@@ -112,7 +112,7 @@ calling = record {
 calling_words : assembled calling ≡
     0x241f0004
     ∷ 0x0c100005 ∷ 0
-    ∷ 0x0c100005 ∷ 0xafa80004
+    ∷ 0x0c100008 ∷ 0xafa80004
     ∷ 0x8fbf0004
     ∷ 0x03e00008 ∷ 0x27bd0020
     ∷ 0x8fbf0004
@@ -152,25 +152,26 @@ multiplying_words : assembled multiplying ≡
 multiplying_words = refl
 
 -- Two jumps to one label: each has its own instruction in its slot. The branch at the label has none, and what goes to an
--- instruction that moved goes to the branch or jump behind it.
+-- instruction that moved goes to the branch or jump behind it. No run comes to the three lines before the branch.
 abbrev meeting : Labelled
 meeting = record {
   lines =
       lines.Ordinary (Immediate immediates.AddUnsigned (register_of 8) (register_of 0) 1)
-      ∷ lines.Jump 5
+      ∷ lines.Jump 7
       ∷ lines.Ordinary (Immediate immediates.AddUnsigned (register_of 8) (register_of 0) 2)
-      ∷ lines.Jump 5
+      ∷ lines.Jump 7
       ∷ lines.Ordinary (Immediate immediates.AddUnsigned (register_of 9) (register_of 0) 3)
+      ∷ lines.Jump 7
+      ∷ lines.Return
       ∷ lines.Branch (conditions.Registers Equal (register_of 8) (register_of 0)) 2
       ∷ [];
   globals = [];
 }
 
 meeting_words : assembled meeting ≡
-    0x08100005 ∷ 0x24080001
-    ∷ 0x08100005 ∷ 0x24080002
-    ∷ 0x24090003
-    ∷ 0x1100fffc ∷ 0
+    0x08100004 ∷ 0x24080001
+    ∷ 0x08100004 ∷ 0x24080002
+    ∷ 0x1100fffd ∷ 0
     ∷ []
 meeting_words = refl
 

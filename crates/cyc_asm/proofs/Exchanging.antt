@@ -20,9 +20,9 @@ use Rattle.cyc_machine.specs.WorldMachine.{world_machine}
 use Rattle.cyc_store.specs.State.{StoreState}
 use Rattle.cyc_select.specs.declared.code.Line.{Line}
 use Rattle.cyc_select.specs.declared.code.Line.TheVariants as lines
-use Rattle.cyc_select.specs.inside.Labelled.{Labelled, is_ordinary}
+use Rattle.cyc_select.specs.inside.Labelled.{Labelled, is_ordinary, IsReturnPoint}
 use Rattle.cyc_select.specs.inside.Machine as labelled
-use Rattle.cyc_select.specs.inside.Machine.{Configuration, IsReturnPoint, machine_of, world_of, word_in, holds_of}
+use Rattle.cyc_select.specs.inside.Machine.{Configuration, machine_of, world_of, word_in, holds_of}
 use Rattle.cyc_select.proofs.Laws.{code_is_lawful}
 use Rattle.cyc_asm.specs.inside.Slots.{is_movable, label_of, is_named}
 use Rattle.cyc_asm.specs.inside.Order.{passes}
@@ -51,6 +51,31 @@ ordinary_no_call i label is = cc
 
 failed_running : Failed ≡ Running → ⊥
 failed_running is = cc
+
+-- returns go to the same lines
+module _ (code : Labelled) (exchanged : List Line) (number : ℕ) (first second : Instr) (x : IsExchange code.lines exchanged number first second) where
+  -- a call stands in neither place
+  call_apart : (call label : ℕ) → slice_get code.lines call ≡ Some (lines.Call label) → (call ≢ number) × (call ≢ suc number)
+  call_apart call label calls = (
+    λ same. ordinary_no_call first label (sym x.here ∙ ap (slice_get code.lines) (sym same) ∙ calls),
+    λ same. ordinary_no_call second label (sym x.behind ∙ ap (slice_get code.lines) (sym same) ∙ calls),
+  )
+
+  new_call_apart : (call label : ℕ) → slice_get exchanged call ≡ Some (lines.Call label) → (call ≢ number) × (call ≢ suc number)
+  new_call_apart call label calls = (
+    λ same. ordinary_no_call second label (sym x.new_here ∙ ap (slice_get exchanged) (sym same) ∙ calls),
+    λ same. ordinary_no_call first label (sym x.new_behind ∙ ap (slice_get exchanged) (sym same) ∙ calls),
+  )
+
+  pub point_before : (line : ℕ) → IsReturnPoint (record { lines = exchanged; globals = code.globals }) line → IsReturnPoint code line
+  point_before line p =
+      let (not_here, not_behind) = new_call_apart p.call p.label p.calls in
+      record { inside = (let i = p.inside in let l = x.long in omega (arith, i, l)); call = p.call; label = p.label; behind = p.behind; calls = sym (x.others p.call not_here not_behind) ∙ p.calls }
+
+  pub point_after : (line : ℕ) → IsReturnPoint code line → IsReturnPoint (record { lines = exchanged; globals = code.globals }) line
+  point_after line p =
+      let (not_here, not_behind) = call_apart p.call p.label p.calls in
+      record { inside = (let i = p.inside in let l = x.long in omega (arith, i, l)); call = p.call; label = p.label; behind = p.behind; calls = x.others p.call not_here not_behind ∙ p.calls }
 
 module _ (code : Labelled) (exchanged : List Line) (number : ℕ) (first second : Instr) (x : IsExchange code.lines exchanged number first second) (addresses : ℕ → ℕ) where
   abbrev new_code : Labelled
@@ -109,32 +134,15 @@ module _ (code : Labelled) (exchanged : List Line) (number : ℕ) (first second 
 
   -- ---- any other line
 
-  -- a call stands in neither place
-  call_apart : (call label : ℕ) → slice_get code.lines call ≡ Some (lines.Call label) → (call ≢ number) × (call ≢ suc number)
-  call_apart call label calls = (
-    λ same. ordinary_no_call first label (sym x.here ∙ ap (slice_get code.lines) (sym same) ∙ calls),
-    λ same. ordinary_no_call second label (sym x.behind ∙ ap (slice_get code.lines) (sym same) ∙ calls),
-  )
-
-  new_call_apart : (call label : ℕ) → slice_get exchanged call ≡ Some (lines.Call label) → (call ≢ number) × (call ≢ suc number)
-  new_call_apart call label calls = (
-    λ same. ordinary_no_call second label (sym x.new_here ∙ ap (slice_get exchanged) (sym same) ∙ calls),
-    λ same. ordinary_no_call first label (sym x.new_behind ∙ ap (slice_get exchanged) (sym same) ∙ calls),
-  )
-
   point : (line : ℕ) → IsReturnPoint new_code line → IsReturnPoint code line
-  point line p =
-      let (not_here, not_behind) = new_call_apart p.call p.label p.calls in
-      record { inside = (let i = p.inside in let l = x.long in omega (arith, i, l)); call = p.call; label = p.label; behind = p.behind; calls = sym (x.others p.call not_here not_behind) ∙ p.calls }
+  point = point_before code exchanged number first second x
 
   new_point : (line : ℕ) → IsReturnPoint code line → IsReturnPoint new_code line
-  new_point line p =
-      let (not_here, not_behind) = call_apart p.call p.label p.calls in
-      record { inside = (let i = p.inside in let l = x.long in omega (arith, i, l)); call = p.call; label = p.label; behind = p.behind; calls = x.others p.call not_here not_behind ∙ p.calls }
+  new_point = point_after code exchanged number first second x
 
   point_outside : (line : ℕ) → IsReturnPoint code line → line ≢ suc number
   point_outside line p same =
-      let (not_here, not_behind) = call_apart p.call p.label p.calls in
+      let (not_here, not_behind) = call_apart code exchanged number first second x p.call p.label p.calls in
       not_here (let b = p.behind in omega (arith, same, b))
 
   -- nothing goes to the second line

@@ -1,13 +1,14 @@
--- Laws of the slots that are filled.
+-- Laws of the slots that are filled, and of the lines that runs come to.
 use Rattle.std.proofs.Common.{◌≡◌, ℕ, zero, suc, List, Bool, true, false, cond, Option, None, Some, refl, sym, ap, subst, ◌∙◌, eq-eqb}
-use Rattle.std.specs.Prelude.{slice_get}
+use Rattle.std.specs.Prelude.{◌&&◌, ◌||◌, not, slice_get}
 use Rattle.std.proofs.lemmas.List.Folds.{list_any_at}
 use Rattle.std.proofs.lemmas.Option.{slice_get_within, get_or_from_slice_get}
-use Rattle.cyc_words.proofs.Booleans.{and_left}
+use Rattle.cyc_words.proofs.Booleans.{and_left, and_false, and_and_false}
 use Rattle.cyc_isa.specs.declared.instr.Instr.{Instr}
+use Rattle.cyc_select.specs.inside.Labelled.{Labelled, IsReturnPoint}
 use Rattle.cyc_select.specs.declared.code.Line.{Line}
 use Rattle.cyc_select.specs.declared.code.Line.TheVariants as lines
-use Rattle.cyc_asm.specs.inside.Slots.{is_movable, moves, label_of, is_label, is_named, moved, filling}
+use Rattle.cyc_asm.specs.inside.Slots.{is_movable, moves, label_of, is_label, is_named, goes_on, is_call, may_lack, fills_behind, is_unreached_behind, is_unreached, is_unreached_before, moved, filling}
 
 -- a line that is a branch or a jump
 abbrev pub is_jump : Line → Bool
@@ -107,3 +108,83 @@ ordinary_empty code number i at = by (filling code number) refl
         let one : Some f.line ≡ Some (lines.Ordinary i) = sym f.at ∙ at in
         let same : f.line ≡ lines.Ordinary i = cc in
         absurd (let e : false ≡ true = ap (moves j) (sym same) ∙ f.moves in cc)
+
+-- ---- lines that runs come to
+
+-- of each line in turn
+pub unreached_in_turn : (code : List Line) (unreached : Bool) (number : ℕ) → unreached ≡ is_unreached_before code number → is_unreached_behind unreached code number ≡ is_unreached code number
+unreached_in_turn code unreached zero is = refl
+unreached_in_turn code unreached (suc before) is = ap (λ b. is_unreached_behind b code (suc before)) is
+
+-- a line behind one that is come to and goes on
+pub reached_behind : (code : List Line) (number : ℕ) (line : Line) → slice_get code number ≡ Some line → goes_on (Some line) ≡ true → is_unreached code number ≡ false → is_unreached code (suc number) ≡ false
+reached_behind code number line at on reached =
+    ap (λ b. is_unreached_behind b code (suc number)) reached
+    ∙ ap (λ b. not b && (not (is_named code (suc number)) && may_lack (fills_behind code (suc number)) (slice_get code (suc number)))) (ap goes_on at ∙ on)
+
+-- a line at which a used label stands
+named_reached : (code : List Line) (number : ℕ) → is_named code number ≡ true → is_unreached code number ≡ false
+named_reached code zero named = refl
+named_reached code (suc before) named =
+    let behind : Bool = is_unreached code before || not (goes_on (slice_get code before)) in
+    ap (λ b. behind && (not b && may_lack (fills_behind code (suc before)) (slice_get code (suc before)))) named ∙ and_false behind
+
+-- a line that may not be left out
+kept_reached : (code : List Line) (number : ℕ) (line : Option Line) → slice_get code number ≡ line → may_lack (fills_behind code number) line ≡ false → is_unreached code number ≡ false
+kept_reached code zero line at kept = refl
+kept_reached code (suc before) line at kept =
+    let behind : Bool = is_unreached code before || not (goes_on (slice_get code before)) in
+    ap (λ b. behind && (not (is_named code (suc before)) && b)) (ap (may_lack (fills_behind code (suc before))) at ∙ kept)
+    ∙ and_and_false behind (not (is_named code (suc before)))
+
+pub call_reached : (code : List Line) (number label : ℕ) → slice_get code number ≡ Some (lines.Call label) → is_unreached code number ≡ false
+call_reached code number label at = kept_reached code number (Some (lines.Call label)) at refl
+
+-- what fills the slot of a line that is come to
+pub filling_reached : (code : List Line) (number : ℕ) (i : Instr) (f : IsFilled code number i) → is_unreached code number ≡ false → is_unreached code f.before ≡ false
+filling_reached code number i f reached = by f.line f.at f.moves
+  where
+    unnamed : is_named code (suc f.before) ≡ false
+    unnamed = ap (is_named code) (sym f.is) ∙ f.unnamed
+
+    at_behind : (line : Line) → slice_get code number ≡ Some line → slice_get code (suc f.before) ≡ Some line
+    at_behind line at = ap (slice_get code) (sym f.is) ∙ at
+
+    -- where no run comes to it none comes to the line either
+    neither : (line : Line) → slice_get code number ≡ Some line → may_lack (fills_behind code (suc f.before)) (Some line) ≡ true → is_unreached code f.before ≡ true → is_unreached code (suc f.before) ≡ true
+    neither line at lacks unreached =
+        ap (λ b. is_unreached_behind b code (suc f.before)) unreached
+        ∙ ap (λ b. not b && may_lack (fills_behind code (suc f.before)) (slice_get code (suc f.before))) unnamed
+        ∙ ap (may_lack (fills_behind code (suc f.before))) (at_behind line at) ∙ lacks
+
+    unless : (line : Line) → slice_get code number ≡ Some line → may_lack (fills_behind code (suc f.before)) (Some line) ≡ true → (b : Bool) → is_unreached code f.before ≡ b → is_unreached code f.before ≡ false
+    unless line at lacks false is = is
+    unless line at lacks true is = absurd (let e : false ≡ true = sym reached ∙ ap (is_unreached code) f.is ∙ neither line at lacks is in cc)
+
+    by : (line : Line) → slice_get code number ≡ Some line → moves i line ≡ true → is_unreached code f.before ≡ false
+    by (lines.Ordinary other) at may = absurd (let e : false ≡ true = may in cc)
+    by (lines.Branch condition label) at may = unless (lines.Branch condition label) at refl (is_unreached code f.before) refl
+    by (lines.Jump label) at may = unless (lines.Jump label) at refl (is_unreached code f.before) refl
+    by (lines.Call label) at may =
+        kept_reached code f.before (Some (lines.Ordinary i)) f.from
+        (ap (λ b. not (not b && is_call (slice_get code (suc f.before)))) unnamed ∙ ap (λ o. not (is_call o)) (at_behind (lines.Call label) at))
+    by lines.Return at may = unless lines.Return at refl (is_unreached code f.before) refl
+
+-- A line that is come to, with no instruction on the way into its slot.
+pub record IsMet (code : List Line) (number : ℕ) : Type 0 where
+  pub empty : filling code number ≡ None
+  pub reached : is_unreached code number ≡ false
+
+-- a line at which a used label stands
+pub named_met : (code : List Line) (number label : ℕ) (line : Line) → slice_get code number ≡ Some line → label_of line ≡ Some label → IsMet code label
+named_met code number label line at goes =
+    record { empty = named_empty code number label line at goes; reached = named_reached code label (label_named code number label line at goes) }
+
+-- a line behind a branch or a call that is come to
+pub behind_met : (code : List Line) (number : ℕ) (line : Line) → slice_get code number ≡ Some line → is_jump line ≡ true → goes_on (Some line) ≡ true → is_unreached code number ≡ false → IsMet code (suc number)
+behind_met code number line at jumps on reached = record { empty = behind_empty code number line at jumps; reached = reached_behind code number line at on reached }
+
+pub point_met : (code : Labelled) (line : ℕ) → IsReturnPoint code line → IsMet code.lines line
+point_met code line point =
+    subst (IsMet code.lines) (sym point.behind)
+    (behind_met code.lines point.call (lines.Call point.label) point.calls refl refl (call_reached code.lines point.call point.label point.calls))

@@ -1,5 +1,5 @@
 -- Laws of the layout.
-use Rattle.std.proofs.Common.{◌≡◌, ℕ, zero, suc, ◌+◌, ◌-◌, ◌≤◌, ◌<◌, List, [], ◌∷◌, ◌++◌, length, get_or, take, Bool, true, false, nat_le, Option, None, Some, append-nil, refl, sym, ap, subst, ◌∙◌, arith, inl, inr}
+use Rattle.std.proofs.Common.{◌≡◌, ℕ, zero, suc, ◌+◌, ◌-◌, ◌≤◌, ◌<◌, List, [], ◌∷◌, ◌++◌, length, get_or, take, Bool, true, false, cond, nat_le, Option, None, Some, append-nil, refl, sym, ap, subst, ◌∙◌, arith, inl, inr}
 use Rattle.std.specs.Prelude.{slice_get}
 use Rattle.std.specs.List.{range_with_len, flat_map}
 use Rattle.std.proofs.Math.Seq.{take-suc}
@@ -15,11 +15,12 @@ use Rattle.cyc_isa.specs.declared.instr.Instr.{Instr}
 use Rattle.cyc_select.specs.declared.code.Condition.{Condition}
 use Rattle.cyc_select.specs.declared.code.Line.{Line}
 use Rattle.cyc_select.specs.declared.code.Line.TheVariants as lines
-use Rattle.cyc_select.specs.inside.Labelled.{Labelled, Fits, AreAddresses, words_of, all_words}
+use Rattle.cyc_select.specs.inside.Labelled.{Labelled, Fits, IsReturnPoint, AreAddresses, words_of, all_words}
 use Rattle.cyc_asm.specs.declared.constants.TheConstants.{MAX_REACH}
-use Rattle.cyc_asm.specs.inside.Slots.{filling}
+use Rattle.cyc_asm.specs.inside.Slots.{is_unreached, filling}
 use Rattle.cyc_asm.specs.inside.Layout.{most_before, is_near, head_width, tail_width, width_of, width_in, width_at, position, addresses_in}
 use Rattle.cyc_asm.specs.inside.Text.{stretch, own}
+use Rattle.cyc_asm.proofs.Fillings.{call_reached}
 use Rattle.cyc_asm.proofs.Stretches.{own-stretch, stretch-append}
 
 -- there is a line of this number, or all lines are before it
@@ -53,6 +54,13 @@ width_of-some code number (lines.Jump label) = omega arith
 width_of-some code number (lines.Call label) = omega arith
 width_of-some code number lines.Return = omega arith
 
+words_of-some : (line : Line) → 0 < words_of line
+words_of-some (lines.Ordinary i) = omega arith
+words_of-some (lines.Branch condition label) = omega arith
+words_of-some (lines.Jump label) = omega arith
+words_of-some (lines.Call label) = omega arith
+words_of-some lines.Return = omega arith
+
 -- one more line
 pub most_before-suc : (code : List Line) (number : ℕ) (line : Line) → slice_get code number ≡ Some line → most_before code (suc number) ≡ most_before code number + words_of line
 most_before-suc code number line found =
@@ -62,8 +70,24 @@ most_before-suc code number line found =
     let same : words_of (get_or code number line) ≡ words_of line = ap words_of (get_or_from_slice_get code number line line found) in
     omega (arith, one_more, parts, same)
 
-pub position-suc : (code : List Line) (number : ℕ) (line : Line) → slice_get code number ≡ Some line → position code (suc number) ≡ position code number + width_of code number line
-position-suc code number line found = ap (λ o. position code number + width_in code number o) found
+pub position-suc : (code : List Line) (number : ℕ) (line : Line) → slice_get code number ≡ Some line → is_unreached code number ≡ false → position code (suc number) ≡ position code number + width_of code number line
+position-suc code number line found reached =
+    ap (λ b. position code number + cond b 0 (width_in code number (slice_get code number))) reached ∙ ap (λ o. position code number + width_in code number o) found
+
+-- one that no run comes to
+pub position-unreached : (code : List Line) (number : ℕ) → is_unreached code number ≡ true → position code (suc number) ≡ position code number
+position-unreached code number unreached =
+    ap (λ b. position code number + cond b 0 (width_in code number (slice_get code number))) unreached ∙ (let e : position code number + 0 ≡ position code number = omega arith in e)
+
+-- and any
+pub position-next : (code : List Line) (number : ℕ) (line : Line) → slice_get code number ≡ Some line
+    → (position code number ≤ position code (suc number)) × (position code (suc number) ≤ position code number + width_of code number line)
+position-next code number line found = by (is_unreached code number) refl
+  where
+    by : (b : Bool) → is_unreached code number ≡ b
+        → (position code number ≤ position code (suc number)) × (position code (suc number) ≤ position code number + width_of code number line)
+    by true unreached = let none = position-unreached code number unreached in (omega (arith, none), omega (arith, none))
+    by false reached = let more = position-suc code number line found reached in (omega (arith, more), omega (arith, more))
 
 pub most_before-all : (code : List Line) → most_before code (length code) ≡ all_words code
 most_before-all code = ap all_words (take_all (length code) code (omega arith))
@@ -82,10 +106,10 @@ between code from (suc more) to is within =
     let (line, found) = line_there code (from + more) last in
     let so_far = between code from more (from + more) refl (omega (arith, last)) in
     let most = most_before-suc code (from + more) line found in
-    let wide = position-suc code (from + more) line found in
+    let wide = position-next code (from + more) line found in
     let few = width_of-most code (from + more) line in
     subst (λ (n : ℕ). IsBetween code from n) (let e : suc (from + more) ≡ to = omega (arith, is) in e)
-    (record { up = omega (arith, so_far.up, wide); most = omega (arith, so_far.most, wide, most, few) })
+    (record { up = omega (arith, so_far.up, wide.0); most = omega (arith, so_far.most, wide.1, most, few) })
 
 pub between_lines : (code : List Line) (from to : ℕ) → from ≤ to → to ≤ length code → IsBetween code from to
 between_lines code from to up within = between code from (to - from) to (omega (arith, up)) within
@@ -99,28 +123,40 @@ position-most code number within =
     let whole = between_lines code 0 (length code) (omega arith) (omega arith) in
     omega (arith, front.up, front.most, back.up, back.most, whole.most, all)
 
--- a line is before the next
-pub position-less : (code : List Line) (a b : ℕ) → a < b → b ≤ length code → position code a < position code b
-position-less code a b less within =
-    let (line, found) = line_there code a (omega (arith, less, within)) in
-    let next = position-suc code a line found in
-    let some = width_of-some code a line in
-    let rest = (between_lines code (suc a) b less within).up in
-    omega (arith, next, some, rest)
+-- a line is before one behind it that a return may go to: the call before that has words
+point_less : (code : Labelled) (a b : ℕ) → a < b → IsReturnPoint code b → position code.lines a < position code.lines b
+point_less code a b less point =
+    let call : Line = lines.Call point.label in
+    let inside = point.inside in
+    let is = point.behind in
+    let front = (between_lines code.lines a point.call (omega (arith, less, is)) (omega (arith, inside, is))).up in
+    let wide = position-suc code.lines point.call call point.calls (call_reached code.lines point.call point.label point.calls) in
+    let some = width_of-some code.lines point.call call in
+    let there = ap (position code.lines) is in
+    omega (arith, front, wide, some, there)
 
--- lines lie apart, in the text range
+-- behind a line there may be more words than before it
+position-below : (code : List Line) (number : ℕ) → number < length code → position code number < all_words code
+position-below code number within =
+    let (line, found) = line_there code number within in
+    let front = (between_lines code 0 number (omega arith) (omega (arith, within))).most in
+    let more = most_before-suc code number line found in
+    let back = between_lines code (suc number) (length code) (omega (arith, within)) (omega arith) in
+    omega (arith, front, more, words_of-some line, back.up, back.most, most_before-all code)
+
+-- the lines that a return may go to lie apart, and all lines in the text range
 pub addresses_fit : (code : Labelled) → Fits code.lines → AreAddresses code (addresses_in code.lines)
 addresses_fit code fits = record {
-  apart = λ a b in_a in_b same. elim (cases_lt a b) [
-    | inl less ↦ absurd (omega (arith, same, position-less code.lines a b less (omega (arith, in_b))))
+  apart = λ a b point_a point_b same. elim (cases_lt a b) [
+    | inl less ↦ absurd (omega (arith, same, point_less code a b less point_b))
     | inr least ↦ elim (cases_lt b a) [
-      | inl more ↦ absurd (omega (arith, same, position-less code.lines b a more (omega (arith, in_a))))
+      | inl more ↦ absurd (omega (arith, same, point_less code b a more point_a))
       | inr most ↦ omega (arith, least, most)
     ]
   ];
   aligned = λ line inside. omega arith;
   from = λ line inside. omega arith;
-  below = λ line inside. omega (arith, fits, position-less code.lines line (length code.lines) inside (omega arith), position-most code.lines (length code.lines) (omega arith));
+  below = λ line inside. omega (arith, fits, position-below code.lines line inside);
 }
 
 -- a near label is in reach
@@ -131,7 +167,7 @@ near_below code from to condition near found in_to up =
     let most = (between_lines code (suc from) to up (omega (arith, in_to))).most in
     let first : most_before code to ≤ most_before code from + MAX_REACH = leb-true (most_before code to) (most_before code from + MAX_REACH) (and_left (nat_le (most_before code to) (most_before code from + MAX_REACH)) (nat_le (most_before code from) (most_before code to + MAX_REACH)) near) in
     let wide = most_before-suc code from line found in
-    let narrow = position-suc code from line found in
+    let narrow = (position-next code from line found).1 in
     let few : tail_width (is_near code from to) ≡ 1 = ap tail_width near in
     omega (arith, most, first, wide, narrow, few, head_width-most (filling code from))
 

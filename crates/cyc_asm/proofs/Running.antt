@@ -55,5 +55,6 @@ runs_in_order code addresses words text store calls input few never =
     simulates (above code addresses words text) world_machine (matching code addresses words text) (matched code addresses words text) world_is_lawful []
     (labelled.start code store calls input) never (start code words store calls input) refl (
       (let nothing : ℕ = 0 in let long = length-replicate (words_per_call * calls) nothing in omega (arith, long, few)),
+      refl,
       ap (λ (a : ℕ). world_at words (started code store calls input) a (add_of a 4) false) (sym text.first),
     )

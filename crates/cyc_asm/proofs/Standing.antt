@@ -21,12 +21,12 @@ use Rattle.cyc_select.specs.declared.code.Line.{Line}
 use Rattle.cyc_select.specs.declared.code.Line.TheVariants as lines
 use Rattle.cyc_select.specs.inside.Labelled.{Labelled, Fits, IsFormed, IsFormedLine}
 use Rattle.cyc_asm.specs.declared.constants.TheConstants.{ROUND_OFFSET, FIRST_INDEX}
-use Rattle.cyc_asm.specs.inside.Slots.{filling}
-use Rattle.cyc_asm.specs.inside.Layout.{is_near, head_width, tail_width, width_of, width_in, position, addresses_in}
-use Rattle.cyc_asm.specs.inside.Text.{text_of, nothing, branch_of, inverse_of, IsJumpAt, StandsBranch, StandsFrom, StandsFilled, StandsOrdinary, Stands, stretch, IsTextInOrder}
-use Rattle.cyc_asm.specs.inside.Words.{offset_of, IsHeadPosition, head_of_branch, head_of, head_in, round_words, tail_of, words_filled, words_ordinary, words_of_line, words_in, words_before, words_in_order}
-use Rattle.cyc_asm.proofs.Fillings.{is_jump, filled}
-use Rattle.cyc_asm.proofs.Layouts.{position-suc, position-most, position-less, between_lines, addresses_fit, near_below, near_above, own_words}
+use Rattle.cyc_asm.specs.inside.Slots.{is_unreached, filling}
+use Rattle.cyc_asm.specs.inside.Layout.{is_near, head_width, tail_width, width_of, width_in, width_at, position, addresses_in}
+use Rattle.cyc_asm.specs.inside.Text.{text_of, nothing, branch_of, inverse_of, IsJumpAt, StandsBranch, StandsFrom, StandsFilled, StandsOrdinary, Stands, StandsUnless, stretch, IsTextInOrder}
+use Rattle.cyc_asm.specs.inside.Words.{offset_of, IsHeadPosition, head_of_branch, head_of, head_in, round_words, tail_of, words_filled, words_ordinary, words_of_line, words_in, words_at, words_before, words_in_order}
+use Rattle.cyc_asm.proofs.Fillings.{is_jump, filled, filling_reached}
+use Rattle.cyc_asm.proofs.Layouts.{position-suc, position-unreached, position-most, between_lines, addresses_fit, near_below, near_above, own_words}
 
 -- ---- how many words there are
 
@@ -64,11 +64,18 @@ length-words_in : (code : List Line) (number : ℕ) (line : Option Line) → len
 length-words_in code number (Some line) = length-words_of_line code number line
 length-words_in code number None = refl
 
+length-words_at : (code : List Line) (number : ℕ) → length (words_at code number) ≡ width_at code number
+length-words_at code number = by (is_unreached code number)
+  where
+    by : (b : Bool) → length (cond b [] (words_in code number (slice_get code number))) ≡ cond b 0 (width_in code number (slice_get code number))
+    by true = refl
+    by false = length-words_in code number (slice_get code number)
+
 pub length-words_before : (code : List Line) (number : ℕ) → length (words_before code number) ≡ position code number
 length-words_before code zero = refl
 length-words_before code (suc number) =
-    let both = length-append (words_before code number) (words_in code number (slice_get code number)) in
-    let last = length-words_in code number (slice_get code number) in
+    let both = length-append (words_before code number) (words_at code number) in
+    let last = length-words_at code number in
     omega (arith, both, last, length-words_before code number)
 
 -- ---- where they stand
@@ -78,10 +85,10 @@ begins : (code : List Line) (from more to : ℕ) → from + more ≡ to → (res
 begins code from zero to is = ([], ap (words_before code) (let e : to ≡ from = omega (arith, is) in e) ∙ sym (append-nil (words_before code from)))
 begins code from (suc more) to is =
     let (rest, so_far) = begins code from more (from + more) refl in (
-      rest ++ words_in code (from + more) (slice_get code (from + more)),
+      rest ++ words_at code (from + more),
       ap (words_before code) (let e : to ≡ suc (from + more) = omega (arith, is) in e)
-          ∙ ap (λ (front : List ℕ). front ++ words_in code (from + more) (slice_get code (from + more))) so_far
-          ∙ append_assoc (words_before code from) rest (words_in code (from + more) (slice_get code (from + more))),
+          ∙ ap (λ (front : List ℕ). front ++ words_at code (from + more)) so_far
+          ∙ append_assoc (words_before code from) rest (words_at code (from + more)),
     )
 
 -- a word of a list, found in the text
@@ -128,9 +135,9 @@ are_near_at code number label from condition fits found is_label near (least, mo
     let low_from : from ≤ TEXT_WORDS = omega (arith, least, fits, position-most code number (omega (arith, below))) in
     elim (cases_lt number label) [
       | inl before ↦
-          let up = position-less code number label before (omega (arith, is_label)) in
+          let up = (between_lines code number label (omega (arith, before)) (omega (arith, is_label))).up in
           let reach = near_below code number label condition near found is_label before in
-          record { below = λ forward. omega (arith, reach, most); above = λ backward. absurd (omega (arith, up, least, backward)); low_from = low_from; low_to = low_to }
+          record { below = λ forward. omega (arith, reach, most); above = λ backward. omega (arith, up, least); low_from = low_from; low_to = low_to }
       | inr behind ↦
           let up = (between_lines code label number behind (omega (arith, below))).up in
           let reach = near_above code number label near below is_label behind in
@@ -168,15 +175,25 @@ module _ (code : Labelled) (formed : IsFormed code) (fits : Fits code.lines) whe
     below : number < length code.lines
     below = slice_get_within code.lines number line found
 
-    next : at (suc number) ≡ at number + 4 * width_of code.lines number line
-    next = let more = position-suc code.lines number line found in omega (arith, more)
+    line_formed : IsFormedLine (length code.lines) line
+    line_formed = subst (IsFormedLine (length code.lines)) (get_or_from_slice_get code.lines number line line found) (formed number line below)
+
+    inside : at (suc number) ≤ text_end
+    inside = let last = position-most code.lines (suc number) (let b = below in omega (arith, b)) in omega (arith, fits, last)
+
+    next : is_unreached code.lines number ≡ false → at (suc number) ≡ at number + 4 * width_of code.lines number line
+    next reached = let more = position-suc code.lines number line found reached in omega (arith, more)
+
+    -- its words are in their place
+    words_there : is_unreached code.lines number ≡ false → words_at code.lines number ≡ words_of_line code.lines number line
+    words_there reached = ap (λ b. cond b [] (words_in code.lines number (slice_get code.lines number))) reached ∙ ap (words_in code.lines number) found
 
     -- a word of the line stands in the text
-    word_there : (j w address : ℕ) → address ≡ at number + 4 * j → slice_get (words_of_line code.lines number line) j ≡ Some w → text_at (text_of words) address ≡ Some w
-    word_there j w address is has =
+    word_there : is_unreached code.lines number ≡ false → (j w address : ℕ) → address ≡ at number + 4 * j → slice_get (words_of_line code.lines number line) j ≡ Some w → text_at (text_of words) address ≡ Some w
+    word_there reached j w address is has =
         let (rest, whole) = begins code.lines (suc number) (length code.lines - suc number) (length code.lines) (let inside = below in omega arith) in
         let there : words ≡ (words_before code.lines number ++ words_of_line code.lines number line) ++ rest =
-        whole ∙ ap (λ o. (words_before code.lines number ++ words_in code.lines number o) ++ rest) found in
+        whole ∙ ap (λ (ws : List ℕ). (words_before code.lines number ++ ws) ++ rest) (words_there reached) in
         let long = length-words_before code.lines number in
         let above : text_base ≤ address = omega (arith, is) in
         let index : word_number text_base address ≡ length (words_before code.lines number) + j = omega (arith, is, long) in
@@ -188,12 +205,6 @@ module _ (code : Labelled) (formed : IsFormed code) (fits : Fits code.lines) whe
     -- a label's address is in the text range
     low : (label : ℕ) → label ≤ length code.lines → position code.lines label ≤ TEXT_WORDS
     low label within = let most = position-most code.lines label within in omega (arith, fits, most)
-
-    line_formed : IsFormedLine (length code.lines) line
-    line_formed = subst (IsFormedLine (length code.lines)) (get_or_from_slice_get code.lines number line line found) (formed number line below)
-
-    inside : at (suc number) ≤ text_end
-    inside = let last = position-most code.lines (suc number) (let b = below in omega (arith, b)) in omega (arith, fits, last)
 
   -- ---- branches and jumps
 
@@ -281,18 +292,18 @@ module _ (code : Labelled) (formed : IsFormed code) (fits : Fits code.lines) whe
   words_of_jump number (lines.Call label) jumps = refl
   words_of_jump number lines.Return jumps = refl
 
-  filled_there : (number : ℕ) (line : Line) → slice_get code.lines number ≡ Some line → is_jump line ≡ true → (o : Option Instr) → filling code.lines number ≡ o
+  filled_there : (number : ℕ) (line : Line) → slice_get code.lines number ≡ Some line → is_unreached code.lines number ≡ false → is_jump line ≡ true → (o : Option Instr) → filling code.lines number ≡ o
       → StandsFilled o code words (addresses_in code.lines) number line
-  filled_there number line found jumps None none =
+  filled_there number line found reached jumps None none =
       let mine : words_of_line code.lines number line ≡ word_of (head_of code.lines (position code.lines number) number line) ∷ tail_of code.lines number line 0 =
       words_of_jump number line jumps ∙ ap (λ o. words_filled o code.lines number line) none in
       let long = length-words_of_line code.lines number line in
-      let wide = next number line found in
+      let wide = next number line found reached in
       from_here number (position code.lines number) nothing (omega arith) ((omega arith), (omega arith)) line found jumps
-      (word_there number line found 0 _ (at number) (omega arith) (ap (λ (ws : List ℕ). slice_get ws 0) mine))
-      (λ j w address is has. word_there number line found (suc j) w address (omega (arith, is)) (ap (λ (ws : List ℕ). slice_get ws (suc j)) mine ∙ has))
+      (word_there number line found reached 0 _ (at number) (omega arith) (ap (λ (ws : List ℕ). slice_get ws 0) mine))
+      (λ j w address is has. word_there number line found reached (suc j) w address (omega (arith, is)) (ap (λ (ws : List ℕ). slice_get ws (suc j)) mine ∙ has))
       (omega (arith, wide, long, ap length mine))
-  filled_there number line found jumps (Some i) some =
+  filled_there number line found reached jumps (Some i) some =
       let f = filled code.lines number i some in
       let mine : words_of_line code.lines number line ≡ tail_of code.lines number line (word_of i) =
       words_of_jump number line jumps ∙ ap (λ o. words_filled o code.lines number line) some in
@@ -302,34 +313,42 @@ module _ (code : Labelled) (formed : IsFormed code) (fits : Fits code.lines) whe
       ∙ ap (λ (n : ℕ). word_of (head_in code.lines (position code.lines f.before) n (slice_get code.lines n)) ∷ []) (sym f.is)
       ∙ ap (λ o. word_of (head_in code.lines (position code.lines f.before) number o) ∷ []) found in
       let long = length-words_of_line code.lines number line in
-      let wide = next number line found in
-      let behind : at number ≡ at f.before + 4 = ap at f.is ∙ (let w = next f.before (lines.Ordinary i) f.from in omega (arith, w)) in
+      let wide = next number line found reached in
+      let before_reached = filling_reached code.lines number i f reached in
+      let behind : at number ≡ at f.before + 4 = ap at f.is ∙ (let w = next f.before (lines.Ordinary i) f.from before_reached in omega (arith, w)) in
       let encodable : IsEncodable i = (line_formed f.before (lines.Ordinary i) f.from).1 in (
         at f.before,
         behind,
         from_here number (position code.lines f.before) i encodable ((omega (arith, behind)), (omega (arith, behind))) line found jumps
-            (word_there f.before (lines.Ordinary i) f.from 0 _ (at f.before) (omega arith) (ap (λ (ws : List ℕ). slice_get ws 0) its))
-            (λ j w address is has. word_there number line found j w address (omega (arith, is, behind)) (ap (λ (ws : List ℕ). slice_get ws j) mine ∙ has))
+            (word_there f.before (lines.Ordinary i) f.from before_reached 0 _ (at f.before) (omega arith) (ap (λ (ws : List ℕ). slice_get ws 0) its))
+            (λ j w address is has. word_there number line found reached j w address (omega (arith, is, behind)) (ap (λ (ws : List ℕ). slice_get ws j) mine ∙ has))
             (omega (arith, wide, long, ap length mine, behind)),
       )
 
-  ordinary_there : (number : ℕ) (i : Instr) → slice_get code.lines number ≡ Some (lines.Ordinary i) → (o : Option Instr) → filling code.lines (suc number) ≡ o
+  ordinary_there : (number : ℕ) (i : Instr) → slice_get code.lines number ≡ Some (lines.Ordinary i) → is_unreached code.lines number ≡ false → (o : Option Instr) → filling code.lines (suc number) ≡ o
       → StandsOrdinary o words (addresses_in code.lines) number i
-  ordinary_there number i found None none = (
+  ordinary_there number i found reached None none = (
     record {
       encodable = (line_formed number (lines.Ordinary i) found).1;
-      word = word_there number (lines.Ordinary i) found 0 (word_of i) (at number) (omega arith) (ap (λ o. slice_get (words_ordinary o code.lines number i) 0) none);
+      word = word_there number (lines.Ordinary i) found reached 0 (word_of i) (at number) (omega arith) (ap (λ o. slice_get (words_ordinary o code.lines number i) 0) none);
     },
-    (let n = next number (lines.Ordinary i) found in omega (arith, n)),
+    (let n = next number (lines.Ordinary i) found reached in omega (arith, n)),
   )
-  ordinary_there number i found (Some slotted) some = (let n = next number (lines.Ordinary i) found in omega (arith, n))
+  ordinary_there number i found reached (Some slotted) some = (let n = next number (lines.Ordinary i) found reached in omega (arith, n))
 
-  stands : (number : ℕ) (line : Line) → slice_get code.lines number ≡ Some line → Stands code words (addresses_in code.lines) number line
-  stands number (lines.Ordinary i) found = ordinary_there number i found (filling code.lines (suc number)) refl
-  stands number (lines.Branch condition label) found = filled_there number (lines.Branch condition label) found refl (filling code.lines number) refl
-  stands number (lines.Jump label) found = filled_there number (lines.Jump label) found refl (filling code.lines number) refl
-  stands number (lines.Call label) found = filled_there number (lines.Call label) found refl (filling code.lines number) refl
-  stands number lines.Return found = filled_there number lines.Return found refl (filling code.lines number) refl
+  reached_stands : (number : ℕ) (line : Line) → slice_get code.lines number ≡ Some line → is_unreached code.lines number ≡ false → Stands code words (addresses_in code.lines) number line
+  reached_stands number (lines.Ordinary i) found reached = ordinary_there number i found reached (filling code.lines (suc number)) refl
+  reached_stands number (lines.Branch condition label) found reached = filled_there number (lines.Branch condition label) found reached refl (filling code.lines number) refl
+  reached_stands number (lines.Jump label) found reached = filled_there number (lines.Jump label) found reached refl (filling code.lines number) refl
+  reached_stands number (lines.Call label) found reached = filled_there number (lines.Call label) found reached refl (filling code.lines number) refl
+  reached_stands number lines.Return found reached = filled_there number lines.Return found reached refl (filling code.lines number) refl
+
+  stands : (number : ℕ) (line : Line) → slice_get code.lines number ≡ Some line → StandsUnless (is_unreached code.lines number) code words (addresses_in code.lines) number line
+  stands number line found = by (is_unreached code.lines number) refl
+    where
+      by : (b : Bool) → is_unreached code.lines number ≡ b → StandsUnless b code words (addresses_in code.lines) number line
+      by true unreached = let same = position-unreached code.lines number unreached in omega (arith, same)
+      by false reached = reached_stands number line found reached
 
   pub in_order_means : IsTextInOrder code code (addresses_in code.lines) (words_in_order code.lines)
   in_order_means = record {

@@ -38,16 +38,16 @@ use Rattle.cyc_select.specs.declared.code.Condition.{Condition}
 use Rattle.cyc_select.specs.declared.code.Condition.TheVariants as conditions
 use Rattle.cyc_select.specs.declared.code.Line.{Line}
 use Rattle.cyc_select.specs.declared.code.Line.TheVariants as lines
-use Rattle.cyc_select.specs.inside.Labelled.{Labelled, is_ordinary}
+use Rattle.cyc_select.specs.inside.Labelled.{Labelled, is_ordinary, IsReturnPoint}
 use Rattle.cyc_select.specs.inside.Machine as labelled
-use Rattle.cyc_select.specs.inside.Machine.{Configuration, IsReturnPoint, core_of, machine_of, world_of, from_world, word_in, holds_of, linked}
-use Rattle.cyc_asm.specs.inside.Slots.{is_movable, leaves, moves, label_of, filling}
+use Rattle.cyc_select.specs.inside.Machine.{Configuration, core_of, machine_of, world_of, from_world, word_in, holds_of, linked}
+use Rattle.cyc_asm.specs.inside.Slots.{is_movable, leaves, moves, label_of, is_unreached, filling}
 use Rattle.cyc_asm.specs.inside.Layout.{is_near}
-use Rattle.cyc_asm.specs.inside.Text.{IsAt, IsJumpAt, IsTextInOrder, Stands, StandsBranch, StandsFrom, StandsFilled, StandsOrdinary, own, nothing, branch_of, inverse_of, return_register}
+use Rattle.cyc_asm.specs.inside.Text.{IsAt, IsJumpAt, IsTextInOrder, Stands, StandsBranch, StandsFrom, StandsFilled, StandsOrdinary, StandsUnless, own, nothing, branch_of, inverse_of, return_register}
 use Rattle.cyc_asm.proofs.Fetching.{world_at, fetches, goes_to, through}
 use Rattle.cyc_asm.proofs.Moving.{did, performs_did, performs_refused, with_word, movable_ordinary, movable_does, after_runs, same_stack, unwritten_stays, holds_stays, commutes, same_refusal}
 use Rattle.cyc_asm.proofs.Ordinary.{Shown, same_cause, performed}
-use Rattle.cyc_asm.proofs.Fillings.{is_jump, IsFilled, filled, filled_moves, named_empty, behind_empty, ordinary_empty}
+use Rattle.cyc_asm.proofs.Fillings.{is_jump, IsFilled, filled, filled_moves, ordinary_empty, reached_behind, IsMet, named_met, behind_met, point_met}
 use Rattle.cyc_asm.proofs.Stretches.{in_own}
 
 -- ---- where a return goes
@@ -155,7 +155,7 @@ module _ (code : Labelled) (addresses : ℕ → ℕ) (words : List ℕ) (text : 
   MatchesAs (Some i) c w = (line : Line) × Between c i line w
 
   abbrev pub Matches : labelled.State → World → Type 0
-  Matches (labelled.Running c) w = (length c.stack ≤ 1048576) × MatchesAs (filling code.lines c.line) c w
+  Matches (labelled.Running c) w = (length c.stack ≤ 1048576) × (is_unreached code.lines c.line ≡ false) × MatchesAs (filling code.lines c.line) c w
   Matches (labelled.Ended ending output input) w = (status_in w.machine.phase ≡ Ended ending) × (seen_of w ≡ showing output input)
   Matches (labelled.Stopped output input) w = ⊥
 
@@ -168,7 +168,7 @@ module _ (code : Labelled) (addresses : ℕ → ℕ) (words : List ℕ) (text : 
   at_empty c w empty is = subst (λ (o : Option Instr). MatchesAs o c w) (sym empty) is
 
   pub same_seen : (s : labelled.State) (t : World) → Matches s t → seen_of t ≡ labelled.seen_of s
-  same_seen (labelled.Running c) t (small, is) = matched_seen (filling code.lines c.line) c t is
+  same_seen (labelled.Running c) t (small, reached, is) = matched_seen (filling code.lines c.line) c t is
   same_seen (labelled.Ended ending output input) t (ended, is) = is
   same_seen (labelled.Stopped output input) t matches = absurd matches
 
@@ -187,6 +187,9 @@ module _ (code : Labelled) (addresses : ℕ → ℕ) (words : List ℕ) (text : 
   }
 
   -- ---- what stands
+
+  line_stands : (number : ℕ) (line : Line) → slice_get code.lines number ≡ Some line → is_unreached code.lines number ≡ false → Stands code words addresses number line
+  line_stands number line found reached = subst (λ b. StandsUnless b code words addresses number line) reached (text.stands number line found)
 
   -- a branch or jump stands with its slot filled or empty
   jump_stands : (number : ℕ) (line : Line) → is_jump line ≡ true → Stands code words addresses number line → StandsFilled (filling code.lines number) code words addresses number line
@@ -286,7 +289,7 @@ module _ (code : Labelled) (addresses : ℕ → ℕ) (words : List ℕ) (text : 
           let runs : phases.Running ≡ phases.Over end = sym (after_runs c i movable) ∙ ap (λ (v : World). v.machine.phase) (sym (same_told e t ran)) ∙ over in
           absurd (running_over end runs)
 
-  module _ (c : Configuration) (small : length c.stack ≤ 1048576) where
+  module _ (c : Configuration) (small : length c.stack ≤ 1048576) (reached : is_unreached code.lines c.line ≡ false) where
     abbrev here : ℕ
     here = addresses c.line
 
@@ -320,12 +323,12 @@ module _ (code : Labelled) (addresses : ℕ → ℕ) (words : List ℕ) (text : 
       on_the_way w seen running = way_before above world_machine matching (labelled.Running c) w running seen
 
       -- the step is made, and the world is where it leads
-      arrived : (places : List ℕ) (c' : Configuration) (target : ℕ) → May line (labelled.Running c') → length c'.stack ≤ 1048576 → filling code.lines c'.line ≡ None → target ≡ addresses c'.line
+      arrived : (places : List ℕ) (c' : Configuration) (target : ℕ) → May line (labelled.Running c') → length c'.stack ≤ 1048576 → IsMet code.lines c'.line → target ≡ addresses c'.line
           → 0 < length places → Goal places (world_at words c' target (add_of target 4) false)
-      arrived places c' target may few empty is some = record {
+      arrived places c' target may few met is some = record {
         next = labelled.Running c';
         step = step_of (labelled.Running c') may;
-        matches = (few, at_empty c' _ empty (ap (λ (a : ℕ). world_at words c' a (add_of a 4) false) is));
+        matches = (few, met.reached, at_empty c' _ met.empty (ap (λ (a : ℕ). world_at words c' a (add_of a 4) false) is));
         lighter = λ none. absurd (omega (arith, some, none));
       }
 
@@ -333,8 +336,8 @@ module _ (code : Labelled) (addresses : ℕ → ℕ) (words : List ℕ) (text : 
       by_jump : (count : ℕ) (c' : Configuration) (target : ℕ) (i : Instr) → IsAt words here i → IsAt words (here + 4) nothing
           → addresses (suc c.line) ≡ here + 4 * count → 2 ≤ count → c'.output ≡ c.output → c'.input ≡ c.input → length c'.stack ≤ 1048576
           → executes (world_at words c here (here + 4) false).machine i ≡ Does events.Ran (world_at words c' (here + 4) target true).machine
-          → May line (labelled.Running c') → filling code.lines c'.line ≡ None → target ≡ addresses c'.line → Stepped (placed c)
-      by_jump count c' target i at slot next many output input few does may empty is =
+          → May line (labelled.Running c') → IsMet code.lines c'.line → target ≡ addresses c'.line → Stepped (placed c)
+      by_jump count c' target i at slot next many output input few does may met is =
           subst (λ (n : ℕ). Stepped (world_at words c here n false)) (sym behind) (record {
             places = here ∷ (here + 4) ∷ [];
             distinct = (((λ e. omega arith), tt), (tt, tt));
@@ -344,7 +347,7 @@ module _ (code : Labelled) (addresses : ℕ → ℕ) (words : List ℕ) (text : 
             );
             comes = through words c c' here target i at slot multiple output input does Way (Goal (here ∷ (here + 4) ∷ [])) []
                 (on_the_way _ refl refl) (on_the_way _ (seen_same c'.output c.output c'.input c.input output input) refl)
-                (arrived (here ∷ (here + 4) ∷ []) c' target may few empty is (omega arith));
+                (arrived (here ∷ (here + 4) ∷ []) c' target may few met is (omega arith));
           })
 
       -- a branch or a jump that goes somewhere
@@ -375,18 +378,20 @@ module _ (code : Labelled) (addresses : ℕ → ℕ) (words : List ℕ) (text : 
         let mine : filling code.lines (suc c.line) ≡ Some i = some ∙ ap (λ (x : Instr). Some x) one in
         (mine, filled code.lines (suc c.line) i mine)
 
-    -- the line behind a branch or jump, and one behind a call, have no filled slot
-    next_empty : (line : Line) → slice_get code.lines c.line ≡ Some line → is_jump line ≡ true → filling code.lines (c.line + 1) ≡ None
-    next_empty line found jumps = ap (filling code.lines) (let e : c.line + 1 ≡ suc c.line = omega arith in e) ∙ behind_empty code.lines c.line line found jumps
+    -- the line behind a branch, and where one goes
+    next_met : (condition : Condition) (label : ℕ) → slice_get code.lines c.line ≡ Some (lines.Branch condition label) → IsMet code.lines (c.line + 1)
+    next_met condition label found =
+        subst (IsMet code.lines) (let e : suc c.line ≡ c.line + 1 = omega arith in e) (behind_met code.lines c.line (lines.Branch condition label) found refl refl reached)
 
-    point_empty : (line : ℕ) → IsReturnPoint code line → filling code.lines line ≡ None
-    point_empty line point = ap (filling code.lines) point.behind ∙ behind_empty code.lines point.call (lines.Call point.label) point.calls refl
+    goes_met : (b : Bool) (condition : Condition) (label : ℕ) → slice_get code.lines c.line ≡ Some (lines.Branch condition label) → IsMet code.lines (cond b label (c.line + 1))
+    goes_met true condition label found = named_met code.lines c.line label (lines.Branch condition label) found refl
+    goes_met false condition label found = next_met condition label found
 
     jump : (label : ℕ) (found : slice_get code.lines c.line ≡ Some (lines.Jump label)) → ((next : labelled.State) → May (lines.Jump label) next → labelled.status_of next ≡ Failed → ⊥)
         → StandsFrom code words addresses c.line (lines.Jump label) nothing here → Stepped (placed c)
     jump label found fine (jumps, next) =
         by_jump (lines.Jump label) found fine 2 (record c { line = label }) (jump_target here jumps.index.index) (Jump Plain jumps.index) jumps.jump jumps.slot (omega (arith, next)) (omega arith)
-        refl refl small refl refl (named_empty code.lines c.line label (lines.Jump label) found refl) jumps.target
+        refl refl small refl refl (named_met code.lines c.line label (lines.Jump label) found refl) jumps.target
 
     call : (label : ℕ) (found : slice_get code.lines c.line ≡ Some (lines.Call label)) → ((next : labelled.State) → May (lines.Call label) next → labelled.status_of next ≡ Failed → ⊥)
         → StandsFrom code words addresses c.line (lines.Call label) nothing here → Stepped (placed c)
@@ -398,7 +403,7 @@ module _ (code : Labelled) (addresses : ℕ → ℕ) (words : List ℕ) (text : 
         by_jump (lines.Call label) found fine 2 (record (linked addresses c) { line = label }) (jump_target here jumps.index.index) (Jump AndLink jumps.index) jumps.jump jumps.slot (omega (arith, next)) (omega arith)
         refl refl small
         (ap (λ (address : ℕ). Does events.Ran (world_at words (record c { registers = slice_set c.registers RETURN_ADDRESS address }) (here + 4) (jump_target here jumps.index.index) true).machine) back)
-        refl (named_empty code.lines c.line label (lines.Call label) found refl) jumps.target
+        refl (named_met code.lines c.line label (lines.Call label) found refl) jumps.target
 
     return : (found : slice_get code.lines c.line ≡ Some lines.Return) → ((next : labelled.State) → May lines.Return next → labelled.status_of next ≡ Failed → ⊥)
         → StandsFrom code words addresses c.line lines.Return nothing here → Stepped (placed c)
@@ -406,14 +411,9 @@ module _ (code : Labelled) (addresses : ℕ → ℕ) (words : List ℕ) (text : 
       | inl there ↦
           let (line, point, is) = there in
           by_jump lines.Return found fine 2 (record c { line = line }) (word_in c RETURN_ADDRESS) (JumpRegister return_register) at slot (omega (arith, next)) (omega arith)
-          refl refl small refl (inl (line, point, is, refl)) (point_empty line point) (sym is)
+          refl refl small refl (inl (line, point, is, refl)) (point_met code line point) (sym is)
       | inr none ↦ absurd (fine (labelled.Stopped c.output c.input) (inr ((λ line point. none line point.inside point), refl)) refl)
     ]
-
-    -- where a branch goes no slot is filled
-    branch_empty : (b : Bool) (condition : Condition) (label : ℕ) → slice_get code.lines c.line ≡ Some (lines.Branch condition label) → filling code.lines (cond b label (c.line + 1)) ≡ None
-    branch_empty true condition label found = named_empty code.lines c.line label (lines.Branch condition label) found refl
-    branch_empty false condition label found = next_empty (lines.Branch condition label) found refl
 
     near : (condition : Condition) (label : ℕ) (found : slice_get code.lines c.line ≡ Some (lines.Branch condition label))
         → ((next : labelled.State) → May (lines.Branch condition label) next → labelled.status_of next ≡ Failed → ⊥)
@@ -423,7 +423,7 @@ module _ (code : Labelled) (addresses : ℕ → ℕ) (words : List ℕ) (text : 
         let taken : Bool = holds_of (word_in c) condition in
         by_jump line found fine 2 (record c { line = cond taken label (c.line + 1) }) (cond taken (branch_target here branches.offset) (add_of (here + 4) 4))
         (branch_of condition branches.offset) branches.branch branches.slot (omega (arith, next)) (omega arith)
-        refl refl small (branches_to words c here condition branches.offset) refl (branch_empty taken condition label found)
+        refl refl small (branches_to words c here condition branches.offset) refl (goes_met taken condition label found)
         (lands line found fine taken (branch_target here branches.offset) label (add_of (here + 4) 4) (c.line + 1) branches.target (over_slot line found fine next))
 
     far : (condition : Condition) (label : ℕ) (found : slice_get code.lines c.line ≡ Some (lines.Branch condition label))
@@ -464,14 +464,14 @@ module _ (code : Labelled) (addresses : ℕ → ℕ) (words : List ℕ) (text : 
                     (subst (λ (n : ℕ). Comes world_machine Way (Goal places) ((here + 8) ∷ (here + 8 + 4) ∷ []) (world_at words c (here + 8) n false)) (sym second_behind) (
                     through words c c' (here + 8) (jump_target (here + 8) jumps.index.index) (Jump Plain jumps.index) jumps.jump jumps.slot (omega (arith, aligned)) refl refl refl
                     Way (Goal places) [] (on_the_way line found fine _ refl refl) (on_the_way line found fine _ refl refl)
-                    (arrived line found fine places c' (jump_target (here + 8) jumps.index.index) may small (named_empty code.lines c.line label line found refl) jumps.target (omega arith))));
+                    (arrived line found fine places c' (jump_target (here + 8) jumps.index.index) may small (named_met code.lines c.line label line found refl) jumps.target (omega arith))));
               })
           | false ↦ λ not_taken.
               let same : c.line + 1 ≡ suc c.line = omega arith in
               by_jump line found fine 4 (record c { line = c.line + 1 }) (branch_target here branches.offset) round branches.branch branches.slot (omega (arith, next)) (omega arith)
               refl refl small
               (branches_to words c here (inverse_of condition) branches.offset ∙ ap (λ b. Does events.Ran (world_at words c (here + 4) (cond b (branch_target here branches.offset) (add_of (here + 4) 4)) true).machine) (inverse ∙ ap not not_taken))
-              (ap (λ b. labelled.Running (record c { line = cond b label (c.line + 1) })) (sym not_taken)) (next_empty line found refl)
+              (ap (λ b. labelled.Running (record c { line = cond b label (c.line + 1) })) (sym not_taken)) (next_met condition label found)
               (branches.target ∙ ap addresses (sym same))
         ] refl
 
@@ -486,6 +486,9 @@ module _ (code : Labelled) (addresses : ℕ → ℕ) (words : List ℕ) (text : 
 
       one_more : c.line + 1 ≡ suc c.line
       one_more = omega arith
+
+      next_reached : is_unreached code.lines (c.line + 1) ≡ false
+      next_reached = ap (is_unreached code.lines) one_more ∙ reached_behind code.lines c.line (lines.Ordinary i) found refl reached
 
       shown_next : add_of here 4 ≡ addresses (c.line + 1)
       shown_next =
@@ -513,6 +516,7 @@ module _ (code : Labelled) (addresses : ℕ → ℕ) (words : List ℕ) (text : 
           (let same = (Goes-shape (placed c) u goes).stack in
               let kept = ap (λ (w : World). length w.machine.memory.stack) is in
               omega (arith, same, kept, small)),
+          next_reached,
           at_empty (from_world above_world (c.line + 1)) u (ap (filling code.lines) one_more ∙ behind_it)
               (is ∙ ap (λ (a : ℕ). world_at words (from_world above_world (c.line + 1)) a (add_of a 4) false) shown_next),
         ),
@@ -535,7 +539,7 @@ module _ (code : Labelled) (addresses : ℕ → ℕ) (words : List ℕ) (text : 
       performs_it : filling code.lines (suc c.line) ≡ None → IsAt words here i → (cause : Option Cause) → cause_of (machine_of c) i ≡ cause → Stepped (placed c)
       performs_it behind_it at (Some cause) is = absurd (fine _ (may_perform _ (performs_refused c i cause is)) refl)
       performs_it behind_it at None is =
-          by_one above world_machine matching (labelled.Running c) (placed c) (small, at_empty c _ empty refl) refl (in_own addresses c.line 1 0 here (omega (arith, next_line)) (omega arith) (omega arith))
+          by_one above world_machine matching (labelled.Running c) (placed c) (small, reached, at_empty c _ empty refl) refl (in_own addresses c.line 1 0 here (omega (arith, next_line)) (omega arith) (omega arith))
           (goes_as behind_it at is)
 
       -- Before a filled slot: the branch or jump is executed below, and the instruction above.
@@ -545,7 +549,8 @@ module _ (code : Labelled) (addresses : ℕ → ℕ) (words : List ℕ) (text : 
 
         stands_here : StandsFrom code words addresses (suc c.line) filled_behind.line i here
         stands_here =
-            let whole = jump_stands (suc c.line) filled_behind.line (filled_moves i filled_behind.line filled_behind.moves).1 (text.stands (suc c.line) filled_behind.line filled_behind.at) in
+            let whole = jump_stands (suc c.line) filled_behind.line (filled_moves i filled_behind.line filled_behind.moves).1
+            (line_stands (suc c.line) filled_behind.line filled_behind.at (reached_behind code.lines c.line (lines.Ordinary i) found refl reached)) in
             let (from, is, stands) = subst (λ o. StandsFilled o code words addresses (suc c.line) filled_behind.line) some whole in
             subst (StandsFrom code words addresses (suc c.line) filled_behind.line i) (let e : from ≡ here = omega (arith, is, next_line) in e) stands
 
@@ -566,12 +571,13 @@ module _ (code : Labelled) (addresses : ℕ → ℕ) (words : List ℕ) (text : 
         moves_on : (cause : Option Cause) → cause_of (machine_of c) i ≡ cause → Stepped (placed c)
         moves_on (Some cause) is = absurd (fine _ (may_perform _ (performs_refused c i cause is)) refl)
         moves_on None is =
-            by_one above world_machine matching (labelled.Running c) (placed c) (small, at_empty c _ empty refl) refl (in_own addresses c.line 1 0 here (omega (arith, next_line)) (omega arith) (omega arith))
+            by_one above world_machine matching (labelled.Running c) (placed c) (small, reached, at_empty c _ empty refl) refl (in_own addresses c.line 1 0 here (omega (arith, next_line)) (omega arith) (omega arith))
             (λ u goes. (
               labelled.Running (did c i),
               step_of (lines.Ordinary i) found fine _ (may_perform _ (performs_did c i may_move is)),
               (
                 (let long = same_stack c i may_move in omega (arith, long, small)),
+                next_reached,
                 subst (λ (o : Option Instr). MatchesAs o (did c i) u) (sym (ap (filling code.lines) one_more ∙ some)) (filled_behind.line, between is u goes),
               ),
             ))
@@ -605,7 +611,7 @@ module _ (code : Labelled) (addresses : ℕ → ℕ) (words : List ℕ) (text : 
 
     at_line : filling code.lines c.line ≡ None → (found : Option Line) → slice_get code.lines c.line ≡ found
         → ((next : labelled.State) → labelled.ExecutesAt code addresses c found next → labelled.status_of next ≡ Failed → ⊥) → Stepped (placed c)
-    at_line empty (Some line) is fine = by_line line empty is fine (text.stands c.line line is)
+    at_line empty (Some line) is fine = by_line line empty is fine (line_stands c.line line is reached)
     at_line empty None is fine = absurd (fine (labelled.Stopped c.output c.input) refl refl)
 
     -- ---- in a filled slot
@@ -618,7 +624,7 @@ module _ (code : Labelled) (addresses : ℕ → ℕ) (words : List ℕ) (text : 
       may_move_here = (filled_moves i line mid.moves).0
 
       matches_here : Matches (labelled.Running c) w
-      matches_here = (small, subst (λ (o : Option Instr). MatchesAs o c w) (sym some) (line, mid))
+      matches_here = (small, reached, subst (λ (o : Option Instr). MatchesAs o c w) (sym some) (line, mid))
 
       way_here : Way w
       way_here = way_before above world_machine matching (labelled.Running c) w (ap (λ (x : World). status_in x.machine.phase) mid.is) (same_seen (labelled.Running c) w matches_here)
@@ -641,15 +647,15 @@ module _ (code : Labelled) (addresses : ℕ → ℕ) (words : List ℕ) (text : 
             ∙ ap (λ (d : Configuration). world_at words d (leads c.line line mid.before) (add_of (leads c.line line mid.before) 4) false) (headed_moves c.line line mid.before i mid.moves ∙ ap (headed c.line line) (sym mid.did))
             ∙ ap (λ (n : ℕ). world_at words (headed c.line line c) n (add_of n 4) false) (leads_moves c.line line mid.before i mid.moves ∙ ap (leads c.line line) (sym mid.did))
 
-        by_slot : (count : ℕ) (c' : Configuration) → addresses (suc c.line) ≡ here + 4 * count → 0 < count → May line (labelled.Running c') → length c'.stack ≤ 1048576 → filling code.lines c'.line ≡ None
+        by_slot : (count : ℕ) (c' : Configuration) → addresses (suc c.line) ≡ here + 4 * count → 0 < count → May line (labelled.Running c') → length c'.stack ≤ 1048576 → IsMet code.lines c'.line
             → leads c.line line c ≡ addresses c'.line → ((n : ℕ) → world_at words (headed c.line line c) n (add_of n 4) false ≡ world_at words c' n (add_of n 4) false) → Stepped w
-        by_slot count c' next many may few empty is same =
+        by_slot count c' next many may few met is same =
             by_one above world_machine matching (labelled.Running c) w matches_here (ap (λ (x : World). status_in x.machine.phase) mid.is)
             (subst (Contains (own addresses c.line)) (sym (ap (λ (x : World). x.machine.core.counter) mid.is)) (in_own addresses c.line count 0 here next many (omega arith)))
             (λ u goes. (
               labelled.Running c',
               step_of line mid.found fine_here (labelled.Running c') may,
-              (few, at_empty c' u empty (after_slot u goes ∙ same (leads c.line line c) ∙ ap (λ (n : ℕ). world_at words c' n (add_of n 4) false) is)),
+              (few, met.reached, at_empty c' u met.empty (after_slot u goes ∙ same (leads c.line line c) ∙ ap (λ (n : ℕ). world_at words c' n (add_of n 4) false) is)),
             ))
 
         -- a branch that is not near and is taken: the jump that it goes round is executed too
@@ -681,7 +687,7 @@ module _ (code : Labelled) (addresses : ℕ → ℕ) (words : List ℕ) (text : 
                     (through words c c (here + 4) (jump_target (here + 4) to_label.index.index) (Jump Plain to_label.index) to_label.jump to_label.slot (let multiple = aligned in omega (arith, multiple)) refl refl refl
                     Way (Goal places) [] (on_the_way line mid.found fine_here _ refl refl) (on_the_way line mid.found fine_here _ refl refl)
                     (arrived line mid.found fine_here places (record c { line = label }) (jump_target (here + 4) to_label.index.index) may small
-                    (named_empty code.lines c.line label line mid.found (ap label_of is_branch)) to_label.target (omega arith))),
+                    (named_met code.lines c.line label line mid.found (ap label_of is_branch)) to_label.target (omega arith))),
               );
             }
 
@@ -696,7 +702,7 @@ module _ (code : Labelled) (addresses : ℕ → ℕ) (words : List ℕ) (text : 
     not_taken condition label untaken i some w mid never from place slot count next many =
         let same : c.line + 1 ≡ suc c.line = omega arith in
         by_slot i some w (lines.Branch condition label) mid never from place slot count (record c { line = c.line + 1 }) next many
-        (ap (λ b. labelled.Running (record c { line = cond b label (c.line + 1) })) (sym untaken)) small (branch_empty false condition label mid.found)
+        (ap (λ b. labelled.Running (record c { line = cond b label (c.line + 1) })) (sym untaken)) small (goes_met false condition label mid.found)
         (ap (λ b. cond b (taken_to (is_near code.lines c.line label) c.line label) (addresses (suc c.line))) untaken ∙ ap addresses (sym same)) (λ n. refl)
 
     -- a branch behind its slot, by whether it is near and whether it is taken
@@ -707,7 +713,7 @@ module _ (code : Labelled) (addresses : ℕ → ℕ) (words : List ℕ) (text : 
     branch_slotted true true condition label is_label is_taken i some w mid never from place (branches, next) =
         let leads_there = ap (λ b. cond b (taken_to (is_near code.lines c.line label) c.line label) (addresses (suc c.line))) is_taken ∙ ap (λ b. taken_to b c.line label) is_label in
         by_slot i some w (lines.Branch condition label) mid never from place branches.slot 1 (record c { line = label }) (omega (arith, next, place)) (omega arith)
-        (ap (λ b. labelled.Running (record c { line = cond b label (c.line + 1) })) (sym is_taken)) small (branch_empty true condition label mid.found) leads_there (λ n. refl)
+        (ap (λ b. labelled.Running (record c { line = cond b label (c.line + 1) })) (sym is_taken)) small (goes_met true condition label mid.found) leads_there (λ n. refl)
     branch_slotted true false condition label is_label is_taken i some w mid never from place (branches, next) =
         not_taken condition label is_taken i some w mid never from place branches.slot 1 (omega (arith, next, place)) (omega arith)
     branch_slotted false false condition label is_label is_taken i some w mid never from place (branches, jumps, next) =
@@ -723,32 +729,32 @@ module _ (code : Labelled) (addresses : ℕ → ℕ) (words : List ℕ) (text : 
         branch_slotted (is_near code.lines c.line label) (holds_of (word_in c) condition) condition label refl refl i some w mid never from place stands
     slotted (lines.Jump label) i some w mid never from place (jumps, next) =
         by_slot i some w (lines.Jump label) mid never from place jumps.slot 1 (record c { line = label }) (omega (arith, next, place)) (omega arith)
-        refl small (named_empty code.lines c.line label (lines.Jump label) mid.found refl) refl (λ n. refl)
+        refl small (named_met code.lines c.line label (lines.Jump label) mid.found refl) refl (λ n. refl)
     slotted (lines.Call label) i some w mid never from place (jumps, next) =
         by_slot i some w (lines.Call label) mid never from place jumps.slot 1 (record (linked addresses c) { line = label }) (omega (arith, next, place)) (omega arith)
-        refl small (named_empty code.lines c.line label (lines.Call label) mid.found refl) refl
+        refl small (named_met code.lines c.line label (lines.Call label) mid.found refl) refl
         (λ n. ap (λ (k : ℕ). world_at words (record c { registers = (with_register (core_of c) RETURN_ADDRESS (addresses k)).registers }) n (add_of n 4) false) (let e : suc c.line ≡ c.line + 1 = omega arith in e))
     slotted lines.Return i some w mid never from place (at, slot, next) = elim (find code addresses (word_in c RETURN_ADDRESS) (length code.lines) (omega arith)) [
       | inl there ↦
           let (line, point, is) = there in
           by_slot i some w lines.Return mid never from place slot 1 (record c { line = line }) (omega (arith, next, place)) (omega arith)
-          (inl (line, point, is, refl)) small (point_empty line point) (sym is) (λ n. refl)
+          (inl (line, point, is, refl)) small (point_met code line point) (sym is) (λ n. refl)
       | inr none ↦ absurd (fine_here i some w lines.Return mid never (labelled.Stopped c.output c.input) (inr ((λ line point. none line point.inside point), refl)) refl)
     ]
 
     between_goes : (i : Instr) → filling code.lines c.line ≡ Some i → (w : World) → (line : Line) × Between c i line w
         → ((next : labelled.State) → labelled.Step code addresses (labelled.Running c) next → labelled.status_of next ≡ Failed → ⊥) → Stepped w
     between_goes i some w (line, mid) never =
-        let whole = jump_stands c.line line (filled_moves i line mid.moves).1 (text.stands c.line line mid.found) in
+        let whole = jump_stands c.line line (filled_moves i line mid.moves).1 (line_stands c.line line mid.found reached) in
         let (from, place, stands) = subst (λ o. StandsFilled o code words addresses c.line line) some whole in
         slotted line i some w mid never from place stands
 
   pub matched : Steps above world_machine matching
-  matched (labelled.Running c) t (small, is) running fine = by (filling code.lines c.line) refl is
+  matched (labelled.Running c) t (small, reached, is) running fine = by (filling code.lines c.line) refl is
     where
       by : (o : Option Instr) → filling code.lines c.line ≡ o → MatchesAs o c t → IsStepped above world_machine matching (labelled.Running c) t
       by None empty is =
-          subst (λ (w : World). IsStepped above world_machine matching (labelled.Running c) w) (sym is) (at_line c small empty (slice_get code.lines c.line) refl fine)
-      by (Some i) some mid = between_goes c small i some t mid fine
+          subst (λ (w : World). IsStepped above world_machine matching (labelled.Running c) w) (sym is) (at_line c small reached empty (slice_get code.lines c.line) refl fine)
+      by (Some i) some mid = between_goes c small reached i some t mid fine
   matched (labelled.Ended ending output input) t matches running fine = absurd (running_ended ending (sym running))
   matched (labelled.Stopped output input) t matches running fine = absurd matches

@@ -21,7 +21,7 @@ use Rattle.cyc_asm.specs.inside.Layout.{most_before, most_of_each, is_near, head
 use Rattle.cyc_asm.specs.inside.Text.{branch_of}
 use Rattle.cyc_asm.specs.inside.Words.{offset_of, IsHeadPosition, head_of_branch, head_of, head_in, round_words, tail_of, tail_in, words_filled, filled_in, words_ordinary, words_of_line, words_in}
 use Rattle.cyc_asm.proofs.Fillings.{is_jump, filled}
-use Rattle.cyc_asm.proofs.Layouts.{between_lines, most_before-suc, most_before-all, position-suc, position-most}
+use Rattle.cyc_asm.proofs.Layouts.{between_lines, most_before-suc, most_before-all, position-next, position-most}
 use Rattle.cyc_asm.proofs.Standing.{are_near_at}
 
 pub length-most_of_each : (code : List Line) (most : List ℕ) → most ≡ most_of_each code → length most ≡ length code
@@ -63,7 +63,7 @@ line_here code number d line below here = slice_get-get_or code number d below �
 pub formed_here : (code : List Line) (number : ℕ) (d line : Line) → All (IsFormedLine (length code)) code → number < length code → get_or code number d ≡ line → IsFormedLine (length code) line
 formed_here code number d line formed below here = subst (IsFormedLine (length code)) here (formed number d below)
 
-pub width_here : (code : List Line) (number : ℕ) (d line : Line) → number < length code → get_or code number d ≡ line → width_at code number ≡ width_of code number line
+pub width_here : (code : List Line) (number : ℕ) (d line : Line) → number < length code → get_or code number d ≡ line → width_in code number (slice_get code number) ≡ width_of code number line
 width_here code number d line below here = ap (width_in code number) (line_here code number d line below here)
 
 pub words_here : (code : List Line) (number : ℕ) (d line : Line) → number < length code → get_or code number d ≡ line → words_in code number (slice_get code number) ≡ words_of_line code number line
@@ -105,7 +105,7 @@ near_here code most number label near b is below is_label by_table known =
     ∙ sym by_table ∙ known
 
 pub width_of_branch : (code : List Line) (number : ℕ) (d : Line) (condition : Condition) (label : ℕ) (b : Bool) → number < length code
-    → get_or code number d ≡ lines.Branch condition label → is_near code number label ≡ b → width_at code number ≡ head_width (filling code number) + tail_width b
+    → get_or code number d ≡ lines.Branch condition label → is_near code number label ≡ b → width_in code number (slice_get code number) ≡ head_width (filling code number) + tail_width b
 width_of_branch code number d condition label b below here near =
     width_here code number d (lines.Branch condition label) below here ∙ ap (λ b. head_width (filling code number) + tail_width b) near
 
@@ -164,10 +164,10 @@ pub head_before_line : (code : List Line) (positions : List ℕ) (number : ℕ) 
     → IsHeadPosition code (number + 1) (get_or positions number 0)
 head_before_line code positions number d i is below here =
     let at = position_at code positions number is below in
-    let wide = position-suc code number (lines.Ordinary i) (line_here code number d (lines.Ordinary i) below here) in
+    let (up, wide) = position-next code number (lines.Ordinary i) (line_here code number d (lines.Ordinary i) below here) in
     let one : number + 1 ≡ suc number = omega arith in
     let next = ap (position code) one in
-    (omega (arith, at, wide, next), omega (arith, at, wide, next))
+    (omega (arith, at, up, next), omega (arith, at, wide, next))
 
 -- words one behind the other
 

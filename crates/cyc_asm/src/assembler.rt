@@ -41,9 +41,9 @@ fn words_of(alloc: Global, lines: &[Line]) -> Result<Vec<u32>, AllocError>
 ///
 /// Only want of memory is refused.
 pub fn assemble(alloc: Global, code: &Code) -> Result<Vec<u32>, Fault>
-    // The words mean the code: each line's instruction stands once, each label is its line's address, each delay slot has
-    // the instruction just before its branch or jump, or one before that, where that may move, or is empty, and there is
-    // nothing else.
+    // The words mean the code: the instruction of each line that a run may come to stands once, each label is its line's
+    // address, each delay slot has the instruction just before its branch or jump, or one before that, where that may move,
+    // or is empty, and there is nothing else.
     ensures means { IfOk result (λ words. IsTextOf code.now (addresses_of code.now) words.items) }
     // And the machine that runs them does what the labelled machine does.
     ensures runs { IfOk result (λ words. Runs code.now (addresses_of code.now) words.items) }

@@ -8,12 +8,12 @@ ghost use Rattle.cyc_select.specs.inside.Labelled.{Fits, IsFormedLine};
 ghost use Rattle.cyc_asm.specs.inside.Layout.{most_of_each, position_of_each};
 ghost use Rattle.cyc_asm.specs.inside.Text.{branch_of, inverse_of};
 ghost use Rattle.cyc_select.specs.declared.code.Line.TheVariants.{Ordinary};
-ghost use Rattle.cyc_asm.specs.inside.Slots.{filling, AreNamed};
-ghost use Rattle.cyc_asm.specs.inside.Words.{offset_of, IsHeadPosition, head_in, tail_in, words_ordinary, filled_in, words_before, words_in};
+ghost use Rattle.cyc_asm.specs.inside.Slots.{is_unreached, filling, AreNamed};
+ghost use Rattle.cyc_asm.specs.inside.Words.{offset_of, IsHeadPosition, head_in, tail_in, words_ordinary, filled_in, words_before, words_in, words_at};
 
 use crate::constants::{FIRST_INDEX, MAX_REACH, ROUND_OFFSET};
 use crate::layout::is_near;
-use crate::slots::filling;
+use crate::slots::{filling, is_unreached_behind};
 use cyc_isa::{BranchOp, BranchZeroOp, Instr, JumpIndex, JumpOp, Register, encode};
 use cyc_machine::constants::{RETURN_ADDRESS, TEXT_WORDS};
 use cyc_select::{Condition, Line};
@@ -206,8 +206,8 @@ fn push_jump(
     }
 }
 
-/// The words of the line of this number.
-fn push_line(
+/// The words of the line of this number where a run may come to it.
+fn push_reached(
     words: &mut Vec<u32>,
     lines: &[Line],
     named: &[bool],
@@ -233,6 +233,31 @@ fn push_line(
     }
 }
 
+/// The words of the line of this number, to which a run may come or none does.
+fn push_line(
+    words: &mut Vec<u32>,
+    lines: &[Line],
+    named: &[bool],
+    most: &[u32],
+    positions: &[u32],
+    unreached: bool,
+    number: usize,
+) -> Result<(), AllocError>
+    requires within { number < length lines.now }
+    requires formed { All (IsFormedLine (length lines.now)) lines.now }
+    requires fits { Fits lines.now }
+    requires named { AreNamed lines.now (length lines.now) named.now }
+    requires most { most.now ≡ most_of_each lines.now }
+    requires positions { positions.now ≡ position_of_each lines.now }
+    requires unreached { unreached ≡ is_unreached lines.now number }
+    ensures { OnOk result (words.new.items ≡ words.old.items ++ words_at lines.now number) }
+{
+    if unreached {
+        return Ok(());
+    }
+    push_reached(words, lines, named, most, positions, number)
+}
+
 /// The words of all lines.
 pub(crate) fn words_of_all(
     alloc: Global,
@@ -249,8 +274,10 @@ pub(crate) fn words_of_all(
     ensures { IfOk result (λ words. words.items ≡ words_before lines.now (length lines.now)) }
 {
     let mut words = Vec::new(alloc);
+    let mut unreached = false;
     for number in 0..lines.len() {
-        push_line(&mut words, lines, named, most, positions, number)?;
+        unreached = is_unreached_behind(unreached, lines, named, number);
+        push_line(&mut words, lines, named, most, positions, unreached, number)?;
     }
     Ok(words)
 }

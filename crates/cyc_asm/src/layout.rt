@@ -1,9 +1,9 @@
 //! Where lines lie: how many words stand before each.
 
-ghost use Rattle.std.specs.Prelude.{◌≡◌, ◌+◌, ◌<◌, ◌≤◌, ◌&&◌, nat_le, length, All, IfOk};
+ghost use Rattle.std.specs.Prelude.{◌≡◌, ◌+◌, ◌<◌, ◌≤◌, ◌&&◌, nat_le, length, slice_get, All, IfOk};
 ghost use Rattle.cyc_select.specs.inside.Labelled.{Fits, IsFormedLine, words_of};
-ghost use Rattle.cyc_asm.specs.inside.Slots.{filling, AreNamed};
-ghost use Rattle.cyc_asm.specs.inside.Layout.{most_of_each, position_of_each, head_width, width_at};
+ghost use Rattle.cyc_asm.specs.inside.Slots.{is_unreached, filling, AreNamed};
+ghost use Rattle.cyc_asm.specs.inside.Layout.{most_of_each, position_of_each, head_width, width_in, width_at};
 
 use crate::constants::MAX_REACH;
 use crate::slots;
@@ -55,14 +55,14 @@ fn head_width(lines: &[Line], named: &[bool], number: usize) -> u32
     }
 }
 
-/// How many words the line of this number takes.
-pub(crate) fn width_at(lines: &[Line], named: &[bool], most: &[u32], number: usize) -> u32
+/// How many words the line of this number takes where a run may come to it.
+pub(crate) fn width_in(lines: &[Line], named: &[bool], most: &[u32], number: usize) -> u32
     requires within { number < length lines.now }
     requires formed { All (IsFormedLine (length lines.now)) lines.now }
     requires fits { Fits lines.now }
     requires named { AreNamed lines.now (length lines.now) named.now }
     requires most { most.now ≡ most_of_each lines.now }
-    ensures { result ≡ width_at lines.now number }
+    ensures { result ≡ width_in lines.now number (slice_get lines.now number) }
 {
     match lines[number] {
         Line::Ordinary { .. } => 1,
@@ -76,6 +76,23 @@ pub(crate) fn width_at(lines: &[Line], named: &[bool], most: &[u32], number: usi
         Line::Jump { .. } | Line::Call { .. } | Line::Return => {
             head_width(lines, named, number) + 1
         }
+    }
+}
+
+/// How many words the line of this number takes, to which a run may come or none does.
+fn width_at(lines: &[Line], named: &[bool], most: &[u32], unreached: bool, number: usize) -> u32
+    requires within { number < length lines.now }
+    requires formed { All (IsFormedLine (length lines.now)) lines.now }
+    requires fits { Fits lines.now }
+    requires named { AreNamed lines.now (length lines.now) named.now }
+    requires most { most.now ≡ most_of_each lines.now }
+    requires unreached { unreached ≡ is_unreached lines.now number }
+    ensures { result ≡ width_at lines.now number }
+{
+    if unreached {
+        0
+    } else {
+        width_in(lines, named, most, number)
     }
 }
 
@@ -94,9 +111,11 @@ pub(crate) fn position_of_each(
 {
     let mut positions = Vec::new(alloc);
     let mut before: u32 = 0;
+    let mut unreached = false;
     for number in 0..lines.len() {
         positions.push(before)?;
-        before += width_at(lines, named, most, number);
+        unreached = slots::is_unreached_behind(unreached, lines, named, number);
+        before += width_at(lines, named, most, unreached, number);
     }
     Ok(positions)
 }

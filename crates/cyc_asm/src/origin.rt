@@ -5,9 +5,9 @@ ghost use Rattle.cyc_select.specs.inside.Labelled.{Fits, IsFormedLine};
 ghost use Rattle.cyc_asm.specs.inside.Layout.{most_of_each};
 ghost use Rattle.cyc_asm.specs.inside.Slots.{AreNamed};
 
-use crate::layout::{most_of_each, width_at};
+use crate::layout::{most_of_each, width_in};
 use crate::order::{arranged, comes_down, is_ordinary, settle};
-use crate::slots::{filling, named_of_each};
+use crate::slots::{filling, is_unreached_behind, named_of_each};
 use cyc_select::{Code, Line};
 use cyc_words::Fault;
 use std::alloc::{AllocError, Global};
@@ -61,7 +61,7 @@ fn number_at(numbers: &[usize], number: usize) -> usize {
     numbers.get(number).copied().unwrap_or(0)
 }
 
-/// The sources of the words of the line of this number, where lines stand in order.
+/// The sources of the words of the line of this number, where lines stand in order and a run may come to it.
 fn push_sources(
     sources: &mut Vec<usize>,
     numbers: &[usize],
@@ -86,7 +86,7 @@ fn push_sources(
         sources.push(first)?;
         return Ok(());
     }
-    let mut rest = width_at(order, named, most, number);
+    let mut rest = width_in(order, named, most, number);
     if filling(order, named, number).is_some() {
         sources.push(number_at(numbers, number.saturating_sub(1)))?;
         rest = rest.saturating_sub(1);
@@ -110,8 +110,12 @@ fn sources_in_order(
 {
     let most = most_of_each(alloc, order)?;
     let mut sources = Vec::new(alloc);
+    let mut unreached = false;
     for number in 0..order.len() {
-        push_sources(&mut sources, numbers, order, named, &most, number)?;
+        unreached = is_unreached_behind(unreached, order, named, number);
+        if !unreached {
+            push_sources(&mut sources, numbers, order, named, &most, number)?;
+        }
     }
     Ok(sources)
 }

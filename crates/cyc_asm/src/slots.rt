@@ -1,8 +1,8 @@
-//! Which delay slots are filled, and with what.
+//! Which delay slots are filled, and with what, and to which lines no run comes.
 
-ghost use Rattle.std.specs.Prelude.{◌≡◌, ◌<◌, ◌≤◌, length, All, IfOk};
+ghost use Rattle.std.specs.Prelude.{◌≡◌, ◌<◌, length, Some, All, IfOk};
 ghost use Rattle.cyc_select.specs.inside.Labelled.{IsFormedLine};
-ghost use Rattle.cyc_asm.specs.inside.Slots.{is_movable, leaves, moves, label_of, filling, AreNamed};
+ghost use Rattle.cyc_asm.specs.inside.Slots.{is_movable, leaves, moves, label_of, goes_on, is_call, fills_behind, is_unreached_behind, filling, AreNamed};
 
 use cyc_isa::{Instr, reads, writes};
 use cyc_machine::constants::RETURN_ADDRESS;
@@ -83,6 +83,56 @@ pub(crate) fn named_of_each(alloc: Global, lines: &[Line]) -> Result<Vec<bool>, 
         }
     }
     Ok(named)
+}
+
+fn is_call(line: &Line) -> bool
+    ensures { result ≡ is_call (Some line.now) }
+{
+    match line {
+        Line::Call { .. } => true,
+        Line::Ordinary { .. } | Line::Branch { .. } | Line::Jump { .. } | Line::Return => false,
+    }
+}
+
+/// Whether the line behind the one of this number is a call that may have its instruction in the slot.
+fn fills_behind(lines: &[Line], named: &[bool], number: usize) -> bool
+    requires within { number < length lines.now }
+    requires named { AreNamed lines.now (length lines.now) named.now }
+    ensures { result ≡ fills_behind lines.now number }
+{
+    let behind = number + 1;
+    behind < lines.len() && !named[behind] && is_call(&lines[behind])
+}
+
+/// Whether a line may be followed by the line behind it.
+fn goes_on(line: &Line) -> bool
+    ensures { result ≡ goes_on (Some line.now) }
+{
+    match line {
+        Line::Ordinary { .. } | Line::Branch { .. } | Line::Call { .. } => true,
+        Line::Jump { .. } | Line::Return => false,
+    }
+}
+
+/// Whether no run comes to the line of this number, which is told whether none comes to the line before.
+pub(crate) fn is_unreached_behind(
+    unreached: bool,
+    lines: &[Line],
+    named: &[bool],
+    number: usize,
+) -> bool
+    requires within { number < length lines.now }
+    requires named { AreNamed lines.now (length lines.now) named.now }
+    ensures { result ≡ is_unreached_behind unreached lines.now number }
+{
+    if number == 0 || named[number] || (!unreached && goes_on(&lines[number - 1])) {
+        return false;
+    }
+    match lines[number] {
+        Line::Ordinary { .. } => !fills_behind(lines, named, number),
+        Line::Call { .. } => false,
+        Line::Branch { .. } | Line::Jump { .. } | Line::Return => true,
+    }
 }
 
 /// The instruction of the line before that fills the slot of the line of this number, if one does.

@@ -8,7 +8,7 @@ use Rattle.cyc_select.specs.declared.code.Line.{Line}
 use Rattle.cyc_select.specs.declared.code.Line.TheVariants as lines
 use Rattle.cyc_isa.specs.declared.instr.Instr.{Instr}
 use Rattle.cyc_asm.specs.declared.constants.TheConstants.{MAX_REACH}
-use Rattle.cyc_asm.specs.inside.Slots.{filling}
+use Rattle.cyc_asm.specs.inside.Slots.{is_unreached, filling}
 use Rattle.cyc_asm.specs.inside.Order.{arranged}
 
 -- how many words the lines before this one take at most
@@ -42,8 +42,9 @@ abbrev pub width_in : List Line → (number : ℕ) → Option Line → ℕ
 width_in code number (Some line) = width_of code number line
 width_in code number None = 0
 
+-- a line that no run comes to takes none
 abbrev pub width_at : List Line → ℕ → ℕ
-width_at code number = width_in code number (slice_get code number)
+width_at code number = if is_unreached code number then 0 else width_in code number (slice_get code number)
 
 -- the words before a line
 abbrev pub position : List Line → ℕ → ℕ

@@ -1,6 +1,6 @@
 -- Which delay slots are filled: the instruction just before a branch or jump stands in its slot, where that changes nothing
 -- of what either does, and nothing else goes to the branch or jump. This project's own choice.
-use Rattle.std.specs.Prelude.{◌≡◌, ℕ, zero, suc, ◌<◌, Bool, true, false, not, ◌==◌, ◌&&◌, if◌then◌else◌, List, length, Option, Some, None, slice_get, get_or}
+use Rattle.std.specs.Prelude.{◌≡◌, ℕ, zero, suc, ◌<◌, Bool, true, false, not, ◌==◌, ◌&&◌, ◌||◌, if◌then◌else◌, List, length, Option, Some, None, slice_get, get_or}
 use Rattle.std.specs.List.{list_any}
 use Rattle.cyc_isa.specs.Uses.{reads, writes}
 use Rattle.cyc_isa.specs.declared.instr.Instr.{Instr}
@@ -52,6 +52,45 @@ is_label number None = false
 -- a label stands at the line of this number: one of these lines goes there
 abbrev pub is_named : List Line → (number : ℕ) → Bool
 is_named code number = list_any (λ line. is_label number (label_of line)) code
+
+-- A line that is not a jump or a return may be followed by the line behind it: a call comes back there.
+abbrev pub goes_on : Option Line → Bool
+goes_on (Some (lines.Jump label)) = false
+goes_on (Some lines.Return) = false
+goes_on line = true
+
+abbrev pub is_call : Option Line → Bool
+is_call (Some (lines.Call label)) = true
+is_call line = false
+
+-- the line behind the one of this number is a call that may have its instruction in the slot: no label stands at it
+abbrev pub fills_behind : List Line → (number : ℕ) → Bool
+fills_behind code number = not (is_named code (suc number)) && is_call (slice_get code (suc number))
+
+-- A line that may be left out where no run comes to it: no call, since a return may go behind it, and no instruction that a call
+-- behind it may have in its slot.
+abbrev pub may_lack : (fills : Bool) → Option Line → Bool
+may_lack fills (Some (lines.Ordinary instruction)) = not fills
+may_lack fills (Some (lines.Call label)) = false
+may_lack fills (Some line) = true
+may_lack fills None = false
+
+-- No run comes to the line of this number: no label stands at it, and none comes to the line before, or that does not go on.
+abbrev pub is_unreached_behind : (unreached : Bool) → List Line → (number : ℕ) → Bool
+is_unreached_behind unreached code zero = false
+is_unreached_behind unreached code (suc before) =
+    (unreached || not (goes_on (slice_get code before)))
+    && (not (is_named code (suc before)) && may_lack (fills_behind code (suc before)) (slice_get code (suc before)))
+
+-- of each line in turn
+abbrev pub is_unreached : List Line → (number : ℕ) → Bool
+is_unreached code zero = false
+is_unreached code (suc before) = is_unreached_behind (is_unreached code before) code (suc before)
+
+-- and of the line before
+abbrev pub is_unreached_before : List Line → (number : ℕ) → Bool
+is_unreached_before code zero = false
+is_unreached_before code (suc before) = is_unreached code before
 
 -- the instruction of a line that moves into the slot of the line behind it
 abbrev pub moved : Option Line → Option Line → Option Instr

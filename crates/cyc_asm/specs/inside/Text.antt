@@ -1,6 +1,7 @@
--- When the words of a text mean labelled code whose lines lie at given addresses: each line's instruction stands once, each
--- label is its line's address, and each delay slot has the instruction that fills it, or is empty. Branches, jumps and
--- delay slots are those of the MIPS32 architecture, volume II; how a branch goes far is this project's own choice.
+-- When the words of a text mean labelled code whose lines lie at given addresses: the instruction of each line that a run may
+-- come to stands once, each label is its line's address, and each delay slot has the instruction that fills it, or is empty.
+-- Branches, jumps and delay slots are those of the MIPS32 architecture, volume II; how a branch goes far is this project's own
+-- choice.
 use Rattle.std.specs.Prelude.{◌≡◌, ℕ, zero, suc, ◌+◌, ◌-◌, ◌*◌, ◌/◌, ◌≤◌, Bool, true, false, List, [], ◌∷◌, length, map, Option, Some, None, slice_get}
 use Rattle.std.specs.List.{range_with_len, flat_map}
 use Rattle.cyc_isa.specs.Encoding.{word_of, IsEncodable}
@@ -23,7 +24,7 @@ use Rattle.cyc_select.specs.declared.code.Condition.TheVariants as conditions
 use Rattle.cyc_select.specs.declared.code.Line.{Line}
 use Rattle.cyc_select.specs.declared.code.Line.TheVariants as lines
 use Rattle.cyc_asm.specs.inside.Layout.{is_near}
-use Rattle.cyc_asm.specs.inside.Slots.{filling}
+use Rattle.cyc_asm.specs.inside.Slots.{is_unreached, filling}
 use Rattle.cyc_asm.specs.inside.Order.{in_order}
 
 -- the text that these words are
@@ -112,6 +113,11 @@ Stands code words addresses number (lines.Ordinary instruction) =
     StandsOrdinary (filling code.lines (suc number)) words addresses number instruction
 Stands code words addresses number line = StandsFilled (filling code.lines number) code words addresses number line
 
+-- a line that no run comes to takes no word
+abbrev pub StandsUnless : (unreached : Bool) → Labelled → List ℕ → (ℕ → ℕ) → (number : ℕ) → Line → Type 0
+StandsUnless true code words addresses number line = addresses (suc number) ≡ addresses number
+StandsUnless false code words addresses number line = Stands code words addresses number line
+
 -- so many addresses of words, from this one on
 abbrev pub stretch : (from count : ℕ) → List ℕ
 stretch from zero = []
@@ -128,7 +134,7 @@ pub record IsTextInOrder (code order : Labelled) (addresses : ℕ → ℕ) (word
   pub places : AreAddresses code addresses
   pub first : addresses 0 ≡ text_base
   pub stands : (number : ℕ) (line : Line) → slice_get order.lines number ≡ Some line
-      → Stands order words addresses number line
+      → StandsUnless (is_unreached order.lines number) order words addresses number line
   pub all : flat_map (own addresses) (range_with_len 0 (length code.lines)) ≡ stretch text_base (length words)
   pub few : length words ≤ all_words code.lines
   pub inside : text_base + 4 * length words ≤ text_end

@@ -12,7 +12,7 @@ use Rattle.cyc_select.specs.declared.code.Line.{Line}
 use Rattle.cyc_select.specs.declared.code.Line.TheVariants as lines
 use Rattle.cyc_asm.specs.declared.constants.TheConstants.{ROUND_OFFSET, FIRST_INDEX}
 use Rattle.cyc_asm.specs.inside.Layout.{is_near, position}
-use Rattle.cyc_asm.specs.inside.Slots.{filling}
+use Rattle.cyc_asm.specs.inside.Slots.{is_unreached, filling}
 use Rattle.cyc_asm.specs.inside.Order.{arranged}
 use Rattle.cyc_asm.specs.inside.Text.{nothing, branch_of, inverse_of, return_register}
 
@@ -83,10 +83,14 @@ abbrev pub words_in : List Line → (number : ℕ) → Option Line → List ℕ
 words_in code number (Some line) = words_of_line code number line
 words_in code number None = []
 
+-- a line that no run comes to has none
+abbrev pub words_at : List Line → ℕ → List ℕ
+words_at code number = if is_unreached code number then [] else words_in code number (slice_get code number)
+
 -- the words of the first so many lines, and of all
 abbrev pub words_before : List Line → ℕ → List ℕ
 words_before code zero = []
-words_before code (suc number) = words_before code number ++ words_in code number (slice_get code number)
+words_before code (suc number) = words_before code number ++ words_at code number
 
 abbrev pub words_in_order : List Line → List ℕ
 words_in_order code = words_before code (length code)

@@ -20,12 +20,12 @@ use Rattle.cyc_select.specs.declared.code.Condition.{Condition}
 use Rattle.cyc_select.specs.declared.code.Condition.TheVariants as conditions
 use Rattle.cyc_select.specs.declared.code.Line.{Line}
 use Rattle.cyc_select.specs.declared.code.Line.TheVariants as lines
-use Rattle.cyc_select.specs.inside.Labelled.{Labelled, IsFormed, IsFormedLine, is_ordinary, AreAddresses}
+use Rattle.cyc_select.specs.inside.Labelled.{Labelled, IsFormed, IsFormedLine, is_ordinary, IsReturnPoint, AreAddresses}
 use Rattle.cyc_words.specs.Ending.{Ending, Returned, Uncaught, Full}
 use Rattle.cyc_words.specs.Word.{IsWord, signed}
 use Rattle.cyc_words.proofs.Members.{All_at}
 use Rattle.cyc_isa.specs.Decoding.{trap_code_of}
-use Rattle.cyc_select.specs.inside.Machine.{Configuration, State, Running, Ended, Step, Executes, ExecutesAt, Performs, PerformsOrdinary, machine, status_of, output_of, input_of, linked, at, word_in, holds_of, IsReturnPoint}
+use Rattle.cyc_select.specs.inside.Machine.{Configuration, State, Running, Ended, Step, Executes, ExecutesAt, Performs, PerformsOrdinary, machine, status_of, output_of, input_of, linked, at, word_in, holds_of}
 use Rattle.cyc_select.specs.inside.Instructions.{syscall}
 use Rattle.cyc_select.specs.inside.Selection.{ordinary, service_number}
 use Rattle.cyc_select.proofs.relation.Cells.{IsLive}
@@ -264,7 +264,7 @@ module _ (code : Labelled) (formed : IsFormed code) (addresses : ℕ → ℕ) (g
       let holds : word_in c RETURN_ADDRESS ≡ addresses line = now.view.reg RETURN_ADDRESS (omega arith) ∙ is_address in
       walk_step n lo hi out Goal c (Running (at c line)) (omega (arith, from, now.at_line)) now.output refl
       (λ next step. elim (executes_line c lines.Return next (stands_now k out input r w c lines.Return now stands) step) [
-        | inl (other, found, lies, is) ↦ is ∙ ap (λ (x : ℕ). Running (at c x)) (lie.apart other line found.inside point.inside (lies ∙ holds))
+        | inl (other, found, lies, is) ↦ is ∙ ap (λ (x : ℕ). Running (at c x)) (lie.apart other line found point (lies ∙ holds))
         | inr (nowhere, is) ↦ absurd (nowhere line point (sym holds))
       ])
       (walk_from n (suc c.line) (suc k) hi out Goal (Running (at c line)) (omega (arith, now.at_line)) (rest (at c line) (at_now k line out input r w c now)))

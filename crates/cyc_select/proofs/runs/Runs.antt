@@ -35,9 +35,9 @@ use Rattle.cyc_plain.proofs.RunLaws.{lawful, limited-within, limited_either, zer
 use Rattle.cyc_plain.proofs.Steps.{function_known}
 use Rattle.cyc_frame.specs.inside.Layout.{AreFrames, frame_at}
 use Rattle.cyc_frame.specs.inside.Frame.{Frame}
-use Rattle.cyc_select.specs.inside.Labelled.{Labelled, IsFormed, AreAddresses}
+use Rattle.cyc_select.specs.inside.Labelled.{Labelled, IsFormed, IsReturnPoint, AreAddresses}
 use Rattle.cyc_select.specs.inside.Machine as labelled
-use Rattle.cyc_select.specs.inside.Machine.{State, Running, Ended, IsReturnPoint, machine}
+use Rattle.cyc_select.specs.inside.Machine.{State, Running, Ended, machine}
 use Rattle.cyc_select.specs.declared.constants.TheConstants.{HANDLERS}
 use Rattle.cyc_select.specs.declared.code.Line.{Line}
 use Rattle.cyc_select.specs.declared.code.Line.TheVariants as lines

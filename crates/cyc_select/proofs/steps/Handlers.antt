@@ -25,9 +25,9 @@ use Rattle.cyc_frame.specs.inside.Frame.{Frame}
 use Rattle.cyc_select.specs.declared.constants.TheConstants.{FRAME, LOWEST, HANDLERS, REGIONS, GLOBALS}
 use Rattle.cyc_select.specs.declared.code.Line.{Line}
 use Rattle.cyc_select.specs.declared.code.Line.TheVariants as lines
-use Rattle.cyc_select.specs.inside.Labelled.{Labelled, IsFormed, AreAddresses}
+use Rattle.cyc_select.specs.inside.Labelled.{Labelled, IsFormed, IsReturnPoint, AreAddresses}
 use Rattle.cyc_select.specs.inside.Machine as labelled
-use Rattle.cyc_select.specs.inside.Machine.{State, Running, IsReturnPoint}
+use Rattle.cyc_select.specs.inside.Machine.{State, Running}
 use Rattle.cyc_select.specs.inside.Instructions.{load, slot_offset}
 use Rattle.cyc_select.specs.inside.Slots.{reloads, store_all}
 use Rattle.cyc_select.specs.inside.Operands.{reload_count}

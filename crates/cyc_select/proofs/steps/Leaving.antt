@@ -20,9 +20,9 @@ use Rattle.cyc_frame.specs.inside.Layout.{AreFrames, frame_at}
 use Rattle.cyc_frame.specs.inside.Frame.{Frame}
 use Rattle.cyc_select.specs.declared.code.Line.{Line}
 use Rattle.cyc_select.specs.declared.code.Line.TheVariants as lines
-use Rattle.cyc_select.specs.inside.Labelled.{Labelled, IsFormed, AreAddresses}
+use Rattle.cyc_select.specs.inside.Labelled.{Labelled, IsFormed, IsReturnPoint, AreAddresses}
 use Rattle.cyc_select.specs.inside.Machine as labelled
-use Rattle.cyc_select.specs.inside.Machine.{State, Running, IsReturnPoint}
+use Rattle.cyc_select.specs.inside.Machine.{State, Running}
 use Rattle.cyc_select.specs.inside.Instructions.{load}
 use Rattle.cyc_select.specs.inside.Slots.{value_register, way_count}
 use Rattle.cyc_select.specs.inside.Counts.{ending_count, instruction_line}

@@ -24,9 +24,9 @@ use Rattle.cyc_frame.specs.inside.Frame.{Frame}
 use Rattle.cyc_select.specs.declared.code.Line.{Line}
 use Rattle.cyc_select.specs.declared.code.Condition.TheVariants as conditions
 use Rattle.cyc_select.specs.declared.code.Line.TheVariants as lines
-use Rattle.cyc_select.specs.inside.Labelled.{Labelled, IsFormed, AreAddresses}
+use Rattle.cyc_select.specs.inside.Labelled.{Labelled, IsFormed, IsReturnPoint, AreAddresses}
 use Rattle.cyc_select.specs.inside.Machine as labelled
-use Rattle.cyc_select.specs.inside.Machine.{State, Running, Ended, IsReturnPoint}
+use Rattle.cyc_select.specs.inside.Machine.{State, Running, Ended}
 use Rattle.cyc_select.specs.inside.Instructions.{small, syscall}
 use Rattle.cyc_select.specs.inside.Slots.{value_register, load_slot, load_all, restores, pop_frame, result_registers}
 use Rattle.cyc_select.specs.inside.Counts.{ending_count}

@@ -28,9 +28,9 @@ use Rattle.cyc_select.specs.declared.constants.TheConstants.{FRAME, LOWEST, HAND
 use Rattle.cyc_select.specs.declared.code.Condition.TheVariants as conditions
 use Rattle.cyc_select.specs.declared.code.Line.{Line}
 use Rattle.cyc_select.specs.declared.code.Line.TheVariants as lines
-use Rattle.cyc_select.specs.inside.Labelled.{Labelled, IsFormed, AreAddresses}
+use Rattle.cyc_select.specs.inside.Labelled.{Labelled, IsFormed, IsReturnPoint, AreAddresses}
 use Rattle.cyc_select.specs.inside.Machine as labelled
-use Rattle.cyc_select.specs.inside.Machine.{State, Running, Ended, IsReturnPoint}
+use Rattle.cyc_select.specs.inside.Machine.{State, Running, Ended}
 use Rattle.cyc_select.specs.inside.Instructions.{small, syscall, slot_offset}
 use Rattle.cyc_select.specs.inside.Slots.{is_kept}
 use Rattle.cyc_select.specs.inside.Operands.{load_code, load_count}

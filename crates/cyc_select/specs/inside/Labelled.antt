@@ -1,6 +1,6 @@
 -- Labelled code, as mathematical data: machine code before its addresses are known. This project's own choice, after the
 -- form that assemblers read.
-use Rattle.std.specs.Prelude.{◌≡◌, ℕ, ◌+◌, ◌*◌, ◌%◌, ◌<◌, ◌≤◌, Bool, true, false, List, length, All, sum_by}
+use Rattle.std.specs.Prelude.{◌≡◌, ℕ, suc, ◌+◌, ◌*◌, ◌%◌, ◌<◌, ◌≤◌, Bool, true, false, List, length, All, sum_by, Some, slice_get}
 use Rattle.cyc_isa.specs.Encoding.{IsEncodable}
 use Rattle.cyc_isa.specs.declared.instr.Instr.{Instr}
 use Rattle.cyc_isa.specs.declared.instr.Instr.TheVariants.{Branch, BranchZero, Jump, JumpRegister, JumpRegisterLink}
@@ -58,9 +58,17 @@ pub record IsCode (code : Labelled) : Type 0 where
   pub fits : Fits code.lines
   pub few_globals : length code.globals ≤ globals_length
 
--- Where lines lie: each at an address of its own, a multiple of 4 in the text range.
+-- A line that a return may go to: it stands behind a call.
+pub record IsReturnPoint (code : Labelled) (line : ℕ) : Type 0 where
+  pub inside : line < length code.lines
+  pub call : ℕ
+  pub label : ℕ
+  pub behind : line ≡ suc call
+  pub calls : slice_get code.lines call ≡ Some (lines.Call label)
+
+-- Where lines lie: each at a multiple of 4 in the text range, and those that a return may go to at addresses of their own.
 pub record AreAddresses (code : Labelled) (addresses : ℕ → ℕ) : Type 0 where
-  pub apart : (a b : ℕ) → a < length code.lines → b < length code.lines → addresses a ≡ addresses b → a ≡ b
+  pub apart : (a b : ℕ) → IsReturnPoint code a → IsReturnPoint code b → addresses a ≡ addresses b → a ≡ b
   pub aligned : (line : ℕ) → line < length code.lines → addresses line % 4 ≡ 0
   pub from : (line : ℕ) → line < length code.lines → text_base ≤ addresses line
   pub below : (line : ℕ) → line < length code.lines → addresses line < text_end

@@ -1,7 +1,7 @@
 -- The labelled machine: what labelled code means. It is the machine without program counter and delay slots: a line is
 -- executed whole, and a return address is looked up among the addresses of the lines behind calls. What an ordinary instruction does
 -- is the machine's own step.
-use Rattle.std.specs.Prelude.{◌≡◌, ◌≢◌, ℕ, suc, ◌+◌, ◌-◌, ◌*◌, ◌<◌, ◌⊎◌, Bool, true, false, if◌then◌else◌, List, [], ◌++◌, length, replicate, Option, Some, None, slice_get, slice_set}
+use Rattle.std.specs.Prelude.{◌≡◌, ◌≢◌, ℕ, ◌+◌, ◌-◌, ◌*◌, ◌⊎◌, Bool, true, false, if◌then◌else◌, List, [], ◌++◌, length, replicate, Option, Some, None, slice_get, slice_set}
 use Rattle.cyc_words.specs.Ending.{Ending}
 use Rattle.cyc_isa.specs.Effect.{branch_taken, branch_zero_taken}
 use Rattle.cyc_isa.specs.declared.instr.Instr.{Instr}
@@ -16,7 +16,7 @@ use Rattle.cyc_machine.specs.declared.phase.Phase.{Phase}
 use Rattle.cyc_machine.specs.declared.phase.Phase.TheVariants as phases
 use Rattle.cyc_words.specs.Seen.{Seen, showing}
 use Rattle.cyc_words.specs.Simulation as simulation
-use Rattle.cyc_select.specs.inside.Labelled.{Labelled, is_ordinary}
+use Rattle.cyc_select.specs.inside.Labelled.{Labelled, is_ordinary, IsReturnPoint}
 use Rattle.cyc_select.specs.declared.code.Condition.{Condition}
 use Rattle.cyc_select.specs.declared.code.Condition.TheVariants as conditions
 use Rattle.cyc_select.specs.declared.code.Line.{Line}
@@ -103,14 +103,6 @@ at c line = record c { line = line }
 -- register 31 has the address of the line behind this one
 abbrev pub linked : (ℕ → ℕ) → Configuration → Configuration
 linked addresses c = record c { registers = (with_register (core_of c) RETURN_ADDRESS (addresses (c.line + 1))).registers }
-
--- A line that a return may go to: it stands behind a call.
-pub record IsReturnPoint (code : Labelled) (line : ℕ) : Type 0 where
-  pub inside : line < length code.lines
-  pub call : ℕ
-  pub label : ℕ
-  pub behind : line ≡ suc call
-  pub calls : slice_get code.lines call ≡ Some (lines.Call label)
 
 -- a return goes to the line behind a call that lies at the address in register 31, and stops the run where there is none
 abbrev pub Returns : Labelled → (ℕ → ℕ) → Configuration → State → Type 0

@@ -1,6 +1,6 @@
 use Rattle.std.proofs.Common.{ℕ, ◌+◌, ◌∙◌, sym, ap, arith, true, false, inl, inr}
 use Rattle.cyc_asm.proofs.Tables.{length-most_of_each, most_low, formed_here, width_here, near_here, width_of_branch}
-use Rattle.cyc_asm.proofs.layout.width_at.Goals as goal
+use Rattle.cyc_asm.proofs.layout.width_in.Goals as goal
 
 pub bounds-most-number : goal.bounds-most-number
 bounds-most-number c = let long = length-most_of_each c.args.lines.now c.args.most.now c.requires.most in omega (arith, long, c.requires.within)

@@ -1,7 +1,7 @@
 use Rattle.std.proofs.Common.{◌≡◌, List, ℕ, ◌++◌, refl, subst, inl, inr}
 use Rattle.std.specs.Prelude.{OnOk}
 use Rattle.cyc_asm.proofs.Tables.{line_here, words_of_ordinary_here, words_of_jump_here}
-use Rattle.cyc_asm.proofs.emission.push_line.Goals as goal
+use Rattle.cyc_asm.proofs.emission.push_reached.Goals as goal
 
 pub push_ordinary-requires-clause-here : goal.push_ordinary-requires-clause-here
 push_ordinary-requires-clause-here c = line_here c.args.lines.now c.args.number _ _ c.requires.within c.in-Ordinary.is
