@@ -82,15 +82,25 @@ fn source_at(stretches: &[Stretch], address: u32) -> Option<Source> {
     Some(stretch_at(stretches, address)?.source)
 }
 
-/// Where the functions begin.
-fn entries_of(alloc: Global, stretches: &[Stretch]) -> Result<Vec<u32>, AllocError> {
+/// Whether these are one function, or none both times.
+fn is_same_function(one: Option<usize>, other: Option<usize>) -> bool {
+    match (one, other) {
+        (Some(one), Some(other)) => one == other,
+        (None, None) => true,
+        _ => false,
+    }
+}
+
+/// Where the functions begin: the first stretch of each that has words.
+fn entries_of(alloc: Global, stretches: &[Stretch]) -> Result<Vec<Stretch>, AllocError> {
     let mut entries = Vec::new(alloc);
+    let mut last = None;
     for stretch in stretches {
-        if let Some(function) = stretch.frame_function() {
-            if function >= entries.len() {
-                entries.push(stretch.address)?;
-            }
+        let function = stretch.frame_function();
+        if !is_same_function(last, function) {
+            entries.push(*stretch)?;
         }
+        last = function;
     }
     Ok(entries)
 }
@@ -137,14 +147,15 @@ fn is_leaving<S: Store + Drop>(machine: &Machine<S>, address: u32) -> bool {
 #[derive(Clone, Copy)]
 struct Map<'a> {
     stretches: &'a [Stretch],
-    entries: &'a [u32],
+    entries: &'a [Stretch],
 }
 
 impl Map<'_> {
     /// Where the function of a word begins.
     fn entry(&self, address: u32) -> Option<u32> {
-        let function = stretch_at(self.stretches, address)?.frame_function()?;
-        self.entries.get(function).copied()
+        let begun = stretch_at(self.entries, address)?;
+        begun.frame_function()?;
+        Some(begun.address)
     }
 
     /// What was done to the frame before the instruction at an address, since the last branch or jump before that.

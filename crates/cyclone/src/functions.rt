@@ -31,6 +31,11 @@ fn begun_at(number: Option<usize>, address: u32) -> Option<Begun> {
     }
 }
 
+/// The first number behind this one, or the one that was before, where that is greater.
+fn after(before: usize, number: usize) -> usize {
+    before.max(number.saturating_add(1))
+}
+
 /// The functions of an image, of which the `Display` has a line each, in the order in which they stand in the text: the name, the address
 /// and the words.
 #[derive(Drop)]
@@ -53,13 +58,29 @@ impl Functions<'_> {
         write!(f, "function {name} at {address:08x}, {words} words\n")
     }
 
-    /// The lines of the functions that begin among these stretches.
+    /// The lines of the functions from a number on, up to another, which have no words: their code stands in the place of each call.
+    fn write_empty<W: fmt::Write>(
+        &self,
+        from: usize,
+        to: usize,
+        address: u32,
+        f: &mut fmt::Formatter<W>,
+    ) -> fmt::Result {
+        for number in from..to.min(self.0.functions.len()) {
+            self.write_line(Begun { number, address }, address, f)?;
+        }
+        Ok(())
+    }
+
+    /// The lines of all functions, those that begin among these stretches and those that have no words.
     fn write_all<W: fmt::Write>(
         &self,
         stretches: &[Stretch],
         f: &mut fmt::Formatter<W>,
     ) -> fmt::Result {
         let mut begun: Option<Begun> = None;
+        // All functions before this number are told of, or have begun.
+        let mut next: usize = 0;
         for stretch in stretches {
             let number = stretch.frame_function();
             if goes_on(begun, number) {
@@ -69,11 +90,15 @@ impl Functions<'_> {
                 self.write_line(last, stretch.address, f)?;
             }
             begun = begun_at(number, stretch.address);
+            if let Some(new) = begun {
+                self.write_empty(next, new.number, new.address, f)?;
+                next = after(next, new.number);
+            }
         }
-        match begun {
-            Some(last) => self.write_line(last, self.0.end, f),
-            None => Ok(()),
+        if let Some(last) = begun {
+            self.write_line(last, self.0.end, f)?;
         }
+        self.write_empty(next, self.0.functions.len(), self.0.end, f)
     }
 }
 
