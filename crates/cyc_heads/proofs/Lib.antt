@@ -3,4 +3,3 @@ pub mod HeadLemmas
 -- what the proofs of this crate cite
 pub mod DeclaringLemmas
 pub mod KeyLemmas
-pub mod PartLemmas

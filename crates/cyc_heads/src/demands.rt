@@ -130,7 +130,6 @@ fn demand_mark(
     }
 }
 
-#[tactic(auto, using(cyc_types::proofs::RuleLaws::settled_append))]
 fn demand_marks(settled: &mut Settled, names: &RegionNames, own: Option<usize>, marks: &[Pointer])
     ensures { settled.new.known ≡ settle settled.old.known (marks_demanded names.now own (map view_pointer marks.now)) }
 {

@@ -105,7 +105,6 @@ pub struct Parts {
 }
 
 /// What a program that knows this has besides the bodies of its functions.
-#[tactic(auto, using(crate::proofs::PartLemmas::parts_made))]
 pub fn parts_of(
     alloc: Global,
     known: &Known,

@@ -19,9 +19,6 @@ use Rattle.cyc_scope.proofs.TableLemmas.{lent, seen_through}
 
 -- ---- lists from their end
 
-pub as_many_locals : (bs : List Binding) → length (locals_of bs) ≡ length bs
-as_many_locals bs = length-map (reverse bs) view_binding ∙ length-reverse bs
-
 -- ---- the newest local of a name
 
 newest_within : (ys : List ℕ) (x i : ℕ) → newest_place ys x ≡ Some i → i < length ys

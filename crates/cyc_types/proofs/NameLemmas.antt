@@ -19,12 +19,6 @@ in_range table bs old b f e = get_or_within table b.name b.region (f.0 b.name �
     front : names_of old ≡ record { name = b.name; region = b.region } ∷ names_of bs
     front = ap names_of e ∙ ap (map (λ (b : Binding). record { name = b.name; region = b.region })) (reverse-append bs (b ∷ []))
 
--- one binding more
-pub name_more : (bs : List Binding) (i : ℕ) (d : Binding) → i < length bs → region_numbers (names_of (take (i + 1) bs)) ≡ (get_or bs i d).name ∷ region_numbers (names_of (take i bs))
-name_more bs i d lt =
-    ap (λ cs. region_numbers (names_of cs)) (take_more bs i d lt)
-    ∙ ap (λ cs. region_numbers (map (λ (b : Binding). record { name = b.name; region = b.region }) cs)) (reverse-append (take i bs) (get_or bs i d ∷ []))
-
 -- ---- sets of names
 
 -- a table without its names has none

@@ -142,9 +142,6 @@ module _ (w : List (Region × Region)) (live : List Region) (scopes : List Scope
     bound = before.bound;
   }
 
-pub as_many : (scopes : List Scope) → length scopes ≡ length (reverse scopes)
-as_many scopes = sym (length-reverse scopes)
-
 -- the test decides the relation
 pub outliving_iff : (c : RegionContext) (a b : Region) (r : Bool) → HasNoUnique c → r ≡ is_outliving c a b → IsTrue r ↔ OutlivesIn c a b
 outliving_iff c a b r apart s = (

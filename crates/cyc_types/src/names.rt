@@ -81,7 +81,6 @@ impl RegionNames {
     }
 
     /// Forgets the newest name.
-    #[tactic(auto, using(crate::proofs::NameLemmas::in_range))]
     fn undo(&mut self)
         ensures { self.new ≡ drop 1 self.old }
     {
@@ -114,7 +113,6 @@ ghost use Rattle.cyc_types.specs.typing.Heads.{region_numbers};
 ghost use Rattle.cyc_types.specs.inside.Names.{names_of};
 
 /// Adds the names of bindings to a set, the oldest first.
-#[tactic(auto, using(crate::proofs::NameLemmas::name_more, std::proofs::lemmas::List::take_all))]
 fn add_all(bindings: &[Binding], set: &mut NameSet) -> Result<(), AllocError>
     ensures { OnOk result (set.new ≡ region_numbers (names_of bindings.now) ++ set.old) }
 {

@@ -93,7 +93,6 @@ impl Outlives {
     }
 
     /// How many scopes are open.
-    #[tactic(auto, using(crate::proofs::SearchLemmas::as_many))]
     pub fn len(&self) -> usize
         ensures { result ≡ length self.now.opened }
     {
