@@ -1,4 +1,5 @@
 -- what is known of each local
+pub mod Tables
 pub mod States
 -- changes that are undone
 pub mod Trails

@@ -2,3 +2,4 @@
 -- other.
 pub mod Code
 pub mod Steps
+pub mod Tables

@@ -12,9 +12,10 @@ ghost use Rattle.cyc_flow.specs.inside.Code.{view_state, Ends, Allows};
 use crate::cause::{Cause, find_cause};
 use crate::expressions::Tracked;
 use crate::settled::Settled;
-use crate::state::{Fullness, State, add};
+use crate::state::State;
 use crate::statements::Walk;
 use crate::stop::Stop;
+use crate::table::Table;
 use cyc_types::TypedTree;
 use cyc_types::typed::Function;
 use cyc_words::{Code, Fault};
@@ -89,9 +90,9 @@ fn check_function(alloc: Global, function: &Function) -> Result<(), Stop>
 fn start_of(alloc: Global, function: &Function) -> Result<State, AllocError>
     ensures { IfOk result (λ s. view_state s ≡ start_of (view_function function.now)) }
 {
-    let mut locals = Vec::new(alloc);
-    add(&mut locals, function.parameters.len(), Fullness::Full)?;
-    add(&mut locals, function.locals.len(), Fullness::Vacant)?;
+    let parameters = function.parameters.len();
+    let mut locals = Table::new(alloc, parameters + function.locals.len())?;
+    locals.fill(parameters);
     Ok(State::Reached(locals))
 }
 

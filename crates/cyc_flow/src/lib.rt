@@ -15,3 +15,4 @@ mod settled;
 mod state;
 mod statements;
 mod stop;
+mod table;

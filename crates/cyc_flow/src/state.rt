@@ -1,9 +1,11 @@
 //! What is known of each local at a place of a function.
-ghost use Rattle.std.specs.Prelude.{◌≡◌, ◌++◌, IfOk, List, ℕ, map, replicate, if◌then◌else◌};
-ghost use Rattle.cyc_types.specs.flow.States.{Reached, Full, Vacant, meet, is_at_least, fullness, with_fullness, with_each, emptied, lower, lower_each, is_as_full, are_as_full, is_vacant, is_locked, is_reached};
+ghost use Rattle.std.specs.Prelude.{◌≡◌, IfOk, List, ℕ, if◌then◌else◌};
+ghost use Rattle.cyc_types.specs.flow.States.{Reached, Full, Vacant, meet, is_at_least, fullness, with_fullness, with_each, emptied, lower, is_as_full, is_vacant, is_locked, is_reached};
 ghost use Rattle.cyc_types.specs.flow.Expressions.{is_free};
 ghost use Rattle.cyc_flow.specs.inside.Code.{view_fullness, view_state};
+ghost use Rattle.cyc_flow.specs.inside.Tables.{view_table};
 
+use crate::table::Table;
 use std::alloc::{AllocError, Global};
 
 /// What is known of a local, in rising order.
@@ -30,7 +32,6 @@ impl Fullness {
         matches!(self, Fullness::Locked)
     }
 
-    /// By their numbers, so that a loop over many of them has no branches.
     pub(crate) fn lower(self, other: Fullness) -> Fullness
         ensures { view_fullness result ≡ lower (view_fullness self) (view_fullness other) }
     {
@@ -41,7 +42,7 @@ impl Fullness {
         }
     }
 
-    fn is_as_full(self, other: Fullness) -> bool
+    pub(crate) fn is_as_full(self, other: Fullness) -> bool
         ensures { result ≡ is_as_full (view_fullness self) (view_fullness other) }
     {
         (other as u8) <= (self as u8)
@@ -60,7 +61,7 @@ pub(crate) enum State {
     /// The code here is never run.
     Unreached,
     /// What is known of each local, by its number.
-    Reached(Vec<Fullness>),
+    Reached(Table),
 }
 
 impl State {
@@ -70,13 +71,7 @@ impl State {
     {
         match self {
             State::Unreached => Fullness::Full,
-            State::Reached(locals) => {
-                if number < locals.len() {
-                    locals[number]
-                } else {
-                    Fullness::Vacant
-                }
-            }
+            State::Reached(locals) => locals.fullness(number),
         }
     }
 
@@ -85,9 +80,7 @@ impl State {
         ensures { view_state self.new ≡ with_fullness (view_fullness fullness) (view_state self.old) number }
     {
         if let State::Reached(locals) = self {
-            if number < locals.len() {
-                locals[number] = fullness;
-            }
+            locals.set(number, fullness);
         }
     }
 
@@ -140,7 +133,7 @@ impl State {
         match (self, other) {
             (State::Unreached, _) => true,
             (State::Reached(_), State::Unreached) => false,
-            (State::Reached(here), State::Reached(there)) => are_as_full(here, there),
+            (State::Reached(here), State::Reached(there)) => here.is_as_full(there),
         }
     }
 
@@ -150,9 +143,9 @@ impl State {
         let (State::Reached(here), State::Reached(there)) = (self, other) else {
             return 0;
         };
-        for i in 0..here.len().min(there.len()) {
-            if !here[i].is_as_full(there[i]) {
-                return i;
+        for number in 0..here.len() {
+            if !here.fullness(number).is_as_full(there.fullness(number)) {
+                return number;
             }
         }
         0
@@ -163,7 +156,7 @@ impl State {
     {
         match self {
             State::Unreached => Ok(State::Unreached),
-            State::Reached(locals) => Ok(State::Reached(locals.to_vec(alloc)?)),
+            State::Reached(locals) => Ok(State::Reached(locals.copy(alloc)?)),
         }
     }
 }
@@ -171,25 +164,27 @@ impl State {
 /// This local may hold nothing, unless it is lent out. Tries in each other come to the same local once for each of them, so that nothing is
 /// written where it holds nothing.
 #[tactic(auto, using(crate::proofs::Trails::known_again))]
-fn empty(locals: &mut [Fullness], number: usize)
-    ensures { Reached (map view_fullness locals.new) ≡ (if is_locked (fullness (Reached (map view_fullness locals.old)) number) then Reached (map view_fullness locals.old) else with_fullness Vacant (Reached (map view_fullness locals.old)) number) }
+fn empty(locals: &mut Table, number: usize)
+    ensures { Reached (view_table locals.new) ≡ (if is_locked (fullness (Reached (view_table locals.old)) number) then Reached (view_table locals.old) else with_fullness Vacant (Reached (view_table locals.old)) number) }
 {
-    if number >= locals.len() {
-        return;
-    }
-    match locals[number] {
-        Fullness::Full => locals[number] = Fullness::Vacant,
+    match locals.fullness(number) {
+        Fullness::Full => locals.set(number, Fullness::Vacant),
         Fullness::Locked | Fullness::Vacant => {}
     }
 }
 
-/// The same of each of these locals.
-#[tactic(auto, using(std::proofs::lemmas::List::drop_more))]
-fn empty_each(locals: &mut [Fullness], numbers: &[usize])
-    ensures { Reached (map view_fullness locals.new) ≡ emptied numbers.now (Reached (map view_fullness locals.old)) }
+/// The same of each of these locals. One that is moved and assigned again and again stands there in a row: it is come to once.
+#[tactic(auto, using(crate::proofs::States::none_empties, crate::proofs::States::empty_again, crate::proofs::States::one_more_emptied))]
+fn empty_each(locals: &mut Table, numbers: &[usize])
+    ensures { Reached (view_table locals.new) ≡ emptied numbers.now (Reached (view_table locals.old)) }
 {
+    // So far none: no local has this number.
+    let mut last = locals.len();
     for number in numbers {
-        empty(locals, *number);
+        if *number != last {
+            empty(locals, *number);
+            last = *number;
+        }
     }
 }
 
@@ -200,47 +195,6 @@ pub(crate) fn meet(one: State, other: State) -> State
     match (one, other) {
         (State::Unreached, other) => other,
         (one, State::Unreached) => one,
-        (State::Reached(one), State::Reached(other)) => State::Reached(lower_each(one, &other)),
+        (State::Reached(one), State::Reached(other)) => State::Reached(one.lower(&other)),
     }
-}
-
-/// Of each local what is known at both places, as far as both lists go.
-fn lower_each(mut one: Vec<Fullness>, other: &[Fullness]) -> Vec<Fullness>
-    ensures { map view_fullness result.items ≡ lower_each (map view_fullness one.items) (map view_fullness other.now) }
-{
-    let count = one.len().min(other.len());
-    for i in 0..count {
-        one[i] = one[i].lower(other[i]);
-    }
-    one.truncate(count);
-    one
-}
-
-#[tactic(auto, using(crate::proofs::States::unequal, cyc_words::proofs::Booleans::and_second_first))]
-fn are_as_full(one: &[Fullness], other: &[Fullness]) -> bool
-    ensures { result ≡ are_as_full (map view_fullness one.now) (map view_fullness other.now) }
-{
-    if one.len() != other.len() {
-        return false;
-    }
-    let mut all = true;
-    for i in 0..one.len() {
-        let one_is = one[i].is_as_full(other[i]);
-        all = one_is && all;
-    }
-    all
-}
-
-/// Adds as many locals of which this is known.
-pub(crate) fn add(
-    locals: &mut Vec<Fullness>,
-    count: usize,
-    fullness: Fullness,
-) -> Result<(), AllocError>
-    ensures { IfOk result (λ _. locals.new.items ≡ locals.old.items ++ replicate count fullness) }
-{
-    for _ in 0..count {
-        locals.push(fullness)?;
-    }
-    Ok(())
 }

@@ -1,5 +1,5 @@
 -- What the code has to do with the flow rules: the states that it holds, and what its functions answer.
-use Rattle.std.specs.Prelude.{◌≡◌, ℕ, Bool, true, ◌&&◌, List, [], ◌∷◌, map, Option, Some, None, Result, Ok, Err}
+use Rattle.std.specs.Prelude.{◌≡◌, ℕ, Bool, true, ◌&&◌, List, [], ◌∷◌, Option, Some, None, Result, Ok, Err}
 use Rattle.cyc_words.specs.declared.fault.Fault.{Fault}
 use Rattle.cyc_words.specs.Fault.{memory_fault}
 use Rattle.cyc_flow.specs.declared.state.Fullness.{Fullness as FullnessCode}
@@ -16,6 +16,7 @@ use Rattle.cyc_types.specs.flow.States.{Fullness, Vacant, Locked, Full, State, U
 use Rattle.cyc_types.specs.TypedTrees.{Clauses}
 use Rattle.cyc_types.specs.flow.Touched.{touched_clauses}
 use Rattle.cyc_types.specs.flow.Statements.{Around, Known, rule_clauses}
+use Rattle.cyc_flow.specs.inside.Tables.{view_table}
 
 abbrev pub view_fullness : FullnessCode → Fullness
 view_fullness code.Vacant = Vacant
@@ -24,7 +25,7 @@ view_fullness code.Full = Full
 
 abbrev pub view_state : StateCode → State
 view_state states.Unreached = Unreached
-view_state (states.Reached v) = Reached (map view_fullness v.items)
+view_state (states.Reached t) = Reached (view_table t)
 
 -- what was known before these changes, of which the last led here
 abbrev pub undone : List Change → State → State

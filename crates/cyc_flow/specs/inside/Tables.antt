@@ -1,0 +1,53 @@
+-- What is known of each local by the bits of a table.
+use Rattle.std.specs.Prelude.{◌≡◌, ℕ, ◌*◌, ◌/◌, ◌%◌, zero, suc, min, Bool, true, false, ◌==◌, List, [], ◌∷◌, length, get_or, bit_and}
+use Rattle.std.specs.Int.{bit_at}
+use Rattle.cyc_types.specs.flow.States.{Fullness, Vacant, Locked, Full}
+use Rattle.cyc_flow.specs.declared.table.Marks.{Marks}
+use Rattle.cyc_flow.specs.declared.table.Table.{Table}
+
+-- what two bits tell of a local: whether it holds a value, and whether this is not lent out
+abbrev pub told : (held free : Bool) → Fullness
+told false free = Vacant
+told true false = Locked
+told true true = Full
+
+abbrev pub has_bit : (word place : ℕ) → Bool
+has_bit word place = bit_at word place == 1
+
+abbrev pub marked : Marks → (place : ℕ) → Fullness
+marked m place = told (has_bit m.held place) (has_bit m.free place)
+
+-- of a local that no marks stand for
+abbrev pub no_marks : Marks
+no_marks = record { held = 0; free = 0 }
+
+abbrev pub marks_at : List Marks → (place : ℕ) → Marks
+marks_at ms place = get_or ms place no_marks
+
+-- what is known of a local, by its number
+abbrev pub known_at : List Marks → (number : ℕ) → Fullness
+known_at ms number = marked (marks_at ms (number / 64)) (number % 64)
+
+-- these values of the numbers below a number
+abbrev pub each_below : ℕ → (ℕ → Fullness) → List Fullness
+each_below zero f = []
+each_below (suc n) f = f 0 ∷ each_below n (λ i. f (suc i))
+
+-- how many locals there are: none that no marks stand for
+abbrev pub table_length : Table → ℕ
+table_length t = min t.count (64 * length t.marks.items)
+
+abbrev pub view_table : Table → List Fullness
+view_table t = each_below (table_length t) (known_at t.marks.items)
+
+-- where the second tells of a local that it holds a value, and that this is not lent out, the first does so too
+abbrev pub Covers : Marks → Marks → Type 0
+Covers m o = (bit_and m.held o.held ≡ o.held) × (bit_and m.free o.free ≡ o.free)
+
+abbrev pub met : Marks → Marks → Marks
+met m o = record { held = bit_and m.held o.held; free = bit_and m.free o.free }
+
+abbrev pub met_each : List Marks → List Marks → List Marks
+met_each [] os = []
+met_each (m ∷ ms) [] = []
+met_each (m ∷ ms) (o ∷ os) = met m o ∷ met_each ms os

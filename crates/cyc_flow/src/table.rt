@@ -1,0 +1,201 @@
+//! What is known of each local of a function, in bits of words: where two branches meet, 64 locals are met at once.
+ghost use Rattle.std.specs.Prelude.{◌≡◌, ◌≢◌, ◌<◌, ◌≤◌, ◌++◌, IfOk, ℕ, true, length, replicate, drop, get_or, slice_set};
+ghost use Rattle.std.specs.Int.{bit_at};
+ghost use Rattle.cyc_types.specs.flow.States.{Vacant, Full, lower_each, are_as_full};
+ghost use Rattle.cyc_flow.specs.inside.Code.{view_fullness};
+ghost use Rattle.cyc_flow.specs.inside.Tables.{marked, marks_at, table_length, view_table, Covers, met, met_each, has_bit};
+
+use crate::state::Fullness;
+use std::alloc::{AllocError, Global};
+
+/// What is known of 64 locals: of each a bit that it holds a value, and a bit that this is not lent out. Of a local that holds none the
+/// second does not count.
+#[derive(Clone, Copy)]
+struct Marks {
+    held: u64,
+    free: u64,
+}
+
+/// A word with one of its bits set or cleared.
+fn with_bit(word: u64, place: usize, value: bool) -> u64
+    requires { place < 64 }
+    ensures same { has_bit result place ≡ value }
+    ensures other { (i : ℕ) → i < 64 → i ≢ place → bit_at result i ≡ bit_at word i }
+{
+    if value {
+        word | 1 << place
+    } else {
+        word & !(1 << place)
+    }
+}
+
+impl Marks {
+    fn fullness(self, place: usize) -> Fullness
+        requires { place < 64 }
+        ensures { view_fullness result ≡ marked self place }
+    {
+        if self.held >> place & 1 != 1 {
+            Fullness::Vacant
+        } else if self.free >> place & 1 != 1 {
+            Fullness::Locked
+        } else {
+            Fullness::Full
+        }
+    }
+
+    fn with(self, place: usize, fullness: Fullness) -> Marks
+        requires { place < 64 }
+        ensures same { marked result place ≡ view_fullness fullness }
+        ensures other { (i : ℕ) → i < 64 → i ≢ place → marked result i ≡ marked self i }
+    {
+        Marks {
+            held: with_bit(self.held, place, !fullness.is_vacant()),
+            free: with_bit(self.free, place, matches!(fullness, Fullness::Full)),
+        }
+    }
+
+    fn met(self, other: Marks) -> Marks
+        ensures { result ≡ met self other }
+    {
+        Marks {
+            held: self.held & other.held,
+            free: self.free & other.free,
+        }
+    }
+
+    fn covers(self, other: Marks) -> bool
+        ensures { result ≡ true → Covers self other }
+    {
+        self.held & other.held == other.held && self.free & other.free == other.free
+    }
+}
+
+/// What is known of each local, by its number.
+#[derive(Drop)]
+pub(crate) struct Table {
+    /// How many locals there are, if there are marks of all of them.
+    count: usize,
+    /// The marks of the first 64 locals, of the next 64, and so on.
+    marks: Vec<Marks>,
+}
+
+impl Table {
+    /// Each of so many locals may hold nothing.
+    pub(crate) fn new(alloc: Global, count: usize) -> Result<Table, AllocError>
+        ensures { IfOk result (λ t. view_table t ≡ replicate count Vacant) }
+    {
+        let none = Marks { held: 0, free: 0 };
+        Ok(Table {
+            count,
+            marks: vec![in alloc; none; count / 64 + 1]?,
+        })
+    }
+
+    /// How many locals there are.
+    pub(crate) fn len(&self) -> usize
+        ensures { result ≡ table_length self.now }
+    {
+        if self.count / 64 < self.marks.len() {
+            self.count
+        } else {
+            self.marks.len() * 64
+        }
+    }
+
+    /// A local that is not there may hold nothing.
+    pub(crate) fn fullness(&self, number: usize) -> Fullness
+        ensures { view_fullness result ≡ get_or (view_table self.now) number Vacant }
+    {
+        if number < self.len() {
+            self.marks[number / 64].fullness(number % 64)
+        } else {
+            Fullness::Vacant
+        }
+    }
+
+    /// Of one local this is known now.
+    pub(crate) fn set(&mut self, number: usize, fullness: Fullness)
+        ensures { view_table self.new ≡ slice_set (view_table self.old) number (view_fullness fullness) }
+    {
+        let place = number / 64;
+        if place < self.marks.len() {
+            self.marks[place] = self.marks[place].with(number % 64, fullness);
+        }
+    }
+
+    /// So many of the first locals hold a value now.
+    pub(crate) fn fill(&mut self, count: usize)
+        requires { count ≤ table_length self.old }
+        ensures { view_table self.new ≡ replicate count Full ++ drop count (view_table self.old) }
+    {
+        for number in 0..count {
+            self.set(number, Fullness::Full);
+        }
+    }
+
+    pub(crate) fn copy(&self, alloc: Global) -> Result<Table, AllocError>
+        ensures { IfOk result (λ t. view_table t ≡ view_table self.now) }
+    {
+        Ok(Table {
+            count: self.count,
+            marks: Vec::from_slice(alloc, &self.marks)?,
+        })
+    }
+
+    /// Of each local what is known in both tables, as far as both go.
+    pub(crate) fn lower(mut self, other: &Table) -> Table
+        ensures { view_table result ≡ lower_each (view_table self) (view_table other.now) }
+    {
+        self.marks = meet_each(self.marks, &other.marks);
+        self.count = self.count.min(other.count);
+        self
+    }
+
+    /// Whether nothing is emptier here than there. Where a bit is missing here, each local is compared by itself, which is once at most: it is a
+    /// fault then.
+    pub(crate) fn is_as_full(&self, other: &Table) -> bool
+        ensures { result ≡ are_as_full (view_table self.now) (view_table other.now) }
+    {
+        if self.len() != other.len() {
+            return false;
+        }
+        cover_each(&self.marks, &other.marks) || self.are_as_full(other)
+    }
+
+    /// The same, local by local.
+    fn are_as_full(&self, other: &Table) -> bool
+        requires { table_length self.now ≡ table_length other.now }
+        ensures { result ≡ are_as_full (view_table self.now) (view_table other.now) }
+    {
+        for number in 0..self.len() {
+            if !self.fullness(number).is_as_full(other.fullness(number)) {
+                return false;
+            }
+        }
+        true
+    }
+}
+
+/// The bits that both have, as far as both go.
+fn meet_each(mut one: Vec<Marks>, other: &[Marks]) -> Vec<Marks>
+    ensures { result.items ≡ met_each one.items other.now }
+{
+    let count = one.len().min(other.len());
+    for i in 0..count {
+        one[i] = one[i].met(other[i]);
+    }
+    one.truncate(count);
+    one
+}
+
+/// Whether no bit is missing here that is there.
+fn cover_each(one: &[Marks], other: &[Marks]) -> bool
+    ensures { result ≡ true → (p : ℕ) → p < length one.now → p < length other.now → Covers (marks_at one.now p) (marks_at other.now p) }
+{
+    for i in 0..one.len().min(other.len()) {
+        if !one[i].covers(other[i]) {
+            return false;
+        }
+    }
+    true
+}
