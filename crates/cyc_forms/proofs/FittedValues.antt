@@ -1,6 +1,6 @@
 -- Values that fit the parameters of a signature: what one walk over both has noted and found.
 use Rattle.std.proofs.Common.{◌≡◌, ℕ, zero, suc, ◌+◌, ◌<◌, ◌≤◌, true, false, ◌&&◌, nat_eq, not, List, [], ◌∷◌, ◌++◌, length, map, drop, get_or, slice_get, slice_set, replicate, Option, Some, None, Ok, refl, sym, ap, subst, ◌∙◌}
-use Rattle.std.specs.List.{list_any, refill}
+use Rattle.std.specs.List.{list_any}
 use Rattle.std.proofs.lemmas.Bool.{and_from, eq-eqb, or_from}
 use Rattle.std.proofs.lemmas.List.{drop_all, drop_more}
 use Rattle.cyc_words.proofs.Lists.{drop_read}
@@ -13,8 +13,7 @@ use Rattle.cyc_syntax.specs.declared.tree.PointerKind.{PointerKind}
 use Rattle.cyc_types.specs.declared.region.Region.{Region}
 use Rattle.cyc_types.specs.declared.region.Region.TheVariants.{Heap, Unique, Variable}
 use Rattle.cyc_types.specs.Outlives.{RegionContext}
-use Rattle.cyc_types.specs.Closure.{is_outliving}
-use Rattle.cyc_types.specs.Types.{region_eq, substituted_region, Ty, Int, Char, Pointer, Handle, Key, Struct, Null, Value, substituted_ty}
+use Rattle.cyc_types.specs.Types.{region_eq, substituted_region, Ty, Pointer, Handle, Key, Struct, Value, substituted_ty}
 use Rattle.cyc_types.specs.declared.ty.Ty.{Ty as TyCode}
 use Rattle.cyc_types.specs.declared.typed.Converted.{Converted as ConvertedCode}
 use Rattle.cyc_types.specs.TypeView.{view_ty}
@@ -22,15 +21,14 @@ use Rattle.cyc_types.specs.TypedTrees.{Signature, type_of}
 use Rattle.cyc_types.specs.TypedTrees as typed
 use Rattle.cyc_types.specs.Rules.{Demand, AllKept, demand, noted, settled, unless, run}
 use Rattle.cyc_types.specs.typing.Scopes.{Scope}
-use Rattle.cyc_types.specs.typing.Tests.{mark_eq, regions_eq, ty_eq, is_pointer, is_non_null}
-use Rattle.cyc_types.specs.typing.Expressions.{is_convertible, conversion, passed_demanded, all_paired, paired, paired_argument, paired_arguments, is_unique_for_variable, variables_demanded, instance_of, instantiated, call_demanded}
+use Rattle.cyc_types.specs.typing.Tests.{mark_eq, regions_eq, ty_eq}
+use Rattle.cyc_types.specs.typing.Expressions.{conversion, passed_demanded, all_paired, paired, paired_argument, paired_arguments, is_unique_for_variable, variables_demanded, instance_of, instantiated, call_demanded}
 use Rattle.cyc_types.proofs.RuleLaws.{kept_settled, settled_append, from_ok, ok_is_no_err}
 use Rattle.cyc_forms.specs.inside.Forms.{value_in}
 use Rattle.cyc_forms.specs.inside.Instances.{noted_at, noted_place, noted_places, instance_in}
 use Rattle.cyc_forms.specs.inside.Calls.{regions_demanded, instance_wanted}
-use Rattle.cyc_forms.specs.inside.Fitting.{instance_later, Stands, FitsRegion, FitsRegions, FitsType, FitsOutermost, FitsValue, FitsValues, FitsCall}
-use Rattle.cyc_forms.proofs.Instances.{noted_append, instance_at, noted_whole, instance_found, paired_int, paired_char}
-use Rattle.cyc_forms.proofs.TypeTests.{pointer_at, non_null_at, int_at, char_at}
+use Rattle.cyc_forms.specs.inside.Fitting.{instance_later, AllStand, Stands, FitsRegion, FitsRegions, FitsType, FitsOutermost, FitsValue, FitsValues, FitsCall}
+use Rattle.cyc_forms.proofs.Instances.{noted_append, noted_before, instance_at, instance_found}
 
 abbrev pub Table : Type 0
 Table = List (Option Region)
@@ -92,62 +90,55 @@ first_stands table n s h other = record {
   usual = usual_variable n s other;
 }
 
-pub stands_heap : (table : Table) (s : Region) → Stands table table Heap s Heap
-stands_heap table s = record { noted = refl; found = λ later. refl; usual = refl }
-
-pub stands_unique : (table : Table) (s : Region) → Stands table table Unique s Unique
-stands_unique table s = record { noted = refl; found = λ later. refl; usual = refl }
-
-pub fits_region : {old new : Table} {r s known : Region} → Stands old new r s known → region_eq s known ≡ true → FitsRegion old new r s
-fits_region {s = s} st same = record {
-  noted = st.noted;
-  alike = λ later. ap (region_eq s) (st.found later) ∙ same;
-  usual = st.usual;
-}
+-- what fits does so where other places are noted behind it
+alike_behind : {a b c : Table} {r s : Region} (ps : Places) → FitsRegion a b r s → c ≡ noted_places b ps → (later : Places) → region_eq s (substituted_region (instance_later c later) r) ≡ true
+alike_behind {b = b} {r = r} {s = s} ps one is_c later =
+    subst (λ t. region_eq s (substituted_region (instance_in t) r) ≡ true) (noted_append b ps later ∙ ap (λ t. noted_places t later) (sym is_c)) (one.alike (ps ++ later))
 
 -- ---- the regions of structs
 
 pub fits_none : (table : Table) → FitsRegions table table [] []
-fits_none table = record { noted = refl; alike = λ later. refl; usual = refl }
+fits_none table = record { noted = refl; alike = λ later. refl; stand = tt; usual = refl }
 
 pub fits_more : {a b c : Table} {r s : Region} {rs ss : List Region} → FitsRegion a b r s → FitsRegions b c rs ss → FitsRegions a c (r ∷ rs) (s ∷ ss)
 fits_more {a} {b} {c} {r} {s} {rs} {ss} one more = record {
   noted = more.noted ∙ ap (λ t. noted_places t (all_paired rs ss)) one.noted;
   alike = λ later.
       and_from (region_eq s (substituted_region (instance_later c later) r)) (regions_eq ss (map (substituted_region (instance_later c later)) rs))
-      (subst (λ t. region_eq s (substituted_region (instance_in t) r) ≡ true) (noted_append b (all_paired rs ss) later ∙ ap (λ t. noted_places t later) (sym more.noted)) (one.alike (all_paired rs ss ++ later)))
-      (more.alike later);
+      (alike_behind (all_paired rs ss) one more.noted later) (more.alike later);
+  stand = (alike_behind (all_paired rs ss) one more.noted [], more.stand);
   usual = or_from (is_unique_for_variable (r, s)) (list_any is_unique_for_variable (all_paired rs ss)) one.usual more.usual;
 }
 
 -- ---- types
 
-pub fits_int : (table : Table) → FitsType table table Int Int
-fits_int table = record { noted = refl; alike = λ later. refl; usual = refl }
-
-pub fits_char : (table : Table) → FitsType table table Char Char
-fits_char table = record { noted = refl; alike = λ later. refl; usual = refl }
-
 pub fits_handle : {a b : Table} {r s : Region} → FitsRegion a b r s → FitsType a b (Handle r) (Handle s)
-fits_handle {r = r} {s = s} one = record { noted = one.noted; alike = one.alike; usual = or_from (is_unique_for_variable (r, s)) false one.usual refl }
+fits_handle {r = r} {s = s} one = record { noted = one.noted; alike = one.alike; stand = (one.alike [], tt); usual = or_from (is_unique_for_variable (r, s)) false one.usual refl }
 
 pub fits_key : {a b : Table} {r s : Region} → FitsRegion a b r s → FitsType a b (Key r) (Key s)
-fits_key {r = r} {s = s} one = record { noted = one.noted; alike = one.alike; usual = or_from (is_unique_for_variable (r, s)) false one.usual refl }
+fits_key {r = r} {s = s} one = record { noted = one.noted; alike = one.alike; stand = (one.alike [], tt); usual = or_from (is_unique_for_variable (r, s)) false one.usual refl }
 
 pub fits_struct : {a b : Table} {m n : ℕ} {rs ss : List Region} → nat_eq m n ≡ true → FitsRegions a b rs ss → FitsType a b (Struct n rs) (Struct m ss)
 fits_struct {a} {b} {m} {n} {rs} {ss} same all = record {
   noted = all.noted;
   alike = λ later. and_from (nat_eq m n) (regions_eq ss (map (substituted_region (instance_later b later)) rs)) same (all.alike later);
+  stand = all.stand;
   usual = all.usual;
 }
 
-pub fits_pointer : {a b c : Table} {k l : PointerKind} {t u : Ty} {r s : Region} → mark_eq l k ≡ true → FitsType a b t u → FitsRegion b c r s → FitsType a c (Pointer k t r) (Pointer l u s)
-fits_pointer {a} {b} {c} {k} {l} {t} {u} {r} {s} same target one = record {
-  noted = one.noted ∙ ap (λ table. noted_place table (r, s)) target.noted ∙ sym (noted_append a (paired t u) ((r, s) ∷ []));
+all_stand : (m : List Region) (ps qs : Places) → AllStand m ps → AllStand m qs → AllStand m (ps ++ qs)
+all_stand m [] qs h k = k
+all_stand m (p ∷ ps) qs h k = (h.0, all_stand m ps qs h.1 k)
+
+pub fits_pointer : {a b c : Table} {k l : PointerKind} {t u : Ty} {r s : Region} → mark_eq l k ≡ true → FitsRegion a b r s → FitsType b c t u → FitsType a c (Pointer k t r) (Pointer l u s)
+fits_pointer {a} {b} {c} {k} {l} {t} {u} {r} {s} same one target = record {
+  noted = target.noted ∙ ap (λ table. noted_places table (paired t u)) one.noted
+      ∙ noted_before (instance_in c) a (r, s) (paired t u) (alike_behind (paired t u) one target.noted []) target.stand ∙ sym (noted_append a (paired t u) ((r, s) ∷ []));
   alike = λ later.
       and_from (mark_eq l k) (ty_eq u (substituted_ty (instance_later c later) t) && region_eq s (substituted_region (instance_later c later) r)) same
       (and_from (ty_eq u (substituted_ty (instance_later c later) t)) (region_eq s (substituted_region (instance_later c later) r))
-      (subst (λ table. ty_eq u (substituted_ty (instance_in (noted_places table later)) t) ≡ true) (sym one.noted) (target.alike ((r, s) ∷ later))) (one.alike later));
+      (target.alike later) (alike_behind (paired t u) one target.noted later));
+  stand = all_stand (instance_in c) (paired t u) ((r, s) ∷ []) target.stand (alike_behind (paired t u) one target.noted [], tt);
   usual = any-push_turned is_unique_for_variable (paired t u) (r, s)
       ∙ or_from (is_unique_for_variable (r, s)) (list_any is_unique_for_variable (paired t u)) one.usual target.usual;
 }
@@ -155,49 +146,6 @@ fits_pointer {a} {b} {c} {k} {l} {t} {u} {r} {s} same target one = record {
 -- ---- values
 
 module _ (c : RegionContext) where
-  pub fits_null : (table : Table) (t : Ty) → is_pointer t ≡ true → is_non_null t ≡ false → FitsValue c table table t Null
-  fits_null table t h k = record {
-    noted = refl;
-    kept = λ later p. (pointer_at (instance_later table later) t ∙ h, (ap not (non_null_at (instance_later table later) t ∙ k), (refl, tt)));
-    usual = refl;
-  }
-
-  pub fits_given_int : (table : Table) (t : Ty) → is_convertible Int t ≡ true → FitsValue c table table t (Value Int)
-  fits_given_int table t h = record {
-    noted = sym (ap (noted_places table) (paired_int t));
-    kept = λ later p. (int_at (instance_later table later) t ∙ h, (refl, (refl, tt)));
-    usual = ap (list_any is_unique_for_variable) (paired_int t);
-  }
-
-  pub fits_given_char : (table : Table) (t : Ty) → is_convertible Char t ≡ true → FitsValue c table table t (Value Char)
-  fits_given_char table t h = record {
-    noted = sym (ap (noted_places table) (paired_char t));
-    kept = λ later p. (char_at (instance_later table later) t ∙ h, (refl, (refl, tt)));
-    usual = ap (list_any is_unique_for_variable) (paired_char t);
-  }
-
-  pub fits_given_handle : {a b : Table} {r s : Region} → FitsRegion a b r s → FitsValue c a b (Handle r) (Value (Handle s))
-  fits_given_handle {r = r} {s = s} one = record {
-    noted = one.noted;
-    kept = λ later p. (one.alike later, (refl, (refl, tt)));
-    usual = or_from (is_unique_for_variable (r, s)) false one.usual refl;
-  }
-
-  pub fits_given_key : {a b : Table} {r s : Region} → FitsRegion a b r s → FitsValue c a b (Key r) (Value (Key s))
-  fits_given_key {r = r} {s = s} one = record {
-    noted = one.noted;
-    kept = λ later p. (one.alike later, (refl, (refl, tt)));
-    usual = or_from (is_unique_for_variable (r, s)) false one.usual refl;
-  }
-
-  -- the region of the outermost mark outlives the one that is wanted
-  pub fits_outermost : {old new : Table} {r s known : Region} → Stands old new r s known → is_outliving c s known ≡ true → FitsOutermost c old new r s
-  fits_outermost {s = s} st longer = record {
-    noted = st.noted;
-    outlived = λ later. ap (is_outliving c s) (st.found later) ∙ longer;
-    usual = st.usual;
-  }
-
   pub fits_given_pointer : {a b d : Table} {k l : PointerKind} {t u : Ty} {r s : Region} → FitsType a b t u → FitsOutermost c b d r s → FitsValue c a d (Pointer k t r) (Value (Pointer l u s))
   fits_given_pointer {a} {b} {d} {k} {l} {t} {u} {r} {s} target st = record {
     noted = st.noted ∙ ap (λ table. noted_place table (r, s)) target.noted ∙ sym (noted_append a (paired t u) ((r, s) ∷ []));
@@ -284,12 +232,6 @@ module _ (c : RegionContext) where
       (subst (λ xs. FitsValues c table table [] (map value_in xs)) (sym (drop_all i vs le_v)) (fits_no_value c table))
 
 -- ---- calls
-
--- a list that is filled up from its table with what was noted in it is what was noted
-pub fitting_refilled : (c : RegionContext) (ts : List Ty) (as' : List typed.Expression) (old new : Table) → FitsValues c old new ts as' → FitsValues c old (refill (length old) old new) ts as'
-fitting_refilled c ts as' old new fits =
-    subst (λ t. FitsValues c old t ts as')
-    (sym (ap (refill (length old) old) fits.noted ∙ noted_whole old (paired_arguments ts as') ∙ sym fits.noted)) fits
 
 -- what the region variables are
 pub fitting_instance : (c : RegionContext) (s : Signature) (as' : List typed.Expression) (table : Table) → FitsCall c s as' table → instance_in table ≡ instance_of s as'

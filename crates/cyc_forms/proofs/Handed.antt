@@ -5,17 +5,17 @@ use Rattle.std.specs.declared.alloc.Global.{Global}
 use Rattle.cyc_words.specs.declared.fault.Fault.{Fault}
 use Rattle.cyc_words.specs.Fault.{number_of}
 use Rattle.cyc_syntax.specs.Symbols.{Place}
-use Rattle.cyc_types.specs.Types.{ValueType, Pointer}
+use Rattle.cyc_types.specs.Types.{Pointer}
 use Rattle.cyc_types.specs.TypeView.{view_ty}
-use Rattle.cyc_types.specs.TypedTrees.{VariableSide, CellSide, type_of_place}
+use Rattle.cyc_types.specs.TypedTrees.{type_of_place}
 use Rattle.cyc_types.specs.TypedTrees as typed
 use Rattle.cyc_types.specs.TypedTreeView.{view_dereference, view_initial}
 use Rattle.cyc_types.specs.Rules.{lesser, settled, unless, run}
-use Rattle.cyc_types.specs.typing.Expressions.{Reached, Placed, Made, content_demanded, loaded, reached, created, type_of_side, converted, assigned_type, assignment}
+use Rattle.cyc_types.specs.typing.Expressions.{Reached, Placed, Made, content_demanded, loaded, reached, created}
 use Rattle.cyc_forms.specs.declared.places.Reached.{Reached as ReachedCode}
 use Rattle.cyc_forms.specs.declared.objects.Placed.{Placed as PlacedCode}
 use Rattle.cyc_forms.specs.declared.objects.Made.{Made as MadeCode}
-use Rattle.cyc_forms.specs.inside.Forms.{IsReached, IsPlaced, IsMade, merged, loaded_behind, reached_behind, created_behind, stored_in}
+use Rattle.cyc_forms.specs.inside.Forms.{IsReached, IsPlaced, IsMade, merged, loaded_behind, reached_behind, created_behind}
 use Rattle.cyc_forms.proofs.Settling.{settled_behind, settled_merged}
 
 pub loaded_is : (r : Box ReachedCode Global) (w : Reached) (p : Place) → IsReached r w → loaded_behind r.value.settled.known p (view_dereference r.value.cell.value) ≡ run (loaded p w)
@@ -52,7 +52,3 @@ created_is p m w n h k =
     (typed.New w.placement n.initial (Pointer n.mark n.target w.region)) (λ e. ap (λ i. typed.New w.placement i (Pointer n.mark n.target w.region)) (k.initial e))
     ∙ ap (λ o. unless o (typed.New w.placement n.initial (Pointer n.mark n.target w.region)))
     (ap (merged p.value.settled.known) k.asked ∙ sym (settled_merged p.value.settled.known n.asked) ∙ sym (settled_behind p.value.settled.known w.asked n.asked h.asked))
-
-pub assignment_is : (s : typed.Side) (b : typed.Expression) (c : typed.Converted) (u : ValueType) → c ≡ converted b (type_of_side s) → u ≡ assigned_type (type_of_side s) → stored_in s c u ≡ assignment s b
-assignment_is (VariableSide l t) b c u h k = ap (λ d. typed.Assign l d u) h ∙ ap (typed.Assign l (converted b t)) k
-assignment_is (CellSide d) b c u h k = ap (λ e. typed.Store d e u) h ∙ ap (typed.Store d (converted b (type_of_place d))) k

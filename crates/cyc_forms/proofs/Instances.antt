@@ -9,14 +9,16 @@ use Rattle.cyc_words.proofs.Lists.{drop_read}
 use Rattle.cyc_words.proofs.Numbers.{zero_plus}
 use Rattle.cyc_types.specs.declared.region.Region.{Region}
 use Rattle.cyc_types.specs.declared.region.Region.TheVariants.{Heap, Unique, Variable}
-use Rattle.cyc_types.specs.Types.{region_eq, Ty, Int, Char, Pointer, Handle, Key, Struct}
+use Rattle.cyc_types.specs.Types.{region_eq, substituted_region, Ty, Int, Char, Pointer, Handle, Key, Struct}
 use Rattle.cyc_types.specs.declared.ty.Ty.{Ty as TyCode}
 use Rattle.cyc_types.specs.declared.typed.Converted.{Converted as ConvertedCode}
 use Rattle.cyc_types.specs.TypeView.{view_ty}
 use Rattle.cyc_types.specs.TypedTrees.{type_of}
 use Rattle.cyc_types.specs.typing.Expressions.{all_paired, paired, paired_argument, paired_arguments, first_place, first_places, is_unique_for_variable}
 use Rattle.cyc_forms.specs.inside.Forms.{value_in}
+use Rattle.cyc_types.proofs.RegionLemmas.{region_eq-true}
 use Rattle.cyc_forms.specs.inside.Instances.{instance_in, noted_at, noted_place, noted_places}
+use Rattle.cyc_forms.specs.inside.Fitting.{AllStand}
 
 pub noted_append : (table : List (Option Region)) (ps qs : List (Region × Region)) → noted_places table (ps ++ qs) ≡ noted_places (noted_places table ps) qs
 noted_append table [] qs = refl
@@ -47,11 +49,6 @@ pub instance_at : (table : List (Option Region)) (n : ℕ) (o : Option Region) (
 instance_at [] n o d h = absurd (cc)
 instance_at (x ∷ xs) zero o d h = ap (λ y. unwrap_or y Heap) (same_Some x o h)
 instance_at (x ∷ xs) (suc n) o d h = instance_at xs n o d h
-
-pub unknown_at : (table : List (Option Region)) (n : ℕ) (d : Region) → slice_get table n ≡ None → slice_index_or (instance_in table) n d ≡ d
-unknown_at [] n d h = refl
-unknown_at (x ∷ xs) zero d h = absurd (cc)
-unknown_at (x ∷ xs) (suc n) d h = unknown_at xs n d h
 
 -- so many of the variables without a place that are left are added
 pub unplaced_more : (count left next : ℕ) (old new : List (Option Region)) → next ≤ 64 → next ≤ left → left ≤ count
@@ -143,9 +140,12 @@ abbrev filled : List (Option Region) → ℕ → List (Region × Region) → Lis
 filled [] n ps = []
 filled (o ∷ os) n ps = or_found o ps n ∷ filled os (suc n) ps
 
+abbrev noted_if : Bool → Region → Option Region → Option Region
+noted_if b s (Some r) = Some r
+noted_if b s None = if b then Some s else None
+
 abbrev noted_one : Option Region → ℕ → Region × Region → Option Region
-noted_one (Some r) n p = Some r
-noted_one None n p = if region_eq p.0 (Variable n) then Some p.1 else None
+noted_one o n p = noted_if (region_eq p.0 (Variable n)) p.1 o
 
 abbrev noted_from : List (Option Region) → ℕ → Region × Region → List (Option Region)
 noted_from [] n p = []
@@ -215,6 +215,42 @@ noted_from-place : (table : List (Option Region)) (p : Region × Region) → not
 noted_from-place table (Heap, s) = sym (noted_from-not table 0 Heap s (λ k le. refl))
 noted_from-place table (Unique, s) = sym (noted_from-not table 0 Unique s (λ k le. refl))
 noted_from-place table (Variable m, s) = sym (noted_from-at table 0 m s) ∙ ap (λ k. noted_from table 0 (Variable k, s)) (zero_plus m)
+
+-- ---- places that are noted in another order
+
+noted_if-swap : (b c : Bool) (s t : Region) (o : Option Region) → (b ≡ true → c ≡ true → s ≡ t) → noted_if c t (noted_if b s o) ≡ noted_if b s (noted_if c t o)
+noted_if-swap b c s t (Some r) h = refl
+noted_if-swap true true s t None h = ap Some (h refl refl)
+noted_if-swap true false s t None h = refl
+noted_if-swap false true s t None h = refl
+noted_if-swap false false s t None h = refl
+
+noted_from-swap : (table : List (Option Region)) (n : ℕ) (p q : Region × Region) → ((k : ℕ) → region_eq p.0 (Variable k) ≡ true → region_eq q.0 (Variable k) ≡ true → p.1 ≡ q.1)
+    → noted_from (noted_from table n p) n q ≡ noted_from (noted_from table n q) n p
+noted_from-swap [] n p q h = refl
+noted_from-swap (o ∷ os) n p q h =
+    ap (λ x. x ∷ noted_from (noted_from os (suc n) p) (suc n) q) (noted_if-swap (region_eq p.0 (Variable n)) (region_eq q.0 (Variable n)) p.1 q.1 o (h n))
+    ∙ ap (λ xs. noted_one (noted_one o n q) n p ∷ xs) (noted_from-swap os (suc n) p q h)
+
+noted_place-swap : (table : List (Option Region)) (p q : Region × Region) → ((k : ℕ) → region_eq p.0 (Variable k) ≡ true → region_eq q.0 (Variable k) ≡ true → p.1 ≡ q.1)
+    → noted_place (noted_place table p) q ≡ noted_place (noted_place table q) p
+noted_place-swap table p q h =
+    noted_from-place (noted_place table p) q ∙ ap (λ t. noted_from t 0 q) (noted_from-place table p) ∙ noted_from-swap table 0 p q h
+    ∙ sym (noted_from-place (noted_place table q) p ∙ ap (λ t. noted_from t 0 p) (noted_from-place table q))
+
+-- of one variable they say the same, if each is what these regions say
+stand_alike : (m : List Region) (p q : Region × Region) (k : ℕ) → region_eq p.1 (substituted_region m p.0) ≡ true → region_eq q.1 (substituted_region m q.0) ≡ true
+    → region_eq p.0 (Variable k) ≡ true → region_eq q.0 (Variable k) ≡ true → p.1 ≡ q.1
+stand_alike m p q k h i f g =
+    region_eq-true p.1 (substituted_region m p.0) h ∙ ap (substituted_region m) (region_eq-true p.0 (Variable k) f ∙ sym (region_eq-true q.0 (Variable k) g))
+    ∙ sym (region_eq-true q.1 (substituted_region m q.0) i)
+
+-- so a place is noted before the others or behind them
+pub noted_before : (m : List Region) (table : List (Option Region)) (p : Region × Region) (ps : List (Region × Region)) → region_eq p.1 (substituted_region m p.0) ≡ true → AllStand m ps
+    → noted_places (noted_place table p) ps ≡ noted_place (noted_places table ps) p
+noted_before m table p [] h all = refl
+noted_before m table p (q ∷ ps) h all =
+    ap (λ t. noted_places t ps) (noted_place-swap table p q (λ k. stand_alike m p q k h all.0)) ∙ noted_before m (noted_place table q) p ps h all.1
 
 filled_places : (table : List (Option Region)) (ps : List (Region × Region)) → noted_places table ps ≡ filled table 0 ps
 filled_places table [] = sym (filled_none table 0)

@@ -1,8 +1,8 @@
 -- Values that are passed, in loops over expressions, values and types.
-use Rattle.std.proofs.Common.{◌≡◌, ℕ, zero, suc, nat_eq, not, ◌+◌, ◌≤◌, List, [], ◌∷◌, ◌++◌, length, map, take, drop, slice_get, option_map, Option, Some, None, Ok, refl, sym, ap, ◌∙◌, arith}
+use Rattle.std.proofs.Common.{◌≡◌, ℕ, zero, suc, not, ◌+◌, ◌≤◌, List, [], ◌∷◌, ◌++◌, length, map, take, drop, slice_get, option_map, Option, Some, None, Ok, refl, sym, ap, ◌∙◌, arith}
 use Rattle.std.specs.List.{list_any}
 use Rattle.std.proofs.lemmas.Bool.{eqb-true}
-use Rattle.std.proofs.lemmas.List.{length-map, drop_all}
+use Rattle.std.proofs.lemmas.List.{drop_all}
 use Rattle.std.proofs.lemmas.Option.{same_Some}
 use Rattle.cyc_words.specs.declared.fault.Fault.{Fault}
 use Rattle.cyc_words.specs.declared.fault.Code.TheVariants as codes
@@ -118,9 +118,6 @@ set_more (c ∷ cs) (u ∷ ts) (suc i) t h =
     behind (Some d) ds = refl
 
 -- ---- calls
-
-pub as_many_values : (cs : List ConvertedCode) (ts : List TyCode) → nat_eq (length (map value_in cs)) (length (map view_ty ts)) ≡ nat_eq (length cs) (length ts)
-as_many_values cs ts = ap (λ n. nat_eq n (length (map view_ty ts))) (length-map cs value_in) ∙ ap (nat_eq (length cs)) (length-map ts view_ty)
 
 -- what a value is converted to is the same at each call
 passed_alike : (m : List Region) (as' : List typed.Expression) (ts : List Ty) → passed as' (map (substituted_ty m) ts) ≡ passed as' ts

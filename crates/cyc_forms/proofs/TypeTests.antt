@@ -6,8 +6,7 @@ use Rattle.cyc_syntax.specs.declared.tree.PointerKind.{PointerKind}
 use Rattle.cyc_syntax.specs.declared.tree.PointerKind.TheVariants.{Nullable, NonNull, Fat}
 use Rattle.cyc_types.specs.declared.region.Region.{Region}
 use Rattle.cyc_types.specs.Types.{region_eq, Ty, Int, Char, Pointer, Handle, Key, Struct, substituted_ty}
-use Rattle.cyc_types.specs.typing.Tests.{mark_eq, regions_eq, ty_eq, is_pointer, is_non_null, kind_of}
-use Rattle.cyc_types.specs.typing.Expressions.{is_convertible}
+use Rattle.cyc_types.specs.typing.Tests.{mark_eq, regions_eq, ty_eq, kind_of}
 use Rattle.cyc_types.proofs.RegionLemmas.{region_eq-refl}
 use Rattle.cyc_types.proofs.typing.TestLemmas.{ty_eq-true}
 
@@ -35,24 +34,6 @@ same_types t u b d = same_tests b (ty_eq t u) (λ h. subst (λ z. ty_eq t z ≡ 
 -- ---- the type of a parameter at a call
 
 module _ (m : List Region) where
-  pub pointer_at : (t : Ty) → is_pointer (substituted_ty m t) ≡ is_pointer t
-  pointer_at Int = refl
-  pointer_at Char = refl
-  pointer_at (Pointer k t r) = refl
-  pointer_at (Handle r) = refl
-  pointer_at (Key r) = refl
-  pointer_at (Struct n rs) = refl
-
-  pub non_null_at : (t : Ty) → is_non_null (substituted_ty m t) ≡ is_non_null t
-  non_null_at Int = refl
-  non_null_at Char = refl
-  non_null_at (Pointer Nullable t r) = refl
-  non_null_at (Pointer NonNull t r) = refl
-  non_null_at (Pointer Fat t r) = refl
-  non_null_at (Handle r) = refl
-  non_null_at (Key r) = refl
-  non_null_at (Struct n rs) = refl
-
   pub kind_at : (t : Ty) → kind_of (substituted_ty m t) ≡ kind_of t
   kind_at Int = refl
   kind_at Char = refl
@@ -60,19 +41,3 @@ module _ (m : List Region) where
   kind_at (Handle r) = refl
   kind_at (Key r) = refl
   kind_at (Struct n rs) = refl
-
-  pub int_at : (t : Ty) → is_convertible Int (substituted_ty m t) ≡ is_convertible Int t
-  int_at Int = refl
-  int_at Char = refl
-  int_at (Pointer k t r) = refl
-  int_at (Handle r) = refl
-  int_at (Key r) = refl
-  int_at (Struct n rs) = refl
-
-  pub char_at : (t : Ty) → is_convertible Char (substituted_ty m t) ≡ is_convertible Char t
-  char_at Int = refl
-  char_at Char = refl
-  char_at (Pointer k t r) = refl
-  char_at (Handle r) = refl
-  char_at (Key r) = refl
-  char_at (Struct n rs) = refl

@@ -11,7 +11,6 @@ use smallvec::SmallVec;
 use std::alloc::{AllocError, Global};
 
 /// The region of a table that stands for this one. A variable without a place is the heap.
-#[tactic(auto, using(crate::proofs::Instances::instance_at, crate::proofs::Instances::unknown_at))]
 pub(crate) fn region_at(table: &[Option<Region>], region: Region) -> Region
     ensures { result ≡ substituted_region (instance_in table.now) region }
 {

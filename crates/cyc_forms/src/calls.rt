@@ -1,5 +1,5 @@
 //! Calls: what a call asks, where its region variables are what the arguments say, and its node.
-ghost use Rattle.std.specs.Prelude.{◌≡◌, map, option_map, Some, None, Ok, IfOk, IfSome, IsTrue};
+ghost use Rattle.std.specs.Prelude.{◌≡◌, map, option_map, None, Ok, IfOk, IfSome};
 ghost use Rattle.std.specs.List.{list_all};
 ghost use Rattle.cyc_syntax.specs.inside.TreeView.{place_of_span, view_name, expressions_of};
 ghost use Rattle.cyc_types.specs.Types as types;
@@ -33,7 +33,6 @@ use smallvec::SmallVec;
 use std::alloc::{AllocError, Global};
 
 /// Settles that constraints hold at this place, where this table has the regions of the call.
-#[tactic(auto, using(std::proofs::lemmas::List::drop_more))]
 fn demand_constraints(
     so_far: &mut Settled,
     scope: &Scope<'_>,
@@ -49,32 +48,27 @@ fn demand_constraints(
     }
 }
 
-/// Whether a region is the one that is known, if there is one.
-fn is_same(known: Option<Region>, region: Region) -> bool
-    ensures { IsTrue result → known ≡ Some region }
-{
-    match known {
-        Some(known) => known == region,
-        None => false,
-    }
-}
-
 /// Whether an effect is live, where this table has the regions of the call. Of regions that stand for the same one after another the first is
 /// looked up.
-#[tactic(auto, using(std::proofs::lemmas::List::drop_more))]
 fn is_covered(scope: &Scope<'_>, table: &[Option<Region>], effect: &[Region]) -> bool
     ensures { result ≡ list_all (λ r. is_live scope.now r) (map (substituted_region (instance_in table.now)) effect.now) }
 {
-    let mut known: Option<Region> = None;
-    for region in effect {
+    let Some((first, rest)) = effect.split_first() else {
+        return true;
+    };
+    let mut known = region_at(table, *first);
+    if !scope.is_live(known) {
+        return false;
+    }
+    for region in rest {
         let here = region_at(table, *region);
-        if is_same(known, here) {
+        if here == known {
             continue;
         }
         if !scope.is_live(here) {
             return false;
         }
-        known = Some(here);
+        known = here;
     }
     true
 }
@@ -153,7 +147,6 @@ fn call_wanted(
 }
 
 /// What the region variables of a signature are at a call whose values fit its parameters.
-#[tactic(auto, using(crate::proofs::FittedValues::fitting_refilled))]
 fn fitted(
     scope: &Scope<'_>,
     signature: &Signature,

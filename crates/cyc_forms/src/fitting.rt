@@ -18,7 +18,6 @@ use cyc_types::{Region, Ty};
 
 /// The region that one of a parameter's type is at the call: a variable is the one that is noted for it, and this one is noted where there is
 /// none yet. There is none where a variable would be the region of unique pointers.
-#[tactic(auto, using(crate::proofs::FittedValues::stands_known, crate::proofs::FittedValues::first_stands, crate::proofs::FittedValues::stands_heap, crate::proofs::FittedValues::stands_unique))]
 fn region_for(table: &mut [Option<Region>], wanted: Region, region: Region) -> Option<Region>
     ensures { IfSome result (λ known. Stands table.old table.new wanted region known) }
 {
@@ -38,7 +37,6 @@ fn region_for(table: &mut [Option<Region>], wanted: Region, region: Region) -> O
     }
 }
 
-#[tactic(auto, using(crate::proofs::FittedValues::fits_region))]
 fn fits_region(table: &mut [Option<Region>], wanted: Region, region: Region) -> bool
     ensures { IsTrue result → FitsRegion table.old table.new wanted region }
 {
@@ -74,8 +72,9 @@ fn same_mark(a: PointerKind, b: PointerKind) -> bool
     }
 }
 
-/// Whether a type is in all parts that of a parameter at the call.
-#[tactic(auto, using(crate::proofs::FittedValues::fits_int, crate::proofs::FittedValues::fits_char, crate::proofs::FittedValues::fits_pointer, crate::proofs::FittedValues::fits_handle, crate::proofs::FittedValues::fits_key, crate::proofs::FittedValues::fits_struct))]
+/// Whether a type is in all parts that of a parameter at the call. A mark's region is noted before those of what it points to, so that a pointer
+/// takes no frame of its own; in the rules' order it stands behind them, which is the same where all of them fit.
+#[tactic(auto, using(crate::proofs::FittedValues::fits_handle, crate::proofs::FittedValues::fits_key))]
 fn fits_type(table: &mut [Option<Region>], wanted: &Ty, of_type: &Ty) -> bool
     ensures { IsTrue result → FitsType table.old table.new (view_ty wanted.now) (view_ty of_type.now) }
 {
@@ -96,10 +95,10 @@ fn fits_type(table: &mut [Option<Region>], wanted: &Ty, of_type: &Ty) -> bool
             if !same_mark(*kind, *wanted_kind) {
                 return false;
             }
-            if !fits_type(table, wanted_target, target) {
+            if !fits_region(table, *wanted_region, *region) {
                 return false;
             }
-            fits_region(table, *wanted_region, *region)
+            fits_type(table, wanted_target, target)
         }
         (
             Ty::Handle {
@@ -130,7 +129,6 @@ fn fits_type(table: &mut [Option<Region>], wanted: &Ty, of_type: &Ty) -> bool
 }
 
 /// Whether the region of the outermost mark of a value outlives that of a parameter's type.
-#[tactic(auto, using(crate::proofs::FittedValues::fits_outermost))]
 fn fits_outermost(
     scope: &Scope<'_>,
     table: &mut [Option<Region>],
@@ -146,7 +144,6 @@ fn fits_outermost(
 }
 
 /// Whether a value of this type is converted to that of a parameter.
-#[tactic(auto, using(crate::proofs::FittedValues::fits_given_int, crate::proofs::FittedValues::fits_given_char, crate::proofs::FittedValues::fits_given_pointer, crate::proofs::FittedValues::fits_given_handle, crate::proofs::FittedValues::fits_given_key))]
 fn fits_value_type(
     scope: &Scope<'_>,
     table: &mut [Option<Region>],
@@ -186,7 +183,6 @@ fn fits_value_type(
     }
 }
 
-#[tactic(auto, using(crate::proofs::FittedValues::fits_given_handle))]
 fn fits_heap_handle(scope: &Scope<'_>, table: &mut [Option<Region>], wanted: &Ty) -> bool
     ensures { IsTrue result → FitsValue scope.now.regions table.old table.new (view_ty wanted.now) (types.Value (types.Handle Heap)) }
 {
@@ -197,7 +193,6 @@ fn fits_heap_handle(scope: &Scope<'_>, table: &mut [Option<Region>], wanted: &Ty
 }
 
 /// Whether a value is converted to the type of a parameter.
-#[tactic(auto, using(crate::proofs::FittedValues::fits_null, crate::proofs::FittedValues::fits_given_int, crate::proofs::FittedValues::fits_given_char))]
 fn fits_value(
     scope: &Scope<'_>,
     table: &mut [Option<Region>],

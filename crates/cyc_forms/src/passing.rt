@@ -61,7 +61,6 @@ pub(crate) fn set_all_kinds(values: &mut Vec<Converted>, types: &[Ty])
 }
 
 /// Settles that there are as many values as types, at this place.
-#[tactic(auto, using(crate::proofs::PassedValues::as_many_values))]
 pub(crate) fn demand_count(so_far: &mut Settled, span: Span, values: &[Converted], types: &[Ty])
     ensures { so_far.new.known ≡ noted so_far.old.known (demand codes.TypeMismatch (place_of_span span) (nat_eq (length (map value_in values.now)) (length (map view_ty types.now)))) }
 {

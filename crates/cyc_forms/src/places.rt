@@ -434,7 +434,6 @@ fn store(
 
 /// The assignment of a value to a place.
 #[inline(never)]
-#[tactic(auto, using(crate::proofs::Handed::assignment_is))]
 fn assignment(alloc: Global, side: Side, value: Box<typed::Expr>) -> Result<Box<typed::Expr>, Stop>
     ensures { Gives view_boxed result (Ok (assignment (view_side side) (view_boxed value))) }
 {

@@ -21,7 +21,6 @@ pub(crate) fn same_region(a: Region, b: Region) -> bool
 }
 
 /// Whether the types are equal in all parts.
-#[tactic(auto, using(crate::proofs::TypeTests::same_types))]
 pub fn same_type(a: &Ty, b: &Ty) -> bool
     ensures { result ≡ ty_eq (view_ty a.now) (view_ty b.now) }
 {

@@ -1,6 +1,6 @@
 -- What the walk over values and parameters has done where it finds nothing wrong: it noted the region at each place of a region
 -- variable, and what is asked of the values holds, whatever is noted later.
-use Rattle.std.specs.Prelude.{◌≡◌, true, false, List, ◌∷◌, map, length, replicate, Option, Some, None}
+use Rattle.std.specs.Prelude.{◌≡◌, true, false, List, [], ◌∷◌, map, length, replicate, Option, Some, None}
 use Rattle.std.specs.List.{list_any}
 use Rattle.cyc_syntax.specs.Symbols.{Place}
 use Rattle.cyc_syntax.specs.Trees.{Expressions}
@@ -20,6 +20,11 @@ use Rattle.cyc_forms.specs.inside.Instances.{noted_place, noted_places, instance
 abbrev pub instance_later : List (Option Region) → List (Region × Region) → List Region
 instance_later table later = instance_in (noted_places table later)
 
+-- of each of these places the region is that of its variable
+abbrev pub AllStand : List Region → List (Region × Region) → Type 0
+AllStand m [] = Unit {0}
+AllStand m (p ∷ ps) = (region_eq p.1 (substituted_region m p.0) ≡ true) × AllStand m ps
+
 -- A region stands at a place where a parameter's type has the first one, for which this one is known.
 pub record Stands (old new : List (Option Region)) (r s known : Region) : Type 0 where
   pub noted : new ≡ noted_place old (r, s)
@@ -35,12 +40,14 @@ pub record FitsRegion (old new : List (Option Region)) (r s : Region) : Type 0 w
 pub record FitsRegions (old new : List (Option Region)) (rs ss : List Region) : Type 0 where
   pub noted : new ≡ noted_places old (all_paired rs ss)
   pub alike : (later : List (Region × Region)) → regions_eq ss (map (substituted_region (instance_later new later)) rs) ≡ true
+  pub stand : AllStand (instance_in new) (all_paired rs ss)
   pub usual : list_any is_unique_for_variable (all_paired rs ss) ≡ false
 
 -- the second type is that of a parameter at this call
 pub record FitsType (old new : List (Option Region)) (t u : Ty) : Type 0 where
   pub noted : new ≡ noted_places old (paired t u)
   pub alike : (later : List (Region × Region)) → ty_eq u (substituted_ty (instance_later new later) t) ≡ true
+  pub stand : AllStand (instance_in new) (paired t u)
   pub usual : list_any is_unique_for_variable (paired t u) ≡ false
 
 -- the second region, of an outermost mark, outlives the first

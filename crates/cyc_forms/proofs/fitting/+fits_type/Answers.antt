@@ -6,11 +6,11 @@ use Rattle.cyc_forms.specs.inside.Fitting.{FitsRegions, FitsType}
 use Rattle.cyc_forms.proofs.FittedValues.{fits_struct, fits_pointer}
 use Rattle.cyc_forms.proofs.fitting.+fits_type.Goals as goal
 
-pub returns-else-not-fits_type : goal.returns-else-not-fits_type
-returns-else-not-fits_type t c outer =
+pub returns-else-not-fits_region : goal.returns-else-not-fits_region
+returns-else-not-fits_region t c outer =
     let old = c.args.table.now in
-    let mid = c.fits_type.new.table in
-    let new = c.fits_region.new.table in
+    let mid = c.fits_region.new.table in
+    let new = c.fits_type.new.table in
     let k = c.in-Pointer-Pointer.wanted_kind in
     let l = c.in-Pointer-Pointer.kind in
     let r = c.in-Pointer-Pointer.wanted_region in
@@ -18,12 +18,12 @@ returns-else-not-fits_type t c outer =
     let a = c.in-Pointer-Pointer.wanted_target.value in
     let b = c.in-Pointer-Pointer.target.value in
     let same : mark_eq l k ≡ true = search rules in
-    let fits_one : c.fits_type.result ≡ true = search rules in
+    let fits_one : c.fits_region.result ≡ true = search rules in
     let is_a : c.deref.result.now ≡ a = search rules in
     let is_b : c.deref-in-Pointer-Pointer.result.now ≡ b = search rules in
-    let inner : FitsType old mid (view_ty a) (view_ty b) =
-    subst (λ x. FitsType old mid (view_ty x) (view_ty b)) is_a (subst (λ y. FitsType old mid (view_ty c.deref.result.now) (view_ty y)) is_b (c.fits_type.ensures fits_one)) in
-    let whole : FitsType old new (Pointer k (view_ty a) r) (Pointer l (view_ty b) s) = fits_pointer same inner (c.fits_region.ensures outer) in
+    let inner : FitsType mid new (view_ty a) (view_ty b) =
+    subst (λ x. FitsType mid new (view_ty x) (view_ty b)) is_a (subst (λ y. FitsType mid new (view_ty c.deref.result.now) (view_ty y)) is_b (c.fits_type.ensures outer)) in
+    let whole : FitsType old new (Pointer k (view_ty a) r) (Pointer l (view_ty b) s) = fits_pointer same (c.fits_region.ensures fits_one) inner in
     subst (λ x. FitsType old new x (view_ty c.args.of_type.now)) (sym (ap view_ty c.in-Pointer-Pointer.is-0))
     (subst (λ y. FitsType old new (Pointer k (view_ty a) r) y) (sym (ap view_ty c.in-Pointer-Pointer.is-1)) whole)
 
