@@ -1,7 +1,8 @@
 -- The places that are said to be idle are.
 use Rattle.std.proofs.Common.{◌≡◌, ◌≢◌, ℕ, zero, suc, ◌+◌, ◌<◌, ◌≤◌, Bool, false, true, List, [], ◌∷◌, ◌++◌, length, Some, length-append, refl, sym, ap, subst, ◌∙◌, arith, inl, inr}
-use Rattle.std.specs.Prelude.{◌==◌, ◌&&◌, ◌||◌, not, nat_le, nat_lt, bit_and, slice_get}
-use Rattle.std.proofs.lemmas.Bool.{and_parts, and_from, or_cases, cases_eq, cases_lt, leb-true, ltb-true, lt-ltb, eqb-true, false≢true, not_from_true, not-true}
+use Rattle.std.specs.Prelude.{◌==◌, ◌&&◌, ◌||◌, not, nat_le, nat_lt, if◌then◌else◌, bit_and, slice_get, slice_set}
+use Rattle.std.proofs.lemmas.Bool.{and_parts, and_from, or_cases, cases_eq, leb-true, ltb-true, lt-ltb, eqb-true, false≢true, not_from_true, not-true}
+use Rattle.std.proofs.lemmas.List.{get_or-set_same, get_or-set_other, length-set}
 use Rattle.cyc_plain.specs.declared.instruction.Comparison.{Comparison}
 use Rattle.cyc_plain.specs.declared.instruction.Comparison.TheVariants as comparisons
 use Rattle.cyc_plain.specs.declared.instruction.Instruction.{Instruction}
@@ -154,54 +155,35 @@ more_idle program r hs count flags flag last (are, many) at idle = (each, omega 
 
 -- ---- jumps over places that are idle
 
--- the places of the first instructions, by those that are idle alone: each of these is, and of the others each leads over such
-pub record AreFirstOver (program : Program) (r : Routine) (hs : List Home) (alone : List Bool) (count : ℕ) (flags : List Bool) : Type 0 where
-  pub each : (index : ℕ) (i : Instruction) → At r index i → idle_at flags index ≡ true → IsIdle program r hs alone index i
-  pub still : (k : ℕ) → k < count → idle_at alone k ≡ true → idle_at flags k ≡ true
-  pub as_many : length flags ≡ count
+-- a place that leads over those that are idle is idle
+pub over_idle : (program : Program) (r : Routine) (hs : List Home) (flags : List Bool) (index : ℕ) (i : Instruction) → LeadsOver flags index i → IsIdle program r hs flags index i
+over_idle program r hs flags index (instructions.Jump target) leads = leads
+over_idle program r hs flags index i leads = absurd leads
 
-pub more_over : (program : Program) (r : Routine) (hs : List Home) (alone : List Bool) (count : ℕ) (flags : List Bool) (flag : Bool) (last : Instruction)
-    → AreFirstOver program r hs alone count flags → At r count last → (flag ≡ true → IsIdle program r hs alone count last) → (idle_at alone count ≡ true → flag ≡ true)
-    → AreFirstOver program r hs alone (count + 1) (flags ++ flag ∷ [])
-more_over program r hs alone count flags flag last are at idle alone_too = record {
-  each = each;
-  still = still;
-  as_many = omega (arith, are.as_many, length-append flags (flag ∷ []));
-}
-  where
-    its_own : idle_at (flags ++ flag ∷ []) count ≡ flag
-    its_own = ap (idle_at (flags ++ flag ∷ [])) (sym are.as_many) ∙ flag_last flags flag
+-- the flags with a place more, where it is one
+abbrev pub with_place : (flags : List Bool) (place : ℕ) (is_more : Bool) → List Bool
+with_place flags place is_more = if is_more then slice_set flags place true else flags
 
-    each : (index : ℕ) (i : Instruction) → At r index i → idle_at (flags ++ flag ∷ []) index ≡ true → IsIdle program r hs alone index i
-    each index i at_i is = elim (cases_eq index count) [
-      | inl same ↦
-          let its : last ≡ i = (let e : Some last ≡ Some i = sym at ∙ (ap (slice_get r.code) (sym same) ∙ at_i) in cc) in
-          subst (λ (n : ℕ). IsIdle program r hs alone n i) (sym same)
-          (subst (IsIdle program r hs alone count) its (idle (sym its_own ∙ (ap (idle_at (flags ++ flag ∷ [])) (sym same) ∙ is))))
-      | inr apart ↦ are.each index i at_i (sym (flag_before flags flag index (λ same. apart (same ∙ are.as_many))) ∙ is)
-    ]
+module _ (program : Program) (r : Routine) (hs : List Home) (flags : List Bool) (are : AreIdle program r hs flags) (place : ℕ) (inside : place < length flags) where
+  still_set : (k : ℕ) → idle_at flags k ≡ true → idle_at (slice_set flags place true) k ≡ true
+  still_set k is = elim (cases_eq k place) [
+    | inl same ↦ ap (idle_at (slice_set flags place true)) same ∙ get_or-set_same flags place true false inside
+    | inr other ↦ get_or-set_other flags place k true false other ∙ is
+  ]
 
-    still : (k : ℕ) → k < count + 1 → idle_at alone k ≡ true → idle_at (flags ++ flag ∷ []) k ≡ true
-    still k below is = elim (cases_eq k count) [
-      | inl same ↦ ap (idle_at (flags ++ flag ∷ [])) same ∙ (its_own ∙ alone_too (ap (idle_at alone) (sym same) ∙ is))
-      | inr apart ↦ idle_before flags flag k (are.still k (omega (arith, below, apart)) is)
-    ]
+  pub one_more : (is_more : Bool) (last : Instruction) → At r place last → (is_more ≡ true → IsIdle program r hs flags place last)
+      → AreIdle program r hs (with_place flags place is_more)
+  one_more false last at_last idle index i at_i is = are index i at_i is
+  one_more true last at_last idle index i at_i is = still_idle program r hs flags (slice_set flags place true) index still_set i so_far
+    where
+      so_far : IsIdle program r hs flags index i
+      so_far = elim (cases_eq index place) [
+        | inl same ↦
+            let its : last ≡ i = (let e : Some last ≡ Some i = sym at_last ∙ (ap (slice_get r.code) (sym same) ∙ at_i) in cc) in
+            subst (λ (n : ℕ). IsIdle program r hs flags n i) (sym same) (subst (IsIdle program r hs flags place) its (idle refl))
+        | inr other ↦ are index i at_i (sym (get_or-set_other flags place index true false other) ∙ is)
+      ]
 
-none_idle_behind : (flags : List Bool) (k : ℕ) → length flags ≤ k → idle_at flags k ≡ false
-none_idle_behind [] k behind = refl
-none_idle_behind (f ∷ flags) zero behind = absurd (omega (arith, behind))
-none_idle_behind (f ∷ flags) (suc k) behind = none_idle_behind flags k (omega (arith, behind))
-
-pub are_over : (program : Program) (r : Routine) (hs : List Home) (alone flags : List Bool) (count : ℕ) → length alone ≡ count → AreFirstOver program r hs alone count flags → AreIdle program r hs flags
-are_over program r hs alone flags count many are index i at is = still_idle program r hs alone flags index still i (are.each index i at is)
-  where
-    still : (k : ℕ) → idle_at alone k ≡ true → idle_at flags k ≡ true
-    still k is_k = elim (cases_lt k count) [
-      | inl below ↦ are.still k below is_k
-      | inr behind ↦ absurd (false≢true (sym (none_idle_behind alone k (omega (arith, many, behind))) ∙ is_k))
-    ]
-
--- a place that leads over those that are idle alone is idle
-pub over_idle : (program : Program) (r : Routine) (hs : List Home) (alone : List Bool) (index : ℕ) (i : Instruction) → LeadsOver alone index i → IsIdle program r hs alone index i
-over_idle program r hs alone index (instructions.Jump target) leads = leads
-over_idle program r hs alone index i leads = absurd leads
+pub length-with_place : (flags : List Bool) (place : ℕ) (is_more : Bool) → length (with_place flags place is_more) ≡ length flags
+length-with_place flags place true = length-set flags place true
+length-with_place flags place false = refl

@@ -9,7 +9,7 @@ use crate::choice::choose;
 use crate::fills::fills_of;
 use crate::home::{Home, MOST_SAVED};
 use crate::idle::idle_places;
-use crate::interference::interference_of;
+use crate::interference::Interference;
 use crate::liveness::{is_sound, liveness_of};
 use crate::numbering::masks_of;
 use crate::sharing::{are_right, groups_of, holders_of};
@@ -73,10 +73,11 @@ pub fn allocate(
     let masks = masks_of(alloc, &costs)?;
     let uses = all_uses(alloc, plain, function, &masks)?;
     let lives = liveness_of(alloc, function, &uses, &costs.backward)?;
-    if !is_sound(plain, function, &masks, &uses, &lives) {
+    let mut interference = Interference::of_parameters(function, &masks);
+    if !is_sound(plain, function, &masks, &uses, &lives, &mut interference) {
         return memory_alone(alloc, plain, function);
     }
-    let interference = interference_of(function, &masks, &uses, &lives);
+    interference.complete();
     let chosen = choose(alloc, function, &costs, &masks, &lives, &interference, most)?;
     let homes = &chosen.homes;
     let holders = holders_of(&masks, homes);

@@ -362,45 +362,9 @@ fn next_of(candidates: &[Candidate]) -> usize {
     next
 }
 
-/// The slots of a function that may have a register.
-fn candidates_of(
-    alloc: Global,
-    function: &Function,
-    costs: &SpillCosts,
-    masks: &[u64],
-    lives: &Lives,
-    interference: &Interference,
-) -> Result<Vec<Candidate>, AllocError> {
-    let mut candidates = Vec::with_capacity(alloc, SLOTS.min(masks.len()))?;
-    for slot in 0..masks.len() {
-        if may_have(function, masks, lives, slot) {
-            let mask = mask_at(masks, slot);
-            candidates.push(Candidate::of(
-                costs,
-                lives,
-                interference,
-                slot,
-                function.parameters,
-                mask,
-            ))?;
-        }
-    }
-    Ok(candidates)
-}
-
-fn wide_in(candidates: &[Candidate]) -> usize {
-    let mut wide: usize = 0;
-    for candidate in candidates {
-        if candidate.is_wide {
-            wide = wide.saturating_add(1);
-        }
-    }
-    wide
-}
-
 impl Registers {
     /// All registers, which no slot has so far.
-    fn new(most: usize, wide: usize) -> Registers {
+    fn new(most: usize) -> Registers {
         Registers {
             slots: [0; REGISTERS],
             given: [NO_REGISTER; SLOTS],
@@ -410,27 +374,58 @@ impl Registers {
             saved: 0,
             most,
             both: 0,
-            wide,
+            wide: 0,
         }
     }
 
     /// Slots that are handed over at one place among arguments, or parameters, want one register.
-    fn want(&mut self, costs: &SpillCosts, masks: &[u64]) {
-        for slot in 0..masks.len() {
-            let mask = mask_at(masks, slot);
-            match costs.place_at(slot) {
-                Some(place) if place < MOST_LOST => {
-                    let register = FIRST_REGISTER + place as u8;
-                    if let Some(wanted) = self.wanted.get_mut(mask.trailing_zeros() as usize) {
-                        *wanted = register;
-                    }
-                    if let Some(handed) = self.handed.get_mut(register as usize) {
-                        *handed = *handed | mask;
-                    }
+    fn want(&mut self, mask: u64, place: Option<usize>) {
+        match place {
+            Some(place) if place < MOST_LOST => {
+                let register = FIRST_REGISTER + place as u8;
+                if let Some(wanted) = self.wanted.get_mut(mask.trailing_zeros() as usize) {
+                    *wanted = register;
                 }
-                _ => {}
+                if let Some(handed) = self.handed.get_mut(register as usize) {
+                    *handed = *handed | mask;
+                }
+            }
+            _ => {}
+        }
+    }
+
+    /// The slots of a function that may have a register. What each chosen one wants is noted.
+    fn candidates(
+        &mut self,
+        alloc: Global,
+        function: &Function,
+        costs: &SpillCosts,
+        masks: &[u64],
+        lives: &Lives,
+        interference: &Interference,
+    ) -> Result<Vec<Candidate>, AllocError> {
+        let mut candidates = Vec::with_capacity(alloc, SLOTS.min(masks.len()))?;
+        for slot in 0..masks.len() {
+            let mask = masks[slot];
+            if mask != 0 {
+                self.want(mask, costs.place_at(slot));
+                if may_have(function, masks, lives, slot) {
+                    let candidate = Candidate::of(
+                        costs,
+                        lives,
+                        interference,
+                        slot,
+                        function.parameters,
+                        mask,
+                    );
+                    if candidate.is_wide {
+                        self.wide = self.wide.saturating_add(1);
+                    }
+                    candidates.push(candidate)?;
+                }
             }
         }
+        Ok(candidates)
     }
 }
 
@@ -446,9 +441,8 @@ pub(crate) fn choose(
 ) -> Result<Chosen, AllocError>
     ensures { IfOk result (λ chosen. chosen.saved ≤ most) }
 {
-    let mut candidates = candidates_of(alloc, function, costs, masks, lives, interference)?;
-    let mut registers = Registers::new(most, wide_in(&candidates));
-    registers.want(costs, masks);
+    let mut registers = Registers::new(most);
+    let mut candidates = registers.candidates(alloc, function, costs, masks, lives, interference)?;
     let mut homes = vec![in alloc; Home::Memory; function.slots]?;
     for _ in 0..MOST_CHOSEN * MOST_LOOKS {
         let next = next_of(&candidates);

@@ -1,5 +1,5 @@
 //! Places where nothing is to be done.
-ghost use Rattle.std.specs.Prelude.{◌≡◌, ◌+◌, ◌<◌, ◌⊎◌, true, length, not, IfOk};
+ghost use Rattle.std.specs.Prelude.{◌≡◌, ◌+◌, ◌<◌, true, length, not, if◌then◌else◌, slice_set, IfOk};
 ghost use Rattle.cyc_plain.specs.inside.Program.{routine_of};
 ghost use Rattle.cyc_plain.specs.inside.Uses.{is_slot};
 ghost use Rattle.cyc_registers.specs.inside.Interference as right;
@@ -195,14 +195,6 @@ fn leads_over(idle: &[bool], instruction: Instruction, index: usize) -> bool
     }
 }
 
-/// Whether a place is idle by those that are so but for jumps over others.
-fn is_idle_or_over(alone: &[bool], instruction: Instruction, index: usize) -> bool
-    ensures either { result ≡ true → (rules.idle_at alone.now index ≡ true) ⊎ rules.LeadsOver alone.now index instruction }
-    ensures alone { rules.idle_at alone.now index ≡ true → result ≡ true }
-{
-    idle_at(alone, index) || leads_over(alone, instruction, index)
-}
-
 /// Which places of a function's code are idle, but for jumps over others.
 fn idle_alone(
     alloc: Global,
@@ -225,7 +217,18 @@ fn idle_alone(
     Ok(idle)
 }
 
-/// Which places of a function's code are idle.
+/// Says that a place is idle, where it is one more.
+fn say(idle: &mut Vec<bool>, index: usize, is_more: bool)
+    requires { index < length idle.old.items }
+    ensures { idle.new.items ≡ (if is_more then slice_set idle.old.items index true else idle.old.items) }
+{
+    if is_more {
+        idle[index] = true;
+    }
+}
+
+/// Which places of a function's code are idle. A jump leads over those behind it, of which no jump over others is known to be idle so
+/// far.
 pub(crate) fn idle_places(
     alloc: Global,
     plain: &Plain,
@@ -239,10 +242,10 @@ pub(crate) fn idle_places(
     requires table { length lives.now.live.items ≡ length function.now.code.items }
     ensures { IfOk result (λ idle. AreIdle plain.now (routine_of function.now) homes.now idle.items) }
 {
-    let alone = idle_alone(alloc, plain, function, masks, lives, homes)?;
-    let mut idle = Vec::with_capacity(alloc, function.code.len())?;
+    let mut idle = idle_alone(alloc, plain, function, masks, lives, homes)?;
     for index in 0..function.code.len() {
-        idle.push(is_idle_or_over(&alone, function.code[index], index))?;
+        let is_more = leads_over(&idle, function.code[index], index);
+        say(&mut idle, index, is_more);
     }
     Ok(idle)
 }

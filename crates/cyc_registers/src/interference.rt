@@ -1,7 +1,5 @@
 //! Which of the chosen slots are live at once, and which are moved to each other. Nothing is promised of it: homes are checked.
-ghost use Rattle.std.specs.Prelude.{◌≡◌, ◌<◌, length};
-
-use crate::liveness::{Lives, MOST_CHOSEN, behind_mask};
+use crate::liveness::MOST_CHOSEN;
 use crate::masks::{mask_at, range_mask};
 use crate::spill_costs::goes_on;
 use crate::uses::Uses;
@@ -17,6 +15,10 @@ pub(crate) struct Interference {
     meets: [u64; ROWS],
     /// Those with which it had better share a register, so that nothing is to be done for the move.
     moves: [u64; ROWS],
+    /// Those that may have a row that is not empty.
+    met: u64,
+    /// Whether the code goes on behind the instruction that was looked at last.
+    goes: bool,
 }
 
 /// Adds these slots to the rows of those.
@@ -44,6 +46,19 @@ fn mirror(rows: &mut [u64; ROWS], count: usize) {
 }
 
 impl Interference {
+    /// That of a function of which nothing has been looked at. Parameters meet each other.
+    pub(crate) fn of_parameters(function: &Function, masks: &[u64]) -> Interference {
+        let parameters = range_mask(masks, 0, function.parameters);
+        let mut interference = Interference {
+            meets: [0; ROWS],
+            moves: [0; ROWS],
+            met: parameters,
+            goes: false,
+        };
+        add(&mut interference.meets, parameters, parameters);
+        interference
+    }
+
     /// Those that the slot of this mask meets.
     pub(crate) fn meets(&self, mask: u64) -> u64 {
         mask_at(&self.meets, mask.trailing_zeros() as usize)
@@ -54,15 +69,20 @@ impl Interference {
         mask_at(&self.moves, mask.trailing_zeros() as usize)
     }
 
-    /// What an instruction writes meets what is live behind it, and what is moved beside other words meets all of those.
-    fn look_at(&mut self, uses: Uses, instruction: Instruction, index: usize, live: &[u64])
-        requires { index < length live.now }
-    {
+    /// Looks at the next instruction, where and behind which these slots are live. What is live where the code begins, or where the
+    /// instruction before does not go on, meets. So does what is written and what is live behind it, and what is moved beside other
+    /// words meets all of those.
+    pub(crate) fn look_at(&mut self, uses: Uses, instruction: Instruction, live: u64, behind: u64) {
+        if !self.goes {
+            add(&mut self.meets, live, live);
+            self.met = self.met | live;
+        }
+        self.goes = goes_on(instruction);
         let written = uses.writes;
         if written == 0 {
             return;
         }
-        let behind = behind_mask(instruction, index, live);
+        self.met = self.met | written;
         add(&mut self.meets, written, behind | written);
         match instruction {
             Instruction::Move { .. } => add(&mut self.moves, written, uses.reads),
@@ -70,40 +90,11 @@ impl Interference {
             _ => {}
         }
     }
-}
 
-/// Which of the chosen slots of a function meet. Parameters meet each other; so does what is live where the code begins, or where the
-/// instruction before does not go on.
-pub(crate) fn interference_of(
-    function: &Function,
-    masks: &[u64],
-    uses: &[Uses],
-    lives: &Lives,
-) -> Interference
-    requires table { length lives.now.live.items ≡ length function.now.code.items }
-    requires all { length uses.now ≡ length function.now.code.items }
-{
-    let mut interference = Interference {
-        meets: [0; ROWS],
-        moves: [0; ROWS],
-    };
-    let parameters = range_mask(masks, 0, function.parameters);
-    add(&mut interference.meets, parameters, parameters);
-    let mut met = parameters;
-    let mut goes = false;
-    for index in 0..function.code.len() {
-        let instruction = function.code[index];
-        if !goes {
-            let live = mask_at(&lives.live, index);
-            add(&mut interference.meets, live, live);
-            met = met | live;
-        }
-        met = met | uses[index].writes;
-        goes = goes_on(instruction);
-        interference.look_at(uses[index], instruction, index, &lives.live);
+    /// Makes rows complete when all instructions have been looked at.
+    pub(crate) fn complete(&mut self) {
+        let count = ROWS.saturating_sub(self.met.leading_zeros() as usize);
+        mirror(&mut self.meets, count);
+        mirror(&mut self.moves, count);
     }
-    let count = ROWS.saturating_sub(met.leading_zeros() as usize);
-    mirror(&mut interference.meets, count);
-    mirror(&mut interference.moves, count);
-    interference
 }

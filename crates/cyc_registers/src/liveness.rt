@@ -1,9 +1,10 @@
 //! Liveness of the chosen slots: a table of where each may be live, made by rounds backward over the code, and its check.
-ghost use Rattle.std.specs.Prelude.{◌≡◌, ◌<◌, ◌≤◌, length, true, IfOk};
+ghost use Rattle.std.specs.Prelude.{◌≡◌, ◌<◌, ◌≤◌, length, true, bit_and, bit_or, IfOk};
 ghost use Rattle.cyc_plain.specs.inside.Program.{routine_of};
 ghost use Rattle.cyc_registers.specs.inside.LivenessTable as checks;
 ghost use Rattle.cyc_registers.specs.inside.Masks.{AreUses};
 
+use crate::interference::Interference;
 use crate::masks::mask_at;
 use crate::uses::Uses;
 use cyc_plain::{Function, Instruction, Plain};
@@ -43,11 +44,10 @@ fn unwritten_mask(uses: Uses) -> u64
 }
 
 /// What is to be in the table at an instruction: what it reads, and what is live behind it and not written by it.
-fn needed_mask(uses: Uses, instruction: Instruction, index: usize, live: &[u64]) -> u64
-    requires { index < length live.now }
-    ensures { result ≡ checks.needed_mask uses instruction index live.now }
+fn needed_mask(uses: Uses, behind: u64) -> u64
+    ensures { result ≡ bit_or uses.reads (bit_and behind (checks.unwritten_mask uses)) }
 {
-    uses.reads | behind_mask(instruction, index, live) & unwritten_mask(uses)
+    uses.reads | behind & unwritten_mask(uses)
 }
 
 /// What is to be there again behind a call: what is live there, and the call does not return it.
@@ -91,27 +91,33 @@ pub(crate) struct Lives {
 }
 
 #[tactic(auto, unfolding(crate::specs::inside::LivenessTable::is_sound_at))]
-fn is_sound_at(uses: Uses, instruction: Instruction, index: usize, lives: &Lives) -> bool
-    requires { index < length lives.now.live.items }
+fn is_sound_at(
+    uses: Uses,
+    instruction: Instruction,
+    index: usize,
+    behind: u64,
+    lives: &Lives,
+) -> bool
+    requires table { index < length lives.now.live.items }
+    requires behind { behind ≡ checks.behind_mask instruction index lives.now.live.items }
     ensures { result ≡ checks.is_sound_at uses instruction index lives.now.live.items lives.now.calls lives.now.clauses lives.now.barred }
 {
     let live = &lives.live;
-    is_within(
-        needed_mask(uses, instruction, index, live),
-        mask_at(live, index),
-    ) && (is_within(call_mask(uses, instruction, index, live), lives.calls)
-        && (is_within(clause_mask(instruction, live), lives.clauses)
-            && is_within(uses.bars, lives.barred)))
+    is_within(needed_mask(uses, behind), mask_at(live, index))
+        && (is_within(call_mask(uses, instruction, index, live), lives.calls)
+            && (is_within(clause_mask(instruction, live), lives.clauses)
+                && is_within(uses.bars, lives.barred)))
 }
 
 /// Whether the table misses no place where a chosen slot is live, and none that is live behind a call or in
-/// a clause, or is barred.
+/// a clause, or is barred. By the table the same round over the code notes which slots meet.
 pub(crate) fn is_sound(
     plain: &Plain,
     function: &Function,
     masks: &[u64],
     uses: &[Uses],
     lives: &Lives,
+    interference: &mut Interference,
 ) -> bool
     requires table { length lives.now.live.items ≡ length function.now.code.items }
     requires uses { AreUses plain.now (routine_of function.now) masks.now uses.now }
@@ -119,31 +125,58 @@ pub(crate) fn is_sound(
     ensures { result ≡ true → checks.IsSound plain.now (routine_of function.now) masks.now lives.now.live.items lives.now.calls lives.now.clauses lives.now.barred }
 {
     for index in 0..function.code.len() {
-        if !is_sound_at(uses[index], function.code[index], index, lives) {
+        let instruction = function.code[index];
+        let behind = behind_mask(instruction, index, &lives.live);
+        if !is_sound_at(uses[index], instruction, index, behind, lives) {
             return false;
         }
+        interference.look_at(
+            uses[index],
+            instruction,
+            mask_at(&lives.live, index),
+            behind,
+        );
     }
     true
 }
 
-/// One round, backward, over the instructions before this place.
+/// One round, backward, over the instructions before this place. Nothing is promised of it: the table is checked.
 fn sweep(function: &Function, uses: &[Uses], end: usize, lives: &mut Lives)
     requires table { length lives.old.live.items ≡ length function.now.code.items }
     requires all { length uses.now ≡ length function.now.code.items }
     requires end { end ≤ length function.now.code.items }
     ensures { length lives.new.live.items ≡ length function.now.code.items }
 {
+    let mut next = mask_at(&lives.live, end);
+    let mut calls = lives.calls;
+    let mut clauses = lives.clauses;
+    let mut barred = lives.barred;
     for index in (0..end).rev() {
-        let instruction = function.code[index];
-        let live = &lives.live;
-        let needed = needed_mask(uses[index], instruction, index, live);
-        let calls = call_mask(uses[index], instruction, index, live);
-        let clauses = clause_mask(instruction, live);
-        lives.live[index] = needed;
-        lives.calls = lives.calls | calls;
-        lives.clauses = lives.clauses | clauses;
-        lives.barred = lives.barred | uses[index].bars;
+        let used = uses[index];
+        let behind = match function.code[index] {
+            Instruction::Jump { target } => mask_at(&lives.live, target),
+            Instruction::Branch { target, .. } => next | mask_at(&lives.live, target),
+            Instruction::Call { .. } => {
+                calls = calls | next & unwritten_mask(used);
+                next
+            }
+            Instruction::Try { handler, .. } => {
+                clauses = clauses | mask_at(&lives.live, handler);
+                next | mask_at(&lives.live, handler)
+            }
+            Instruction::Return { .. }
+            | Instruction::Throw { .. }
+            | Instruction::Finish { .. }
+            | Instruction::Uncaught { .. } => 0,
+            _ => next,
+        };
+        next = needed_mask(used, behind);
+        barred = barred | used.bars;
+        lives.live[index] = next;
     }
+    lives.calls = calls;
+    lives.clauses = clauses;
+    lives.barred = barred;
 }
 
 /// Whether the table has what is live where the code jumps backward.

@@ -36,6 +36,7 @@ struct Place {
     end: usize,
     /// How many loops end before it.
     closing: u64,
+    /// Whether a jump further in front, to which a way leads, leads there.
     is_reached: bool,
 }
 
@@ -71,44 +72,9 @@ fn weight_in(depth: u64) -> u64 {
     }
 }
 
-fn destination_of(instruction: Instruction) -> Option<usize> {
-    match instruction {
-        Instruction::Move { destination, .. } => Some(destination),
-        Instruction::Unary { destination, .. } => Some(destination),
-        Instruction::Binary { destination, .. } => Some(destination),
-        Instruction::ReadByte { destination } => Some(destination),
-        Instruction::AddressOf { destination, .. } => Some(destination),
-        Instruction::LoadGlobal { destination, .. } => Some(destination),
-        Instruction::Load { destination, .. } => Some(destination),
-        Instruction::LoadByte { destination, .. } => Some(destination),
-        Instruction::CountLexical { destination } => Some(destination),
-        _ => None,
-    }
-}
-
 fn mark(places: &mut Vec<Place>, index: usize) {
     if let Some(place) = places.get_mut(index) {
         place.is_reached = true;
-    }
-}
-
-/// Marks the places to which an instruction leads.
-fn mark_behind(places: &mut Vec<Place>, instruction: Instruction, index: usize) {
-    match instruction {
-        Instruction::Jump { target } => mark(places, target),
-        Instruction::Branch { target, .. } => {
-            mark(places, index.saturating_add(1));
-            mark(places, target);
-        }
-        Instruction::Try { handler, .. } => {
-            mark(places, index.saturating_add(1));
-            mark(places, handler);
-        }
-        _ => {
-            if goes_on(instruction) {
-                mark(places, index.saturating_add(1));
-            }
-        }
     }
 }
 
@@ -146,43 +112,16 @@ impl SpillCosts {
         }
     }
 
-    /// What an instruction reads that it may have from registers.
-    fn read_all(&mut self, instruction: Instruction, weight: u64) {
-        match instruction {
-            Instruction::Move { source, .. }
-            | Instruction::WriteByte { source }
-            | Instruction::StoreGlobal { source, .. } => self.read_operand(source, weight),
-            Instruction::Unary { operand, .. } => self.read_operand(operand, weight),
-            Instruction::Binary { left, right, .. } | Instruction::Branch { left, right, .. } => {
-                self.read_operands(left, right, weight)
-            }
-            Instruction::Load { address, .. } | Instruction::LoadByte { address, .. } => {
-                self.read_operand(address, weight)
-            }
-            Instruction::Store {
-                address,
-                source,
-                ..
-            }
-            | Instruction::StoreByte {
-                address,
-                source,
-                ..
-            } => self.read_operands(address, source, weight),
-            Instruction::Ask { request } => self.read_request(request, weight),
-            Instruction::Throw { tag, value } => self.read_operands(tag, value, weight),
-            Instruction::Return { value } | Instruction::Finish { value } => {
-                self.read(value, weight)
-            }
-            Instruction::Uncaught { value, .. } => self.read_operand(value, weight),
-            _ => {}
-        }
-    }
-
     fn write(&mut self, slot: usize, weight: u64) {
         if let Some(gain) = self.slots.get_mut(slot) {
             gain.writes = gain.writes.saturating_add(weight);
         }
+    }
+
+    /// A slot that gets a word so often, which is made of an operand.
+    fn change(&mut self, slot: usize, operand: Operand, weight: u64) {
+        self.read_operand(operand, weight);
+        self.write(slot, weight);
     }
 
     /// A slot that is handed over so often as the argument, or the parameter, of this place.
@@ -203,23 +142,71 @@ impl SpillCosts {
         }
     }
 
-    /// An instruction that is executed so often.
-    fn add(&mut self, instruction: Instruction, weight: u64) {
-        self.read_all(instruction, weight);
-        if let Some(slot) = destination_of(instruction) {
-            self.write(slot, weight);
+    fn move_words(&mut self, destination: usize, source: usize, count: usize, weight: u64) {
+        for word in 0..count {
+            self.read(source.saturating_add(word), weight);
+            self.write(destination.saturating_add(word), weight);
         }
+    }
+
+    /// An instruction that is executed so often: what it reads that it may have from registers, what it writes, and to where it
+    /// jumps. Answers whether the code may go on behind it.
+    fn look_at(&mut self, places: &mut Vec<Place>, instruction: Instruction, weight: u64) -> bool {
         match instruction {
-            Instruction::MoveWords {
+            Instruction::Move {
                 destination,
                 source,
-                count,
+            } => self.change(destination, source, weight),
+            Instruction::Unary {
+                destination,
+                operand,
+                ..
+            } => self.change(destination, operand, weight),
+            Instruction::Binary {
+                destination,
+                left,
+                right,
+                ..
             } => {
-                for word in 0..count {
-                    self.read(source.saturating_add(word), weight);
-                    self.write(destination.saturating_add(word), weight);
-                }
+                self.read_operand(left, weight);
+                self.change(destination, right, weight)
             }
+            Instruction::Branch {
+                left,
+                right,
+                target,
+                ..
+            } => {
+                mark(places, target);
+                self.read_operands(left, right, weight)
+            }
+            Instruction::Jump { target } => {
+                mark(places, target);
+                return false;
+            }
+            Instruction::Load {
+                destination,
+                address,
+                ..
+            } => self.change(destination, address, weight),
+            Instruction::Store {
+                address,
+                source,
+                ..
+            } => self.read_operands(address, source, weight),
+            _ => return self.look_at_other(places, instruction, weight),
+        }
+        true
+    }
+
+    /// The same of those that are seldom.
+    fn look_at_other(
+        &mut self,
+        places: &mut Vec<Place>,
+        instruction: Instruction,
+        weight: u64,
+    ) -> bool {
+        match instruction {
             Instruction::Call {
                 arguments,
                 count,
@@ -228,8 +215,46 @@ impl SpillCosts {
                 self.calls = self.calls.saturating_add(weight);
                 self.hand_over_all(arguments, count, weight);
             }
-            _ => {}
+            Instruction::MoveWords {
+                destination,
+                source,
+                count,
+            } => self.move_words(destination, source, count, weight),
+            Instruction::LoadByte {
+                destination,
+                address,
+                ..
+            } => self.change(destination, address, weight),
+            Instruction::StoreByte {
+                address,
+                source,
+                ..
+            } => self.read_operands(address, source, weight),
+            Instruction::Try { handler, .. } => mark(places, handler),
+            Instruction::WriteByte { source } | Instruction::StoreGlobal { source, .. } => {
+                self.read_operand(source, weight)
+            }
+            Instruction::ReadByte { destination }
+            | Instruction::AddressOf { destination, .. }
+            | Instruction::LoadGlobal { destination, .. }
+            | Instruction::CountLexical { destination } => self.write(destination, weight),
+            Instruction::Ask { request } => self.read_request(request, weight),
+            _ => return self.look_at_last(instruction, weight),
         }
+        true
+    }
+
+    /// The same of those behind which the code does not go on, but for jumps, and of those of which nothing is known.
+    fn look_at_last(&mut self, instruction: Instruction, weight: u64) -> bool {
+        match instruction {
+            Instruction::Throw { tag, value } => self.read_operands(tag, value, weight),
+            Instruction::Return { value } | Instruction::Finish { value } => {
+                self.read(value, weight)
+            }
+            Instruction::Uncaught { value, .. } => self.read_operand(value, weight),
+            _ => return true,
+        }
+        false
     }
 
     /// The places of a function's code, with where its loops begin and end.
@@ -256,21 +281,26 @@ impl SpillCosts {
     /// What each slot costs: a place counts ten times for each loop round it, and nothing where no way leads. To where the
     /// code jumps backward, a way is taken for granted.
     fn weigh(&mut self, code: &[Instruction], places: &mut Vec<Place>) {
-        mark(places, 0);
         let mut depth: u64 = 0;
+        let mut weight = weight_in(depth);
+        // whether the code may come there from the place before
+        let mut goes = true;
         for index in 0..code.len() {
             let place = match places.get(index) {
                 Some(place) => *place,
                 None => return,
             };
-            depth = depth.saturating_sub(place.closing);
-            if place.end > 0 {
-                depth = depth.saturating_add(1);
-                close(places, place.end);
+            if place.closing > 0 || place.end > 0 {
+                depth = depth.saturating_sub(place.closing);
+                if place.end > 0 {
+                    depth = depth.saturating_add(1);
+                    close(places, place.end);
+                    goes = true;
+                }
+                weight = weight_in(depth);
             }
-            if place.is_reached || place.end > 0 {
-                mark_behind(places, code[index], index);
-                self.add(code[index], weight_in(depth));
+            if goes || place.is_reached {
+                goes = self.look_at(places, code[index], weight);
             }
         }
     }

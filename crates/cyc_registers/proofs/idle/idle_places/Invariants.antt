@@ -1,7 +1,9 @@
+use Rattle.std.proofs.Common.{◌≡◌, length}
 use Rattle.cyc_plain.specs.inside.Program.{routine_of}
-use Rattle.cyc_registers.proofs.IdleCode.{AreFirstOver}
+use Rattle.cyc_registers.specs.inside.Idle.{AreIdle}
 use Rattle.cyc_registers.proofs.idle.idle_places.Given as goal
 
--- the places of the instructions so far
+-- each place has what is said of it
 abbrev pub invariant-loop-index : goal.invariant-loop-index
-invariant-loop-index l = AreFirstOver l.plain (routine_of l.function) l.homes l.alone.items l.index l.idle.items
+invariant-loop-index l =
+    AreIdle l.plain (routine_of l.function) l.homes l.idle.items × (length l.idle.items ≡ length l.function.code.items)
