@@ -7,7 +7,11 @@ const DEEPEST: u32 = 12;
 
 /// The value of an expression of constants. What a run works out with signs, as a quotient of a negative number, is not worked out here.
 pub(crate) fn constant_of(expression: &Expr) -> Option<u32> {
-    constant_within(expression, DEEPEST)
+    match expression {
+        Expr::Number { value, .. } => Some(*value),
+        Expr::Variable { .. } | Expr::Call { .. } | Expr::Assign { .. } => None,
+        _ => constant_within(expression, DEEPEST),
+    }
 }
 
 /// The same of one in which no more than so many expressions stand in each other.

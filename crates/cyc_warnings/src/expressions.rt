@@ -1,6 +1,6 @@
 //! What expressions are warned of, and their parts.
 use crate::constants::{constant_of, is_more_than, is_past_width};
-use crate::finder::{Finder, Part};
+use crate::finder::Finder;
 use crate::locals::{Local, Use};
 use crate::places::{is_next, leading_minus, minus_of, span_of};
 use crate::shapes::{CHAR, INT, Shape};
@@ -145,6 +145,19 @@ fn use_by(operator: BinaryOperator) -> Use {
     }
 }
 
+/// What becomes of the first operand of operators of one level.
+fn use_in(operations: &[Operation]) -> Use {
+    match operations.first() {
+        Some(operation) => use_by(operation.operator),
+        None => Use::Value,
+    }
+}
+
+/// What becomes of the place that is assigned, where this becomes of the value of the assignment.
+fn use_of_target(use_of: Use) -> Use {
+    Use::Assigned(!matches!(use_of, Use::Dropped))
+}
+
 /// What becomes of the operand of an operator.
 fn use_of_prefix(operator: PrefixOperator) -> Use {
     match operator {
@@ -195,16 +208,18 @@ fn is_sum(operator: BinaryOperator) -> bool {
     matches!(operator, BinaryOperator::Add | BinaryOperator::Subtract)
 }
 
-impl<'t> Finder<'t> {
+impl Finder {
     // ---- types
 
     /// The type of an expression, if it is told by names.
     fn shape_of(&self, expression: &Expr) -> Option<Shape> {
         match expression {
-            Expr::Variable { name } => match self.local_of(*name) {
-                Some(local) => Some(local.shape),
-                None => self.known.global(name.name.number),
-            },
+            Expr::Variable { name } => {
+                match self.locals.all.get(self.known.local(name.name.number)) {
+                    Some(local) => Some(local.shape),
+                    None => self.known.global(name.name.number),
+                }
+            }
             Expr::Call { function, .. } => self.known.result(function.name.number),
             Expr::Bracketed { inner, .. } => self.shape_of(inner),
             Expr::Assign { target, .. } => self.shape_of(target),
@@ -263,46 +278,129 @@ impl<'t> Finder<'t> {
 
     // ---- parts
 
-    pub(crate) fn look_at(&mut self, expression: &'t Expr, use_of: Use) {
+    /// Notes what becomes of an expression that has no parts. Answers whether it has none, so that most expressions take no call.
+    fn is_noted(&mut self, expression: &Expr, use_of: Use) -> bool {
+        match expression {
+            Expr::Variable { name } => {
+                self.note(*name, use_of);
+                true
+            }
+            Expr::Number { .. } | Expr::Character { .. } | Expr::Null { .. } => true,
+            _ => false,
+        }
+    }
+
+    /// Looks at an expression and its parts.
+    #[cycle(expressions)]
+    pub(crate) fn look_at(&mut self, expression: &Expr, use_of: Use) {
         match expression {
             Expr::Variable { name } => self.note(*name, use_of),
-            Expr::Bracketed { inner, .. } => self.add_expression(inner, use_of),
-            Expr::NumberOfElements { pointer, .. } => self.add_expression(pointer, Use::Looked),
-            Expr::LowByteOf { value, .. } => self.add_expression(value, Use::Value),
-            Expr::Chained { base, postfixes } => self.look_at_chain(base, postfixes),
-            Expr::Prefixed {
-                span,
-                operator,
-                operand,
-            } => self.look_at_prefixed(*span, *operator, operand),
-            Expr::Binary { first, rest } => self.look_at_binary(first, rest),
             Expr::Number { .. }
             | Expr::Character { .. }
             | Expr::Null { .. }
             | Expr::HeapRegion { .. }
             | Expr::UniqueRegion { .. } => {}
-            _ => self.look_at_effect(expression, use_of),
-        }
-    }
-
-    /// Looks at an expression that does something.
-    fn look_at_effect(&mut self, expression: &'t Expr, use_of: Use) {
-        self.effects = self.effects.saturating_add(1);
-        match expression {
+            Expr::Bracketed { inner, .. } => self.look_at(inner, use_of),
+            Expr::NumberOfElements { pointer, .. } => self.look_at(pointer, Use::Looked),
+            Expr::LowByteOf { value, .. } => self.look_at(value, Use::Value),
+            Expr::Chained { base, postfixes } => {
+                self.look_at_first(base, postfixes);
+                if !self.is_noted(base, Use::Looked) {
+                    self.look_at(base, Use::Looked);
+                }
+                for postfix in postfixes {
+                    if let Postfix::Index { index } = postfix {
+                        self.look_at(index, Use::Value);
+                    }
+                }
+            }
+            Expr::Prefixed {
+                span,
+                operator,
+                operand,
+            } => {
+                self.look_at_sign(*span, *operator, operand);
+                self.look_at(operand, use_of_prefix(*operator));
+            }
+            Expr::Binary { first, rest } => {
+                self.look_at_operators(first, rest);
+                if !self.is_noted(first, use_in(rest)) {
+                    self.look_at(first, use_in(rest));
+                }
+                for operation in rest {
+                    let use_of = use_by(operation.operator);
+                    if !self.is_noted(&operation.operand, use_of) {
+                        self.look_at(&operation.operand, use_of);
+                    }
+                }
+            }
             Expr::Call {
                 function,
                 arguments,
-            } => self.look_at_call(*function, arguments),
-            Expr::FreeUnique { pointer, .. } => self.add_expression(pointer, Use::Value),
-            Expr::FreeKey { key, .. } => self.note(*key, Use::Value),
-            Expr::New { value, .. } => self.add_initial(value),
-            Expr::RegionNew { region, value, .. } => {
-                self.add_initial(value);
-                self.add_expression(region, Use::Value);
+            } => {
+                self.look_at_call(*function, arguments);
+                for argument in arguments {
+                    if !self.is_noted(argument, Use::Value) {
+                        self.look_at(argument, Use::Value);
+                    }
+                }
             }
-            Expr::Assign { target, value } => self.look_at_assigned(target, value, use_of),
-            _ => {}
+            Expr::FreeUnique { pointer, .. } => {
+                self.count_effect();
+                self.look_at(pointer, Use::Value);
+            }
+            Expr::FreeKey { key, .. } => {
+                self.count_effect();
+                self.note(*key, Use::Value);
+            }
+            Expr::New { value, .. } => self.look_at_initial(value),
+            Expr::RegionNew { region, value, .. } => {
+                self.look_at(region, Use::Value);
+                self.look_at_initial(value);
+            }
+            Expr::Assign { target, value } => {
+                self.look_at_assigned(target, value);
+                if !self.is_noted(target, use_of_target(use_of)) {
+                    self.look_at(target, use_of_target(use_of));
+                }
+                self.look_at(value, Use::Value);
+            }
         }
+    }
+
+    /// Looks at what a new object begins with.
+    #[cycle(expressions)]
+    fn look_at_initial(&mut self, initial: &Initial) {
+        self.count_effect();
+        match initial {
+            Initial::Plain { value } => self.look_at(value, Use::Value),
+            Initial::Fields { name, values, .. } => {
+                self.look_at_fields(*name, values);
+                for value in values {
+                    self.look_at(value, Use::Value);
+                }
+            }
+            Initial::Array {
+                span,
+                variable,
+                length,
+                element,
+            } => {
+                self.look_at(length, Use::Value);
+                let depth = self.known.depth();
+                self.declare(*variable, Local::new(variable.span, INT));
+                if is_more_than(length, most_elements(self.shape_of(element))) {
+                    self.warn(*span, Warning::ArraySize);
+                }
+                self.look_at(element, Use::Value);
+                self.known.unbind(depth);
+            }
+        }
+    }
+
+    /// One more call, assignment or object that is made or freed.
+    fn count_effect(&mut self) {
+        self.effects = self.effects.saturating_add(1);
     }
 
     /// Looks at a value that becomes a char.
@@ -327,25 +425,25 @@ impl<'t> Finder<'t> {
         }
     }
 
-    fn look_at_call(&mut self, function: Ident, arguments: &'t [Expr]) {
+    fn look_at_call(&mut self, function: Ident, arguments: &[Expr]) {
+        self.count_effect();
         for (n, argument) in arguments.iter().enumerate() {
             if self.known.takes_char(function.name.number, n) {
                 self.look_at_byte(argument);
             }
         }
-        self.add_values(arguments);
     }
 
-    fn look_at_fields(&mut self, owner: Ident, values: &'t [Expr]) {
+    fn look_at_fields(&mut self, owner: Ident, values: &[Expr]) {
         for (n, value) in values.iter().enumerate() {
             if self.known.keeps_char(owner.name.number, n) {
                 self.look_at_byte(value);
             }
         }
-        self.add_values(values);
     }
 
-    fn look_at_assigned(&mut self, target: &'t Expr, value: &'t Expr, use_of: Use) {
+    fn look_at_assigned(&mut self, target: &Expr, value: &Expr) {
+        self.count_effect();
         if is_more_than(value, LARGEST_CHAR) && self.is_char(target) {
             self.warn(span_of(value), Warning::CharConstant);
         }
@@ -354,81 +452,29 @@ impl<'t> Finder<'t> {
                 self.fill(name);
             }
         }
-        self.add_expression(value, Use::Value);
-        self.add_expression(target, Use::Assigned(!matches!(use_of, Use::Dropped)));
-    }
-
-    fn add_values(&mut self, values: &'t [Expr]) {
-        for value in values.iter().rev() {
-            self.add_expression(value, Use::Value);
-        }
-    }
-
-    fn add_initial(&mut self, initial: &'t Initial) {
-        match initial {
-            Initial::Plain { value } => self.add_expression(value, Use::Value),
-            Initial::Fields { name, values, .. } => self.look_at_fields(*name, values),
-            Initial::Array {
-                length,
-                element,
-                ..
-            } => {
-                self.add_end();
-                self.add(Part::Expression(element, Use::Value));
-                self.add(Part::Counted(initial));
-                self.add_expression(length, Use::Value);
-            }
-        }
-    }
-
-    /// Declares the variable of an array, and looks at its length.
-    pub(crate) fn count(&mut self, initial: &'t Initial) {
-        if let Initial::Array {
-            span,
-            variable,
-            length,
-            element,
-        } = initial
-        {
-            self.declare(*variable, Local::new(variable.span, INT));
-            if is_more_than(length, most_elements(self.shape_of(element))) {
-                self.warn(*span, Warning::ArraySize);
-            }
-        }
     }
 
     // ---- operands and their postfixes
 
-    fn look_at_prefixed(&mut self, span: Span, operator: PrefixOperator, operand: &'t Expr) {
+    fn look_at_sign(&mut self, span: Span, operator: PrefixOperator, operand: &Expr) {
         if operator == PrefixOperator::Negate && is_double(span, operand) {
             self.warn(span, Warning::DoubleMinus);
         }
-        self.add_expression(operand, use_of_prefix(operator));
     }
 
-    fn look_at_chain(&mut self, base: &'t Expr, postfixes: &'t [Postfix]) {
-        if let Some(Postfix::Index { index }) = postfixes.first() {
-            self.look_at_index(base, index);
-        }
-        for postfix in postfixes.iter().rev() {
-            if let Postfix::Index { index } = postfix {
-                self.add_expression(index, Use::Value);
-            }
-        }
-        self.add_expression(base, Use::Looked);
-    }
-
-    /// Looks at an index of what a local may have been declared with.
-    fn look_at_index(&mut self, base: &Expr, index: &Expr) {
+    /// Looks at the first postfix, where it is an index of what a local may have been declared with.
+    fn look_at_first(&mut self, base: &Expr, postfixes: &[Postfix]) {
         if let Expr::Variable { name } = base {
-            if let Some(number) = self.known.local(name.name.number) {
+            if let Some(Postfix::Index { index }) = postfixes.first() {
+                let number = self.known.local(name.name.number);
                 if let Some(
                     Local {
                         length: Some(length),
                         ..
                     },
-                ) = self.locals.all.get(number).copied()
+                ) = self.locals.all.get(number)
                 {
+                    let length = *length;
                     self.look_at_number(number, length, index);
                 }
             }
@@ -446,7 +492,8 @@ impl<'t> Finder<'t> {
 
     // ---- operators of two operands
 
-    fn look_at_binary(&mut self, first: &'t Expr, rest: &'t [Operation]) {
+    /// Looks at operators of one level.
+    fn look_at_operators(&mut self, first: &Expr, rest: &[Operation]) {
         let mut left = Some(first);
         let mut is_ordered = false;
         for operation in rest {
@@ -458,12 +505,6 @@ impl<'t> Finder<'t> {
             left = None;
         }
         self.look_at_bits(first, rest);
-        for operation in rest.iter().rev() {
-            self.add_expression(&operation.operand, use_by(operation.operator));
-        }
-        if let Some(operation) = rest.first() {
-            self.add_expression(first, use_by(operation.operator));
-        }
     }
 
     fn look_at_bits(&mut self, first: &Expr, rest: &[Operation]) {

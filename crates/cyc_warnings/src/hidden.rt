@@ -24,8 +24,20 @@ fn byte_at(text: &[u8], place: usize) -> u8 {
     }
 }
 
+/// Whether a text has a byte beyond ASCII, as most have not.
+fn has_other_than_ascii(text: &[u8]) -> bool {
+    let mut all = 0_u8;
+    for byte in text {
+        all |= *byte;
+    }
+    !all.is_ascii()
+}
+
 /// The place of the first such character of a text.
 pub(crate) fn find_hidden(text: &[u8]) -> Option<Span> {
+    if !has_other_than_ascii(text) {
+        return None;
+    }
     let (mut line, mut column) = (1_u32, 1_u32);
     for (n, byte) in text.iter().enumerate() {
         if !byte.is_ascii() {

@@ -6,11 +6,9 @@ use std::alloc::Global;
 /// The number of no name, no local and no field.
 const NONE: usize = usize::MAX;
 
-/// What a name means.
+/// What a name means where it is no local.
 #[derive(Clone, Copy)]
 struct Entry {
-    /// The number of the local.
-    local: usize,
     global: Option<Shape>,
     /// The result of the function.
     result: Option<Shape>,
@@ -21,7 +19,6 @@ struct Entry {
 }
 
 const NOTHING: Entry = Entry {
-    local: NONE,
     global: None,
     result: None,
     fields: NONE,
@@ -48,6 +45,8 @@ struct Binding {
 pub(crate) struct Known {
     /// By the numbers of the names.
     entries: Vec<Entry>,
+    /// By them too, the numbers of the locals.
+    locals: Vec<usize>,
     /// Those of one struct stand together.
     fields: Vec<Field>,
     /// Of each parameter whether it is a char; those of one function stand together.
@@ -64,13 +63,15 @@ impl Known {
     pub(crate) fn of(alloc: Global, tree: &Tree) -> Known {
         let mut known = Known {
             entries: Vec::new(alloc),
+            locals: Vec::new(alloc),
             fields: Vec::new(alloc),
             parameters: Vec::new(alloc),
             bindings: Vec::new(alloc),
             unique: NONE,
             is_whole: true,
         };
-        known.is_whole = known.entries.resize(tree.names.len(), NOTHING).is_ok();
+        known.is_whole = known.entries.resize(tree.names.len(), NOTHING).is_ok()
+            && known.locals.resize(tree.names.len(), NONE).is_ok();
         if let Some(name) = tree.names.find(b"U") {
             known.unique = name.number;
         }
@@ -147,10 +148,10 @@ impl Known {
     }
 
     /// From here on a name is the local of this number.
-    pub(crate) fn bind(&mut self, name: usize, local: usize) {
-        if let Some(entry) = self.entries.get_mut(name) {
-            let hidden = entry.local;
-            entry.local = local;
+    pub(crate) fn bind(&mut self, name: usize, number: usize) {
+        if let Some(local) = self.locals.get_mut(name) {
+            let hidden = *local;
+            *local = number;
             self.is_whole = self.bindings.push(Binding { name, hidden }).is_ok() && self.is_whole;
         }
     }
@@ -159,8 +160,8 @@ impl Known {
     pub(crate) fn unbind(&mut self, depth: usize) {
         for _ in depth..self.bindings.len() {
             if let Some(binding) = self.bindings.pop() {
-                if let Some(entry) = self.entries.get_mut(binding.name) {
-                    entry.local = binding.hidden;
+                if let Some(local) = self.locals.get_mut(binding.name) {
+                    *local = binding.hidden;
                 }
             }
         }
@@ -168,11 +169,11 @@ impl Known {
 
     // ---- what a name means
 
-    /// The number of the local of a name.
-    pub(crate) fn local(&self, name: usize) -> Option<usize> {
-        match self.entries.get(name) {
-            Some(entry) if entry.local != NONE => Some(entry.local),
-            _ => None,
+    /// The number of the local of a name, or that of none.
+    pub(crate) fn local(&self, name: usize) -> usize {
+        match self.locals.get(name) {
+            Some(number) => *number,
+            None => NONE,
         }
     }
 

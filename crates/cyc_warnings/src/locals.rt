@@ -1,5 +1,6 @@
 //! The locals of a function, and what becomes of each.
 use crate::shapes::Shape;
+use crate::warning::Warning;
 use cyc_words::Span;
 use std::alloc::Global;
 
@@ -72,8 +73,19 @@ impl Local {
     }
 
     /// Whether it has a unique object that goes nowhere.
-    pub(crate) fn is_kept(&self) -> bool {
+    fn is_kept(&self) -> bool {
         self.shape.is_unique() && self.is_filled && !self.is_moved
+    }
+
+    /// What is warned of where it ends.
+    pub(crate) fn fault(&self) -> Option<Warning> {
+        if self.is_kept() {
+            Some(Warning::NeverGivenBack)
+        } else if self.is_ordinary && !self.is_read {
+            Some(Warning::NeverRead)
+        } else {
+            None
+        }
     }
 }
 

@@ -1,31 +1,13 @@
 //! What statements and items are warned of, and their parts.
 use crate::constants::constant_of;
 use crate::expressions::{is_bare, is_null};
-use crate::finder::{Finder, Part};
+use crate::finder::Finder;
 use crate::locals::{Local, Use};
 use crate::places::{span_of, span_of_item};
-use crate::shapes::{Home, Shape};
+use crate::shapes::{Home, INT, Shape};
 use crate::warning::Warning;
-use cyc_syntax::{Clause, Expr, Initial, Item, Stmt};
+use cyc_syntax::{Expr, Initial, Item, Stmt};
 use cyc_words::Span;
-
-/// Whether a statement leaves the block that it stands in, whatever comes. A loop is not asked.
-fn leaves(statement: &Stmt) -> bool {
-    match statement {
-        Stmt::Return { .. } | Stmt::Break { .. } | Stmt::Continue { .. } | Stmt::Throw { .. } =>
-            true,
-        Stmt::Block { block } | Stmt::Labelled { block, .. } => match block.items.last() {
-            Some(Item::Statement { statement }) => leaves(statement),
-            _ => false,
-        },
-        Stmt::If {
-            then,
-            otherwise: Some(otherwise),
-            ..
-        } => leaves(then) && leaves(otherwise),
-        _ => false,
-    }
-}
 
 /// Whether an item is a semicolon alone.
 fn is_empty(item: &Item) -> bool {
@@ -35,25 +17,6 @@ fn is_empty(item: &Item) -> bool {
             statement: Stmt::Empty { .. },
         }
     )
-}
-
-/// The place of the first item that stands behind a statement which leaves the block.
-fn unreached(items: &[Item]) -> Option<Span> {
-    let mut before: Option<&Stmt> = None;
-    for item in items {
-        if !is_empty(item) {
-            if let Some(statement) = before {
-                if leaves(statement) {
-                    return Some(span_of_item(item));
-                }
-            }
-            before = match item {
-                Item::Statement { statement } => Some(statement),
-                _ => None,
-            };
-        }
-    }
-    None
 }
 
 /// How many elements an array has that an expression makes.
@@ -68,53 +31,36 @@ fn length_of(expression: &Expr) -> Option<u32> {
     }
 }
 
-impl<'t> Finder<'t> {
+impl Finder {
     // ---- items
 
-    /// Adds items.
-    pub(crate) fn add_items(&mut self, items: &'t [Item]) {
-        if let Some(span) = unreached(items) {
-            self.warn(span, Warning::Unreachable);
-        }
-        for item in items.iter().rev() {
-            self.add(Part::Item(item));
-        }
-    }
-
-    /// Adds the items of a block of their own.
-    fn add_block(&mut self, items: &'t [Item]) {
-        self.add_end();
-        self.add_items(items);
-    }
-
-    pub(crate) fn look_at_item(&mut self, item: &'t Item) {
-        match item {
-            Item::Statement { statement } => self.look_at_statement(statement),
-            Item::Local { of_type, value, .. } => {
-                self.add(Part::Declared(item));
-                if let Some(value) = value {
-                    if Shape::written(of_type, self.known.unique).is_char() {
-                        self.look_at_byte(value);
-                    }
-                    self.add_expression(value, Use::Value);
+    /// Looks at the items of a block. Answers whether the last of them leaves it, whatever comes. A loop is not asked.
+    #[cycle(statements)]
+    pub(crate) fn look_at_block(&mut self, items: &[Item]) -> bool {
+        let depth = self.known.depth();
+        let mut is_left = false;
+        let mut is_said = false;
+        let mut leaves = false;
+        for item in items {
+            leaves = false;
+            if !is_empty(item) {
+                if is_left && !is_said {
+                    self.warn(span_of_item(item), Warning::Unreachable);
+                    is_said = true;
                 }
-            }
-            Item::Region { key, .. } => {
-                if let Some(key) = key {
-                    self.note(*key, Use::Looked);
+                if let Item::Statement { statement } = item {
+                    leaves = self.look_at_statement(statement);
+                } else {
+                    self.look_at_declaration(item);
                 }
-                self.declare_item(item);
+                is_left = leaves;
             }
-            Item::Alias { source, .. } => {
-                self.note(*source, Use::Looked);
-                self.declare_item(item);
-            }
-            Item::DynamicRegion { .. } => self.declare_item(item),
         }
+        self.known.unbind(depth);
+        leaves
     }
 
-    /// Declares what an item does.
-    pub(crate) fn declare_item(&mut self, item: &'t Item) {
+    fn look_at_declaration(&mut self, item: &Item) {
         match item {
             Item::Statement { .. } => {}
             Item::Local {
@@ -123,41 +69,68 @@ impl<'t> Finder<'t> {
                 value,
             } => {
                 let shape = Shape::written(of_type, self.known.unique);
-                let local = self.with_value(Local::new(name.span, shape), value);
+                let mut local = Local::new(name.span, shape);
+                local.is_ordinary = true;
+                if let Some(value) = value {
+                    self.look_at_initial_value(shape, value);
+                    self.fill_from(&mut local, value);
+                }
                 self.declare(*name, local);
             }
-            Item::Alias { of_type, name, .. } => {
+            Item::Region { handle, key, .. } => {
+                if let Some(key) = key {
+                    self.note(*key, Use::Looked);
+                }
+                self.declare_other(*handle);
+            }
+            Item::Alias {
+                of_type,
+                name,
+                source,
+                ..
+            } => {
+                self.note(*source, Use::Looked);
                 let shape = Shape::written(of_type, self.known.unique);
                 self.declare(*name, Local::new(name.span, shape));
             }
-            Item::Region { handle, .. } => self.declare_other(*handle),
             Item::DynamicRegion { key, .. } => self.declare_other(*key),
         }
     }
 
-    /// A local that is declared with this value, or none.
-    fn with_value(&self, local: Local, value: &Option<Expr>) -> Local {
-        let mut local = local;
-        local.is_ordinary = true;
-        if let Some(value) = value {
-            local.is_filled = !is_null(value);
-            local.length = length_of(value);
-            if matches!(local.shape.home, Home::LeftOut) && self.is_unique(value) {
-                local.shape.home = Home::Unique;
-            }
+    /// Looks at what a local of this type is declared with.
+    fn look_at_initial_value(&mut self, shape: Shape, value: &Expr) {
+        if shape.is_char() {
+            self.look_at_byte(value);
         }
-        local
+        self.look_at(value, Use::Value);
+    }
+
+    /// Notes of a local what the value is that it is declared with.
+    fn fill_from(&self, local: &mut Local, value: &Expr) {
+        local.is_filled = !is_null(value);
+        local.length = length_of(value);
+        if matches!(local.shape.home, Home::LeftOut) && self.is_unique(value) {
+            local.shape.home = Home::Unique;
+        }
     }
 
     // ---- statements
 
-    pub(crate) fn look_at_statement(&mut self, statement: &'t Stmt) {
+    /// Looks at a statement. Answers whether it leaves the block that it stands in, whatever comes.
+    #[cycle(statements)]
+    fn look_at_statement(&mut self, statement: &Stmt) -> bool {
         match statement {
-            Stmt::Block { block } | Stmt::Labelled { block, .. } => self.add_block(&block.items),
-            Stmt::Expression { value } => self.look_at_value(value),
+            Stmt::Block { block } | Stmt::Labelled { block, .. } => self.look_at_block(
+                &block.items,
+            ),
+            Stmt::Expression { value } => {
+                self.look_at_value(value);
+                false
+            }
             Stmt::Swap { left, right } => {
-                self.add_expression(right, Use::Taken);
-                self.add_expression(left, Use::Taken);
+                self.look_at(left, Use::Taken);
+                self.look_at(right, Use::Taken);
+                false
             }
             Stmt::If {
                 span,
@@ -165,18 +138,34 @@ impl<'t> Finder<'t> {
                 then,
                 otherwise,
             } => {
-                self.look_at_if(*span, condition, then, otherwise);
+                self.look_at_condition(*span, condition);
+                let leaves = self.look_at_statement(then);
+                match otherwise {
+                    Some(otherwise) => self.look_at_statement(otherwise) && leaves,
+                    None => {
+                        self.look_at_branch(then);
+                        false
+                    }
+                }
             }
             Stmt::While {
                 span,
                 condition,
                 body,
-            } => self.look_at_while(*span, condition, body),
-            Stmt::Return { value, .. } => self.look_at_returned(value),
+            } => {
+                self.look_at_head(*span, condition, body);
+                self.look_at_statement(body);
+                false
+            }
+            Stmt::Return { value, .. } => {
+                self.look_at_returned(value);
+                true
+            }
             Stmt::Throw { value, .. } => {
                 if let Some(value) = value {
-                    self.add_expression(value, Use::Value);
+                    self.look_at(value, Use::Value);
                 }
+                true
             }
             Stmt::Try {
                 body,
@@ -184,74 +173,66 @@ impl<'t> Finder<'t> {
                 default,
                 ..
             } => {
-                if let Some(items) = default {
-                    self.add_block(items);
+                self.look_at_statement(body);
+                for clause in clauses {
+                    let depth = self.known.depth();
+                    if let Some(variable) = clause.variable {
+                        self.declare(variable, Local::new(variable.span, INT));
+                    }
+                    self.look_at_block(&clause.items);
+                    self.known.unbind(depth);
                 }
-                self.add_clauses(clauses);
-                self.add(Part::Statement(body));
+                if let Some(items) = default {
+                    self.look_at_block(items);
+                }
+                false
             }
-            Stmt::Empty { .. } | Stmt::Break { .. } | Stmt::Continue { .. } => {}
+            Stmt::Empty { .. } => false,
+            Stmt::Break { .. } | Stmt::Continue { .. } => true,
         }
     }
 
-    fn look_at_returned(&mut self, value: &'t Option<Expr>) {
+    fn look_at_returned(&mut self, value: &Option<Expr>) {
         if let Some(value) = value {
             if self.gives_char {
                 self.look_at_byte(value);
             }
-            self.add_expression(value, Use::Value);
-        }
-    }
-
-    fn add_clauses(&mut self, clauses: &'t [Clause]) {
-        for clause in clauses.iter().rev() {
-            self.add_block(&clause.items);
-            if let Some(variable) = clause.variable {
-                self.add(Part::Caught(variable));
-            }
+            self.look_at(value, Use::Value);
         }
     }
 
     /// Looks at an expression that is a statement.
-    fn look_at_value(&mut self, value: &'t Expr) {
-        if is_bare(value) {
-            self.add(Part::Effect(self.effects, span_of(value), Warning::NoEffect));
+    fn look_at_value(&mut self, value: &Expr) {
+        let before = self.effects;
+        self.look_at(value, Use::Dropped);
+        if self.effects == before && is_bare(value) {
+            self.warn(span_of(value), Warning::NoEffect);
         }
-        self.add_expression(value, Use::Dropped);
     }
 
     /// Looks at the condition of the statement at this place.
-    fn look_at_condition(&mut self, span: Span, condition: &'t Expr) {
+    fn look_at_condition(&mut self, span: Span, condition: &Expr) {
         if let Expr::Assign { .. } = condition {
             self.warn(span, Warning::ConditionAssigns);
         }
-        self.add_expression(condition, Use::Looked);
+        self.look_at(condition, Use::Looked);
     }
 
-    fn look_at_if(
-        &mut self,
-        span: Span,
-        condition: &'t Expr,
-        then: &'t Stmt,
-        otherwise: &'t Option<Box<Stmt>>,
-    ) {
-        match otherwise {
-            Some(otherwise) => self.add(Part::Statement(otherwise)),
-            None => {
-                if let Stmt::Empty { span } = then {
-                    self.warn(*span, Warning::EmptyIf);
-                }
+    /// Looks at the statement of an `if` that has no `else`.
+    fn look_at_branch(&mut self, then: &Stmt) {
+        if let Stmt::Empty { span } = then {
+            self.warn(*span, Warning::EmptyIf);
+        }
+    }
+
+    /// Looks at the condition of the loop at this place, and whether the loop has something to do.
+    fn look_at_head(&mut self, span: Span, condition: &Expr, body: &Stmt) {
+        let before = self.effects;
+        self.look_at_condition(span, condition);
+        if let Stmt::Empty { span } = body {
+            if self.effects == before {
+                self.warn(*span, Warning::EmptyWhile);
             }
         }
-        self.add(Part::Statement(then));
-        self.look_at_condition(span, condition);
-    }
-
-    fn look_at_while(&mut self, span: Span, condition: &'t Expr, body: &'t Stmt) {
-        self.add(Part::Statement(body));
-        if let Stmt::Empty { span } = body {
-            self.add(Part::Effect(self.effects, *span, Warning::EmptyWhile));
-        }
-        self.look_at_condition(span, condition);
     }
 }
