@@ -9,6 +9,7 @@ ghost use Rattle.cyc_inline.specs.inside.Inlined.{IsInlined};
 use crate::emptying::empty;
 use crate::leaf::leafs_of;
 use crate::making::{Made, make, make_twins};
+use crate::naming::Search;
 use crate::replacing::{Opened, replace};
 use crate::sizes::spare_of;
 use cyc_plain::Plain;
@@ -73,6 +74,7 @@ fn left_of(change: &Option<Made>, spare: usize) -> usize
 /// A function that stands for the one of this number, if another does.
 fn change_of(
     alloc: Global,
+    search: &mut Search,
     plain: &Plain,
     work: Work,
     number: usize,
@@ -85,7 +87,7 @@ fn change_of(
 {
     match work {
         Work::Calls { leafs } => make(alloc, plain, leafs, number, spare),
-        Work::Twins => make_twins(alloc, plain, number, spare),
+        Work::Twins => make_twins(alloc, search, plain, number, spare),
     }
 }
 
@@ -103,8 +105,9 @@ fn changes_of(
     let count = plain.functions().len();
     let mut changes = Vec::with_capacity(alloc, count)?;
     let mut spare = spare_for(plain, work, room);
+    let mut search = Search::new(alloc);
     for number in 0..count {
-        let change = change_of(alloc, plain, work, number, spare)?;
+        let change = change_of(alloc, &mut search, plain, work, number, spare)?;
         spare = left_of(&change, spare);
         changes.push(change)?;
     }

@@ -3,7 +3,6 @@
 use crate::limits::MOST_LEADS;
 use crate::naming::Search;
 use crate::shapes::{COMPARED, LOAD_GLOBAL, Value};
-use crate::tables::place_in;
 use crate::twinning::may_be_led;
 use cyc_plain::{Instruction, Operand};
 use std::alloc::{AllocError, Global};
@@ -15,38 +14,6 @@ pub(crate) struct Candidate {
     pub(crate) number: usize,
     pub(crate) index: usize,
     pub(crate) front: Option<usize>,
-}
-
-fn is_place_in(number: usize, candidates: &[Candidate]) -> bool {
-    for candidate in candidates {
-        if candidate.number == number {
-            return true;
-        }
-    }
-    false
-}
-
-/// Where an instruction jumps back to.
-pub(crate) fn head_of(instruction: Instruction, index: usize) -> Option<usize> {
-    match instruction {
-        Instruction::Jump { target } | Instruction::Branch { target, .. } => {
-            if target <= index { Some(target) } else { None }
-        }
-        _ => None,
-    }
-}
-
-/// The last instruction that jumps back to each place, and 1 more, or 0.
-pub(crate) fn ends_of(alloc: Global, code: &[Instruction]) -> Result<Vec<usize>, AllocError> {
-    let mut ends = vec![in alloc; 0; code.len()]?;
-    for index in 0..code.len() {
-        if let Some(head) = head_of(code[index], index) {
-            if let Some(end) = ends.get_mut(head) {
-                *end = index + 1;
-            }
-        }
-    }
-    Ok(ends)
 }
 
 /// The instruction behind which a loop begins: the one before its head, or where that leads elsewhere the one before, if it
@@ -63,18 +30,37 @@ fn front_of(code: &[Instruction], head: usize) -> Option<usize> {
     }
 }
 
+/// Those of the candidates that stay candidates of what a loop stands in: the candidates from `first` up to `end`.
+#[derive(Clone, Copy)]
+struct Kept {
+    first: usize,
+    end: usize,
+}
+
 impl Search {
+    /// Whether a candidate that is kept has the expression of this number.
+    fn is_kept(&self, number: usize, kept: Kept) -> bool {
+        for at in kept.first..kept.end {
+            if let Some(candidate) = self.candidates.get(at) {
+                if candidate.number == number {
+                    return true;
+                }
+            }
+        }
+        false
+    }
+
     /// Whether a value is the same from in front of an instruction on, all through the loop that comes behind it.
-    fn is_same_from(&self, value: Value, front: usize, kept: &[Candidate]) -> bool {
+    fn is_same_from(&self, value: Value, front: usize, kept: Kept) -> bool {
         match value {
             Value::Word { .. } => true,
-            Value::Slot { number } => place_in(&self.written, number) <= front,
-            Value::Expression { number } => is_place_in(number, kept),
+            Value::Slot { number } => self.written(number) <= front,
+            Value::Expression { number } => self.is_kept(number, kept),
         }
     }
 
     /// Whether an expression is so, and cannot fail.
-    fn stays_from(&self, number: usize, front: usize, kept: &[Candidate]) -> bool {
+    fn stays_from(&self, number: usize, front: usize, kept: Kept) -> bool {
         match self.expressions.get(number) {
             Some(expression) => {
                 let shape = expression.shape;
@@ -92,9 +78,7 @@ impl Search {
     /// One that was a candidate is none any more. If there is a loop that does not change it, it is computed in front of that.
     fn settle(&mut self, candidate: Candidate) -> Result<(), AllocError> {
         if candidate.front.is_some() {
-            if let Some(expression) = self.expressions.get_mut(candidate.number) {
-                expression.is_needed = true;
-            }
+            self.need(candidate.number);
             self.leads.push(candidate)?;
         }
         Ok(())
@@ -103,88 +87,77 @@ impl Search {
     /// Behind an instruction that is the last to jump back to a place a loop is over.
     pub(crate) fn close(
         &mut self,
-        alloc: Global,
         code: &[Instruction],
-        instruction: Instruction,
+        target: usize,
         index: usize,
     ) -> Result<(), AllocError> {
-        if let Some(head) = head_of(instruction, index) {
-            if place_in(&self.ends, head) == index.wrapping_add(1) {
-                return self.close_loop(alloc, code, head);
-            }
+        if self.end_of(target) == index.wrapping_add(1) {
+            self.close_loop(code, target)
+        } else {
+            Ok(())
         }
-        Ok(())
     }
 
-    fn close_loop(
-        &mut self,
-        alloc: Global,
-        code: &[Instruction],
-        head: usize,
-    ) -> Result<(), AllocError> {
-        let mut open = self.candidates_from(alloc, head)?;
-        let mut kept = Vec::new(alloc);
+    /// Those that stay candidates stand in front of the others, which are left out then.
+    fn close_loop(&mut self, code: &[Instruction], head: usize) -> Result<(), AllocError> {
         let front = front_of(code, head);
-        let count = open.len();
-        for _ in 0..count {
-            if let Some(candidate) = open.pop() {
-                self.keep(candidate, front, head, &mut kept)?;
+        let first = self.first_from(head);
+        let mut kept = Kept { first, end: first };
+        for at in first..self.candidates.len() {
+            if let Some(candidate) = self.candidates.get(at).copied() {
+                if let Some(held) = self.held_on(candidate, front, head, kept)? {
+                    if let Some(place) = self.candidates.get_mut(kept.end) {
+                        *place = held;
+                    }
+                    kept.end = kept.end.wrapping_add(1);
+                }
             }
         }
-        for candidate in &kept {
-            self.candidates.push(*candidate)?;
-        }
+        self.candidates.truncate(kept.end);
         Ok(())
     }
 
-    /// A candidate of a loop stays one of what the loop stands in, if that may be, and is computed in front of the loop.
-    fn keep(
+    /// A candidate of a loop as it stays one of what the loop stands in, if that may be, and is computed in front of the loop.
+    fn held_on(
         &mut self,
         candidate: Candidate,
         front: Option<usize>,
         head: usize,
-        kept: &mut Vec<Candidate>,
-    ) -> Result<(), AllocError> {
+        kept: Kept,
+    ) -> Result<Option<Candidate>, AllocError> {
         let first = match front {
             Some(first) => first,
             None => head,
         };
         if !self.stays_from(candidate.number, first, kept) {
-            return self.settle(candidate);
+            self.settle(candidate)?;
+            return Ok(None);
         }
-        if front.is_some() && is_place_in(candidate.number, kept) {
-            return Ok(());
+        if front.is_some() && self.is_kept(candidate.number, kept) {
+            return Ok(None);
         }
-        if kept.len() >= MOST_LEADS {
-            return self.settle(candidate);
+        if kept.end.wrapping_sub(kept.first) >= MOST_LEADS {
+            self.settle(candidate)?;
+            return Ok(None);
         }
         let mut candidate = candidate;
         if front.is_some() {
             candidate.front = front;
         }
-        kept.push(candidate)?;
-        Ok(())
+        Ok(Some(candidate))
     }
 
-    /// Takes out the candidates from an instruction on, the last one first.
-    fn candidates_from(
-        &mut self,
-        alloc: Global,
-        head: usize,
-    ) -> Result<Vec<Candidate>, AllocError> {
-        let mut open = Vec::new(alloc);
+    /// The first of the last candidates that all stand at an instruction or behind it.
+    fn first_from(&self, head: usize) -> usize {
         let count = self.candidates.len();
-        for _ in 0..count {
-            match self.candidates.pop() {
-                Some(candidate) if candidate.index >= head => open.push(candidate)?,
-                Some(candidate) => {
-                    self.candidates.push(candidate)?;
-                    return Ok(open);
+        for at in (0..count).rev() {
+            if let Some(candidate) = self.candidates.get(at) {
+                if candidate.index < head {
+                    return at.wrapping_add(1);
                 }
-                None => {}
             }
         }
-        Ok(open)
+        0
     }
 
     /// What is still a candidate behind the code.
@@ -212,14 +185,14 @@ impl Search {
         }
     }
 
-    /// What computes an expression for its slot.
-    fn lead_of(&self, number: usize) -> Option<Instruction> {
+    /// What computes an expression of this code for its slot.
+    fn lead_of(&self, code: &[Instruction], number: usize) -> Option<Instruction> {
         let expression = self.expressions.get(number)?;
         let destination = expression.slot;
         if destination == 0 {
             return None;
         }
-        match expression.instruction {
+        match *code.get(expression.index)? {
             Instruction::Binary { operator, .. } => Some(Instruction::Binary {
                 operator,
                 destination,
@@ -236,10 +209,11 @@ impl Search {
 
     fn push_lead(
         &self,
+        code: &[Instruction],
         number: usize,
         leads: Option<&mut Vec<Instruction>>,
     ) -> Result<(), AllocError> {
-        if let Some(lead) = self.lead_of(number) {
+        if let Some(lead) = self.lead_of(code, number) {
             if let Some(leads) = leads {
                 leads.push(lead)?;
             }
@@ -247,15 +221,19 @@ impl Search {
         Ok(())
     }
 
-    /// For each instruction what is computed in front of it.
-    pub(crate) fn led(&self, alloc: Global) -> Result<Vec<Vec<Instruction>>, AllocError> {
-        let mut all = Vec::with_capacity(alloc, self.seen.len())?;
-        for _ in 0..self.seen.len() {
+    /// For each instruction of this code what is computed in front of it.
+    pub(crate) fn led(
+        &self,
+        alloc: Global,
+        code: &[Instruction],
+    ) -> Result<Vec<Vec<Instruction>>, AllocError> {
+        let mut all = Vec::with_capacity(alloc, code.len())?;
+        for _ in 0..code.len() {
             all.push(Vec::new(alloc))?;
         }
         for candidate in &self.leads {
             if let Some(front) = candidate.front {
-                self.push_lead(candidate.number, all.get_mut(front))?;
+                self.push_lead(code, candidate.number, all.get_mut(front))?;
             }
         }
         Ok(all)

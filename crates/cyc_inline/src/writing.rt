@@ -1,6 +1,5 @@
 //! What instructions write: slots, and memory, in which those slots lie whose address is taken.
-use cyc_plain::{Function, Instruction, Plain, RECORD_WORDS, Request};
-use std::alloc::{AllocError, Global};
+use cyc_plain::{Instruction, Plain, RECORD_WORDS, Request};
 
 /// Slots that an instruction writes.
 #[derive(Clone, Copy)]
@@ -9,7 +8,7 @@ pub(crate) struct Slots {
     pub(crate) count: usize,
 }
 
-fn slots_from(first: usize, count: usize) -> Slots {
+pub(crate) fn slots_from(first: usize, count: usize) -> Slots {
     Slots { first, count }
 }
 
@@ -26,8 +25,8 @@ fn answered(request: Request) -> Slots {
 }
 
 /// The slots that an instruction writes.
-pub(crate) fn written_by(plain: &Plain, instruction: Instruction) -> Slots {
-    match instruction {
+pub(crate) fn written_by(plain: &Plain, instruction: &Instruction) -> Slots {
+    match *instruction {
         Instruction::Move { destination, .. }
         | Instruction::Unary { destination, .. }
         | Instruction::Binary { destination, .. }
@@ -57,7 +56,7 @@ pub(crate) fn written_by(plain: &Plain, instruction: Instruction) -> Slots {
 }
 
 /// Whether an instruction may change memory.
-pub(crate) fn stores(instruction: Instruction) -> bool {
+pub(crate) fn stores(instruction: &Instruction) -> bool {
     match instruction {
         Instruction::Store { .. }
         | Instruction::StoreByte { .. }
@@ -69,20 +68,11 @@ pub(crate) fn stores(instruction: Instruction) -> bool {
     }
 }
 
-/// Whether each slot has its address taken.
-pub(crate) fn pins_of(alloc: Global, function: &Function) -> Result<Vec<bool>, AllocError> {
-    let mut pinned = vec![in alloc; false; function.slots]?;
-    for index in 0..function.code.len() {
-        let taken = match function.code[index] {
-            Instruction::AddressOf { slot, count, .. } => slots_from(slot, count),
-            Instruction::Try { first, .. } => slots_from(first, RECORD_WORDS),
-            _ => slots_from(0, 0),
-        };
-        for word in 0..taken.count {
-            if let Some(pin) = pinned.get_mut(taken.first.wrapping_add(word)) {
-                *pin = true;
-            }
-        }
+/// The slots whose address an instruction takes.
+pub(crate) fn pinned_by(instruction: &Instruction) -> Slots {
+    match *instruction {
+        Instruction::AddressOf { slot, count, .. } => slots_from(slot, count),
+        Instruction::Try { first, .. } => slots_from(first, RECORD_WORDS),
+        _ => slots_from(0, 0),
     }
-    Ok(pinned)
 }
