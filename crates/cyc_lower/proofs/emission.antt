@@ -8,6 +8,8 @@ pub mod Breaks
 pub mod Leaving
 pub mod Conditions
 pub mod Handlers
+pub mod Alike
+pub mod Turned
 pub mod Lengths
 pub mod Blocks
 pub mod OperandBridge

@@ -5,6 +5,7 @@ pub mod ValueRanges
 pub mod ExpressionRanges
 pub mod ConditionRanges
 pub mod StatementRanges
+pub mod Targets
 pub mod WellFormed
 pub mod PieceWords
 pub mod ExpressionWords

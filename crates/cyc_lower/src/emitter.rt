@@ -1,9 +1,9 @@
 //! Code that is being made.
-ghost use Rattle.std.specs.Prelude.{◌≡◌, ◌<◌, [], ◌∷◌, ◌++◌, length, set, take, IfOk};
+ghost use Rattle.std.specs.Prelude.{◌≡◌, ◌<◌, ◌≤◌, [], ◌∷◌, ◌++◌, length, set, take, IfOk};
 ghost use Rattle.cyc_types.specs.TypedTreeView.{view_lvalue};
 ghost use Rattle.cyc_lower.specs.inside.ControlCode.{failing_jump};
 ghost use Rattle.cyc_lower.specs.inside.ExpressionCode.{load_code};
-ghost use Rattle.cyc_lower.specs.inside.Lowering.{target_of, farthest};
+ghost use Rattle.cyc_lower.specs.inside.Lowering.{target_of, farthest, turned, IsTurned, AreTurned};
 ghost use Rattle.cyc_lower.specs.inside.Emission.{Appends, view_starts};
 
 use crate::globals::global_of;
@@ -25,6 +25,40 @@ fn target_of(instruction: &Instruction) -> usize
         Instruction::Jump { target } | Instruction::Branch { target, .. } => *target,
         Instruction::Try { handler, .. } => *handler,
         _ => 0,
+    }
+}
+
+/// An instruction that leads behind one place leads as far behind another, nearer one.
+fn turned(instruction: Instruction, far: usize, near: usize) -> Instruction
+    requires { near ≤ far }
+    ensures { result ≡ turned far near instruction }
+{
+    match instruction {
+        Instruction::Jump { target } => Instruction::Jump {
+            target: target.saturating_sub(far) + near,
+        },
+        Instruction::Branch {
+            comparison,
+            left,
+            right,
+            target,
+        } => Instruction::Branch {
+            comparison,
+            left,
+            right,
+            target: target.saturating_sub(far) + near,
+        },
+        _ => instruction,
+    }
+}
+
+/// It comes to do so where it leads behind the one place.
+fn turn(instruction: &mut Instruction, far: usize, near: usize)
+    requires { near ≤ far }
+    ensures { IsTurned far near instruction.old instruction.new }
+{
+    if target_of(instruction) > far {
+        *instruction = turned(*instruction, far, near);
     }
 }
 
@@ -110,6 +144,16 @@ impl Emitter {
             }
         }
         place
+    }
+
+    /// What leads behind one place comes to lead as far behind another, nearer one.
+    pub(crate) fn settle(&mut self, far: usize, near: usize)
+        requires { near ≤ far }
+        ensures { AreTurned far near self.old.code.items self.new.code.items }
+    {
+        for instruction in self.code.iter_mut() {
+            turn(instruction, far, near);
+        }
     }
 
     /// One instruction more.

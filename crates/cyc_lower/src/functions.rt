@@ -11,7 +11,7 @@ ghost use Rattle.cyc_meaning.specs.FrameCount.{frame_count, kept_by_items};
 ghost use Rattle.cyc_lower.specs.inside.ControlCode.{outside_loops};
 ghost use Rattle.cyc_lower.specs.inside.Lowering.{items_code, blocks_kept, results_of, lower_function, lower_program, is_handle, may_open, scopes_if};
 ghost use Rattle.cyc_frame_count.specs.inside.Needs.{most_frame_count};
-ghost use Rattle.cyc_lower.specs.inside.Emission.{most_locals, view_starts, HaveFewWords};
+ghost use Rattle.cyc_lower.specs.inside.Emission.{most_locals, view_starts, HaveFewWords, IsClose, AreClose};
 ghost use Rattle.cyc_lower.specs.inside.Lowered.{CanBeLowered};
 
 use crate::emitter::Emitter;
@@ -20,7 +20,7 @@ use crate::globals::{starts_of_globals, words_of_globals};
 use crate::locals::slots_of_locals;
 use crate::marks::Marks;
 use crate::starts::Starts;
-use cyc_frame_count::{frame_count, items_need, kept_by_items, words_of, words_of_all};
+use cyc_frame_count::{frame_count, words_of, words_of_all};
 use cyc_plain::{Function, Instruction, Plain, RECORD_WORDS};
 use cyc_types::typed::{self, StructType};
 use cyc_types::{Ty, TypedTree};
@@ -28,6 +28,15 @@ use std::alloc::{AllocError, Global};
 
 /// The words of the largest value.
 const SPARE_SLOTS: usize = 3;
+
+/// The slot behind the locals.
+const TAG_SLOTS: usize = 1;
+
+/// The words that a frame count has beside those of locals, of what is kept and of temporaries.
+const KEPT_WORDS: usize = 24;
+
+/// No code is so long that it, or the blocks behind it, stand here.
+const FAR: usize = 9_223_372_036_854_775_816;
 
 /// The instructions of the blocks that raise exceptions.
 const BLOCKS: usize = 6;
@@ -71,9 +80,9 @@ fn lower_body(
     Ok(emitter)
 }
 
-/// A function. Its slots are its locals, and behind them the one for tags, the records of handlers, the temporaries and one value more.
-/// How long its code is does not depend on where the blocks behind it stand: so that is made twice, and at first for any place. Of the
-/// blocks stand those up to the last that something leads to.
+/// A function. Its slots are its locals, and behind them the one for tags, the records of handlers, the temporaries and one value more. Its
+/// body's code is made with the blocks far away, since where they stand is known once it is made; then what leads there leads to them. Of
+/// the blocks stand those up to the last that something leads to.
 fn lower_function(
     alloc: Global,
     structs: &[StructType],
@@ -81,43 +90,36 @@ fn lower_function(
     scopes: Option<usize>,
     function: &typed::Function,
 ) -> Result<Function, AllocError>
-    requires { frame_count (view_function function.now) ≤ most_frame_count }
+    requires few { frame_count (view_function function.now) ≤ most_frame_count }
+    requires close { IsClose (map view_struct structs.now) globals.now scopes (view_function function.now) }
     ensures { IfOk result (λ f. routine_of f ≡ lower_function (map view_struct structs.now) globals.now scopes (view_function function.now)) }
 {
     let (locals, tag_slot, free) = slots_of_locals(alloc, function)?;
-    let anywhere = Starts {
+    let far = Starts {
         locals: &locals,
         tag_slot,
         structs,
-        raises: 0,
+        raises: FAR,
         counters: &[],
         globals,
         scopes,
         alloc,
     };
-    let raises = lower_body(alloc, &anywhere, function, free, false)?.place();
-    let starts = Starts {
-        locals: &locals,
-        tag_slot,
-        structs,
-        raises,
-        counters: &[],
-        globals,
-        scopes,
-        alloc,
-    };
-    let mut emitter = lower_body(alloc, &starts, function, free, false)?;
+    let mut emitter = lower_body(alloc, &far, function, free, false)?;
+    let raises = emitter.place();
+    emitter.settle(FAR, raises);
     let count = blocks_kept(emitter.farthest().saturating_sub(raises).min(BLOCKS));
     emitter.emit(Instruction::Finish { value: tag_slot })?;
     let end = emitter.place() + count;
     emitter.lower_blocks(tag_slot)?;
     emitter.take_back(end);
+    let words = frame_count(function);
     Ok(Function {
         name: function.span,
         parameters: words_of_all(&function.parameters),
         results: results_of(&function.result),
-        slots: free + kept_by_items(&function.body) + items_need(&function.body) + SPARE_SLOTS,
-        frame_count: frame_count(function),
+        slots: words - KEPT_WORDS + TAG_SLOTS + SPARE_SLOTS,
+        frame_count: words,
         code: emitter.code,
     })
 }
@@ -129,7 +131,8 @@ fn lower_functions(
     scopes: Option<usize>,
     functions: &[typed::Function],
 ) -> Result<Vec<Function>, AllocError>
-    requires { HaveFewWords (map view_function functions.now) }
+    requires few { HaveFewWords (map view_function functions.now) }
+    requires close { AreClose (map view_struct structs.now) globals.now scopes (map view_function functions.now) }
     ensures { IfOk result (λ fs. map routine_of fs.items ≡ map (lower_function (map view_struct structs.now) globals.now scopes) (map view_function functions.now)) }
 {
     let mut lowered = Vec::new(alloc);

@@ -1,5 +1,5 @@
 //! Where things begin.
-ghost use Rattle.std.specs.Prelude.{◌^◌, ◌<◌};
+ghost use Rattle.std.specs.Prelude.{◌^◌, ◌+◌, ◌≤◌};
 
 use cyc_types::typed::StructType;
 use std::alloc::Global;
@@ -18,5 +18,5 @@ pub(crate) struct Starts<'a> {
     pub(crate) globals: &'a [usize],
     pub(crate) scopes: Option<usize>,
     pub(crate) alloc: Global,
-    pub(crate) ghost low: { raises < 2 ^ 63 },
+    pub(crate) ghost low: { raises ≤ 2 ^ 63 + 8 },
 }

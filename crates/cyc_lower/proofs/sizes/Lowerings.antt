@@ -20,7 +20,8 @@ use Rattle.cyc_lower.specs.inside.Lowered.{AreLoweredFunctions, CanBeLowered, Is
 use Rattle.cyc_lower.proofs.sizes.Routines.{one_too_many}
 use Rattle.cyc_lower.proofs.relation.code.Fitted.{is_fitting_program}
 use Rattle.cyc_lower.proofs.sizes.Sizes.{function_size}
-use Rattle.cyc_lower.proofs.sizes.WellFormed.{well_formed}
+use Rattle.cyc_lower.proofs.sizes.WellFormed.{well_formed, code_close}
+use Rattle.cyc_lower.specs.inside.Emission.{AreClose}
 use Rattle.cyc_lower.proofs.slots.Slots.{global_words_counted}
 use Rattle.cyc_lower.proofs.sizes.WordLemmas.{has_words}
 use Rattle.cyc_lower.proofs.relation.simulation.Whole.{follows}
@@ -52,6 +53,10 @@ is_plain source well fit light = record {
   words = has_words source fit.of_words;
   small = omega (arith, functions_small source.structs (globals_of source) (scopes_of source) source.functions, light);
 }
+
+-- its code leads no farther than to what stands behind it
+pub closely_lowered : (source : Program) → IsWellTypedProgram source → CanBeLowered source → AreClose source.structs (globals_of source) (scopes_of source) source.functions
+closely_lowered source well fit = code_close source (is_fitting_program source fit.of_words.functions well) fit.of_words
 
 -- too many functions are more than there may be
 pub too_many_functions : (source : Program) (fault : Fault) → HasTooMany source fault → max_functions < length source.functions

@@ -1,5 +1,5 @@
 -- Functions and globals that are lowered one after the other.
-use Rattle.std.proofs.Common.{◌≡◌, ℕ, suc, ◌+◌, ◌<◌, ◌≤◌, List, [], ◌∷◌, ◌++◌, ◌-◌, length, get_or, map, take, min, Option, Some, sym, ap, ◌∙◌, arith}
+use Rattle.std.proofs.Common.{◌≡◌, ℕ, suc, ◌+◌, ◌<◌, ◌≤◌, List, [], ◌∷◌, ◌++◌, ◌-◌, length, get_or, map, take, min, Option, Some, sym, ap, subst, ◌∙◌, arith}
 use Rattle.cyc_words.specs.declared.fault.Code.{Code}
 use Rattle.cyc_words.specs.declared.fault.Code.TheVariants.{TooManyFunctions}
 use Rattle.cyc_words.specs.declared.fault.Fault.{Fault}
@@ -15,11 +15,13 @@ use Rattle.cyc_plain.specs.declared.instruction.Instruction.TheVariants.{Finish}
 use Rattle.cyc_lower.specs.inside.Slots.{starts_from}
 use Rattle.cyc_lower.specs.inside.ValueCode.{tag_slot, first_temporary, slot_types, blocks}
 use Rattle.cyc_lower.specs.inside.ControlCode.{outside_loops}
-use Rattle.cyc_lower.specs.inside.Lowering.{items_code, farthest, blocks_kept, with_blocks, finished_code, function_code, raises_of, body_code, starts_with}
+use Rattle.cyc_lower.specs.inside.Lowering.{items_code, farthest, blocks_kept, with_blocks, finished_code, function_code, raises_of, body_code, starts_with, AreTurned}
 use Rattle.cyc_meaning.specs.Sizes.{max_functions, HasTooMany}
 use Rattle.cyc_frame_count.specs.inside.Needs.{most_frame_count}
-use Rattle.cyc_lower.specs.inside.Emission.{most_locals}
+use Rattle.cyc_lower.specs.inside.Emission.{most_locals, IsClose}
 use Rattle.cyc_lower.proofs.slots.Slots.{slots-few}
+use Rattle.cyc_lower.proofs.emission.Alike.{same_length, turned_alike}
+use Rattle.cyc_lower.proofs.emission.Lengths.{body_alike}
 use Rattle.cyc_lower.proofs.emission.Blocks.{some_blocks}
 
 -- a frame has room for the slots of the locals
@@ -27,19 +29,24 @@ pub few_locals : (f : FunctionCode) → frame_count (view_function f) ≤ most_f
     → (words_of_all (view_function f).parameters ≤ most_frame_count) × (first_temporary (view_function f) + kept_by_items (view_function f).body ≤ most_locals)
 few_locals f small = (omega (arith, small), omega (arith, small, slots-few (view_function f)))
 
--- the code of a function's body, made again for the length that it had, with a return and the blocks behind it that something leads to
-pub function_made : (structs : List StructType) (globals : List ℕ) (scopes : Option ℕ) (h : Function) (locals : List ℕ) (slot free raises end : ℕ) (count kept : ℕ) (first body ended all code : List Instruction) → locals ≡ starts_from 0 (slot_types h) → slot ≡ tag_slot h → free ≡ first_temporary h
-    → first ≡ items_code (record { locals = locals; tag_slot = slot; structs = structs; raises = 0; counters = []; globals = globals; scopes = scopes }) h.body 0 outside_loops free → raises ≡ length first
-    → body ≡ items_code (record { locals = locals; tag_slot = slot; structs = structs; raises = raises; counters = []; globals = globals; scopes = scopes }) h.body 0 outside_loops free
+-- The code of a function's body, which is made with the blocks far away, and leads to them behind it then, with a return and those that
+-- something leads to.
+pub function_made : (structs : List StructType) (globals : List ℕ) (scopes : Option ℕ) (h : Function) (locals : List ℕ) (slot free far raises end : ℕ) (count kept : ℕ) (first body ended all code : List Instruction) → locals ≡ starts_from 0 (slot_types h) → slot ≡ tag_slot h → free ≡ first_temporary h
+    → first ≡ items_code (record { locals = locals; tag_slot = slot; structs = structs; raises = far; counters = []; globals = globals; scopes = scopes }) h.body 0 outside_loops free → raises ≡ length first
+    → AreTurned far raises first body → IsClose structs globals scopes h → raises + 7 ≤ far
     → count ≡ farthest body - raises → kept ≡ blocks_kept (min count 6) → ended ≡ body ++ Finish slot ∷ [] → end ≡ length ended + kept → all ≡ ended ++ blocks slot → code ≡ take end all → code ≡ function_code structs globals scopes h
-function_made structs globals scopes h locals slot free raises end count kept first body ended all code locals_is slot_is free_is first_is raises_is body_is count_is kept_is ended_is end_is all_is code_is =
-    let made : first ≡ body_code (starts_with 0 structs globals scopes h) h =
-    first_is ∙ (λ i. items_code (record { locals = locals_is i; tag_slot = slot_is i; structs = structs; raises = 0; counters = []; globals = globals; scopes = scopes }) h.body 0 outside_loops (free_is i)) in
-    let known : raises ≡ raises_of structs globals scopes h = raises_is ∙ ap (λ (l : List Instruction). length l) made in
+function_made structs globals scopes h locals slot free far raises end count kept first body ended all code locals_is slot_is free_is first_is raises_is turned_so close behind count_is kept_is ended_is end_is all_is code_is =
+    let made : first ≡ body_code (starts_with far structs globals scopes h) h =
+    first_is ∙ (λ i. items_code (record { locals = locals_is i; tag_slot = slot_is i; structs = structs; raises = far; counters = []; globals = globals; scopes = scopes }) h.body 0 outside_loops (free_is i)) in
+    let known : raises ≡ raises_of structs globals scopes h = raises_is ∙ ap (λ (l : List Instruction). length l) made ∙ same_length (body_alike structs globals scopes h far 0) in
+    let farther = ap (λ (n : ℕ). farthest (body_code (starts_with n structs globals scopes h) h)) known in
+    let body_is : body ≡ body_code (starts_with raises structs globals scopes h) h =
+    turned_alike far raises (body_code (starts_with far structs globals scopes h) h) body (body_code (starts_with raises structs globals scopes h) h) (omega (arith, close, behind, known, farther))
+    (body_alike structs globals scopes h far raises) (subst (λ (l : List Instruction). AreTurned far raises l body) made turned_so) in
     some_blocks body ended all code slot count kept end ended_is all_is kept_is end_is code_is
     ∙ ap (λ (n : ℕ). with_blocks body slot (blocks_kept n)) count_is
     ∙ ap (λ (l : List Instruction). finished_code l raises slot) body_is
-    ∙ (λ i. finished_code (items_code (record { locals = locals_is i; tag_slot = slot_is i; structs = structs; raises = known i; counters = []; globals = globals; scopes = scopes }) h.body 0 outside_loops (free_is i)) (known i) (slot_is i))
+    ∙ (λ i. finished_code (body_code (starts_with (known i) structs globals scopes h) h) (known i) (slot_is i))
 
 -- ---- lists that are lowered element by element
 

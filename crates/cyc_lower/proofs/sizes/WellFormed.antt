@@ -16,6 +16,7 @@ use Rattle.cyc_lower.specs.inside.Slots.{starts_of, global_types}
 use Rattle.cyc_lower.specs.inside.ValueCode.{tag_slot, first_temporary, blocks, slot_types}
 use Rattle.cyc_lower.specs.inside.ControlCode.{outside_loops}
 use Rattle.cyc_lower.specs.inside.Lowering.{types_of, items_code, results_of, lower_function, lower_program, globals_of, scopes_of, function_code, farthest, with_blocks, blocks_kept}
+use Rattle.cyc_lower.specs.inside.Emission.{AreClose}
 use Rattle.cyc_lower.proofs.relation.code.Fitting.{FitItems, AreFitting, IsFitting}
 use Rattle.cyc_lower.specs.inside.Words.{AreOfWordsItems, AreOfWordsFunctions, IsOfWordsProgram}
 use Rattle.cyc_lower.proofs.sizes.WordLemmas.{body_has_no_return}
@@ -23,6 +24,7 @@ use Rattle.cyc_lower.proofs.emission.Lengths.{body_long}
 use Rattle.cyc_lower.proofs.slots.Slots.{slot-room, slot_types-many, slots-few, global_words_counted}
 use Rattle.cyc_lower.proofs.sizes.RangeLemmas.{results_few, IsKnown, AreGlobals, TakesLocal, IsIn, code_in_range, takes_locals, all_cut, blocks_in, blocks_many, end_leaves}
 use Rattle.cyc_lower.proofs.sizes.StatementRanges.{items_in}
+use Rattle.cyc_lower.proofs.sizes.Targets.{functions_close}
 
 -- ---- functions
 
@@ -96,6 +98,10 @@ module _ (source : Program) (is_fitting : IsFitting source) where
   functions_well : (hs : List Function) → AreOfWordsFunctions hs → AreFitting source.structs source.globals (scopes_of source) (signatures_of source.functions) hs → AllByRecursion (IsRoutine (lower_program source)) (map (lower_function source.structs (globals_of source) (scopes_of source)) hs)
   functions_well [] words numbered_all = tt
   functions_well (h ∷ hs) (own, others) (first, rest) = (function_well h own first, functions_well hs others rest)
+
+  -- their code leads no farther than to what stands behind it
+  pub code_close : IsOfWordsProgram source → AreClose source.structs (globals_of source) (scopes_of source) source.functions
+  code_close words = functions_close (lower_program source) source.structs (globals_of source) (scopes_of source) source.functions (functions_well source.functions words.functions is_fitting.functions)
 
   pub well_formed : IsOfWordsProgram source → words_of_all (global_types source.globals) ≤ MOST_GLOBALS → IsWellFormed (lower_program source)
   well_formed words few =

@@ -11,7 +11,7 @@ use Rattle.cyc_types.specs.declared.typed.Clause.{Clause}
 use Rattle.cyc_types.specs.declared.typed.Item.TheVariants as item
 use Rattle.cyc_types.specs.Types.{Ty, words_of}
 use Rattle.cyc_types.specs.TypeView.{view_ty}
-use Rattle.cyc_types.specs.TypedTrees.{Expression, Converted, Convert, Arguments, Operations, ThenCompute, Statement, Clauses, Items, Function, Binary, If, Empty}
+use Rattle.cyc_types.specs.TypedTrees.{StructType, Expression, Converted, Convert, Arguments, Operations, ThenCompute, Statement, Clauses, Items, Function, Binary, If, Empty}
 use Rattle.cyc_types.specs.TypedTreeView.{view_struct, view_expression, view_converted, view_statement, clauses_of, operations_of}
 use Rattle.cyc_plain.specs.declared.instruction.Operand.{Operand}
 use Rattle.cyc_plain.specs.declared.instruction.Operand.TheVariants.{Slot, Word}
@@ -23,7 +23,8 @@ use Rattle.cyc_lower.specs.inside.ValueCode.{code_unless, slot_or, code_unless_s
 use Rattle.cyc_lower.specs.inside.ControlCode.{is_same, deciding_condition, deciding_jump, failing_jump, holding_jump, inside_loop, tag_operand, clause_code, opened_code, named_code, dynamic_code, inside_region, entry_code, looped_code, body_target, null_compared, pointers_failing, through_code}
 use Rattle.cyc_lower.specs.inside.ControlCode.{breaks}
 use Rattle.cyc_lower.specs.inside.ExpressionCode.{operand_of, source_of, source_slot, printed_operand, printed_code, left_of, value_slot, left_slot, value_operand, expression_code, brought_code, are_simple, is_simple}
-use Rattle.cyc_lower.specs.inside.Lowering.{is_guard, first_operand, condition_code, choice_code, choice_of, tests_code, last_condition, branch_code, branch_of, statement_code, declaration_code, condition_of, thrown_operand, thrown_code, caught_code, items_code, clauses_code}
+use Rattle.cyc_lower.specs.inside.Lowering.{is_guard, first_operand, condition_code, choice_code, choice_of, tests_code, last_condition, branch_code, branch_of, statement_code, declaration_code, condition_of}
+use Rattle.cyc_lower.specs.inside.Lowering.{thrown_operand, thrown_code, caught_code, items_code, clauses_code, farthest, body_code, starts_with, raises_of}
 use Rattle.cyc_meaning.specs.FrameCount.{frame_count}
 use Rattle.cyc_plain.specs.declared.instruction.Comparison.{Comparison}
 use Rattle.cyc_plain.specs.declared.instruction.Comparison.TheVariants as comparisons
@@ -264,3 +265,11 @@ free_behind i t = t
 -- the frame of each function has few enough words
 abbrev pub HaveFewWords : List Function → Type 0
 HaveFewWords hs = (n : ℕ) (h : Function) → slice_get hs n ≡ Some h → frame_count h ≤ most_frame_count
+
+-- the code of a function leads no farther than to what stands behind its body
+abbrev pub IsClose : List StructType → (globals : List ℕ) → (scopes : Option ℕ) → Function → Type 0
+IsClose structs globals scopes h =
+    farthest (body_code (starts_with (raises_of structs globals scopes h) structs globals scopes h) h) ≤ raises_of structs globals scopes h + 7
+
+abbrev pub AreClose : List StructType → (globals : List ℕ) → (scopes : Option ℕ) → List Function → Type 0
+AreClose structs globals scopes hs = (n : ℕ) (h : Function) → slice_get hs n ≡ Some h → IsClose structs globals scopes h

@@ -3,7 +3,7 @@
 -- is read on the way. Else it writes to the slots from t on alone. Numbers and locals are operands where they are used.
 --
 -- A value has as many slots as its kind has words, one behind the other, and a global as many words.
-use Rattle.std.specs.Prelude.{ℕ, zero, suc, ◌+◌, Bool, false, List, [], ◌∷◌, ◌++◌, length, map, replicate, ◌-◌, Option, None, Some, true, ◌||◌, ◌&&◌, is_some, if◌then◌else◌, max, take, not}
+use Rattle.std.specs.Prelude.{◌≡◌, ◌<◌, ◌≤◌, ℕ, zero, suc, ◌+◌, Bool, false, List, [], ◌∷◌, ◌++◌, length, map, replicate, ◌-◌, Option, None, Some, true, ◌||◌, ◌&&◌, is_some, if◌then◌else◌, max, take, not}
 use Rattle.std.specs.List.{list_any}
 use Rattle.cyc_words.specs.declared.span.Span.{Span}
 use Rattle.cyc_syntax.specs.Symbols.{Place}
@@ -282,7 +282,7 @@ starts_with raises structs globals scopes h = record { locals = starts_from 0 (s
 abbrev pub body_code : Starts → Function → List Instruction
 body_code starts h = items_code starts h.body 0 outside_loops (first_temporary h)
 
--- Blocks stand behind the code. How long that is does not depend on where they stand: so it is made twice, and at first for any place.
+-- Blocks stand behind the code. How long that is does not depend on where they stand: so it is made for a place far away, and led to them then.
 abbrev pub raises_of : List StructType → (globals : List ℕ) → (scopes : Option ℕ) → Function → ℕ
 raises_of structs globals scopes h = length (body_code (starts_with 0 structs globals scopes h) h)
 
@@ -300,6 +300,21 @@ target_of i = 0
 abbrev pub farthest : List Instruction → ℕ
 farthest [] = 0
 farthest (i ∷ is) = max (target_of i) (farthest is)
+
+-- an instruction that leads behind one place leads as far behind another
+abbrev pub turned : (far near : ℕ) → Instruction → Instruction
+turned far near (instructions.Jump target) = instructions.Jump (target - far + near)
+turned far near (instructions.Branch comparison left right target) = instructions.Branch comparison left right (target - far + near)
+turned far near i = i
+
+-- it does so where it leads behind the one, and else it is the same
+abbrev pub IsTurned : (far near : ℕ) → (i j : Instruction) → Type 0
+IsTurned far near i j = (far < target_of i → j ≡ turned far near i) × (target_of i ≤ far → j ≡ i)
+
+abbrev pub AreTurned : (far near : ℕ) → (old new : List Instruction) → Type 0
+AreTurned far near [] new = new ≡ []
+AreTurned far near (i ∷ old) [] = ⊥
+AreTurned far near (i ∷ old) (j ∷ new) = IsTurned far near i j × AreTurned far near old new
 
 -- A body's code ends in a return, which is the end of a void function. In any other it is never reached, and stands there so that no
 -- code runs off its end. Behind it stand blocks, so many of them.

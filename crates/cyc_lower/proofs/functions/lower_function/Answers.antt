@@ -1,45 +1,22 @@
-use Rattle.std.proofs.Common.{◌≡◌, ℕ, ◌+◌, ◌-◌, List, map, ap, ◌∙◌, arith, []}
-use Rattle.cyc_types.specs.declared.typed.Item.{Item}
+use Rattle.std.proofs.Common.{◌≡◌, ℕ, ◌+◌, ◌-◌, ◌≤◌, List, map, ap, ◌∙◌, arith, []}
+use Rattle.cyc_types.specs.TypedTreeView.{view_struct, view_function}
 use Rattle.cyc_types.specs.TypeView.{view_ty}
-use Rattle.cyc_types.specs.TypedTreeView.{view_struct, view_function, items_of}
 use Rattle.cyc_types.specs.declared.ty.Ty.{Ty}
-use Rattle.cyc_meaning.specs.FrameCount.{items_need, kept_by_items, words_of_all}
+use Rattle.cyc_meaning.specs.FrameCount.{items_need, kept_by_items, words_of_all, frame_count}
 use Rattle.cyc_lower.specs.inside.ValueCode.{first_temporary}
 use Rattle.cyc_lower.specs.inside.ControlCode.{outside_loops}
 use Rattle.cyc_lower.specs.inside.Lowering.{function_code, items_code, blocks_kept, span_of_place}
+use Rattle.cyc_lower.proofs.slots.Slots.{slots-few}
 use Rattle.cyc_lower.proofs.sizes.Routines.{few_locals, function_made}
 use Rattle.cyc_lower.proofs.functions.lower_function.Goals as goal
 
 pub lower_body-requires : goal.lower_body-requires
-lower_body-requires c = omega (arith, (few_locals c.args.function.now c.requires).1, c.in_ok-locals.ensures.2)
-
-pub lower_body-requires-2 : goal.lower_body-requires-2
-lower_body-requires-2 c = omega (arith, (few_locals c.args.function.now c.requires).1, c.in_ok-locals.ensures.2)
+lower_body-requires c = omega (arith, (few_locals c.args.function.now c.requires.few).1, c.in_ok-locals.ensures.2)
 
 pub words_of_all-requires : goal.words_of_all-requires
 words_of_all-requires c =
-    let parameters = ap (λ (ts : List Ty). words_of_all (map view_ty ts)) c.deref-3.ensures.value in
-    omega (arith, c.requires, parameters)
-
-pub overflow_add-result : goal.overflow_add-result
-overflow_add-result c =
-    let f = c.args.function.now in
-    let kept = ap (λ (js : List Item). kept_by_items (items_of js)) c.deref-4.ensures.value in
-    omega (arith, (few_locals f c.requires).1, c.in_ok-locals.ensures.2, c.requires, kept, c.kept_by_items.ensures)
-
-pub overflow_add-result-2 : goal.overflow_add-result-2
-overflow_add-result-2 c =
-    let f = c.args.function.now in
-    let kept = ap (λ (js : List Item). kept_by_items (items_of js)) c.deref-4.ensures.value in
-    let body = ap (λ (js : List Item). items_need (items_of js)) c.deref-5.ensures.value in
-    omega (arith, (few_locals f c.requires).1, c.in_ok-locals.ensures.2, c.requires, kept, c.kept_by_items.ensures, body, c.items_need.ensures)
-
-pub overflow_add-result-3 : goal.overflow_add-result-3
-overflow_add-result-3 c =
-    let f = c.args.function.now in
-    let kept = ap (λ (js : List Item). kept_by_items (items_of js)) c.deref-4.ensures.value in
-    let body = ap (λ (js : List Item). items_need (items_of js)) c.deref-5.ensures.value in
-    omega (arith, (few_locals f c.requires).1, c.in_ok-locals.ensures.2, c.requires, kept, c.kept_by_items.ensures, body, c.items_need.ensures)
+    let parameters = ap (λ (ts : List Ty). words_of_all (map view_ty ts)) c.deref-2.ensures.value in
+    omega (arith, c.requires.few, parameters)
 
 pub returns : goal.returns
 returns c =
@@ -50,23 +27,22 @@ returns c =
     let scopes = c.args.scopes in
     let slot = c.in_ok-locals.tag_slot in
     let free = c.in_ok-locals.free in
+    let far : ℕ = 9223372036854775816 in
     let raises = c.place-raises.result in
-    let parameters : c.words_of_all.result ≡ words_of_all h.parameters = c.words_of_all.ensures ∙ ap (λ (ts : List Ty). words_of_all (map view_ty ts)) c.deref-3.ensures.value in
-    let body = ap (λ (js : List Item). items_need (items_of js)) c.deref-5.ensures.value in
-    let kept = ap (λ (js : List Item). kept_by_items (items_of js)) c.deref-4.ensures.value in
-    let slots : free + c.kept_by_items.result + c.items_need.result + 3 ≡ first_temporary h + kept_by_items h.body + items_need h.body + 3 = omega (arith, c.in_ok-locals.ensures.2, c.kept_by_items.ensures, kept, c.items_need.ensures, body) in
+    let v = c.in_ok-emitter.emitter.code in
+    let parameters : c.words_of_all.result ≡ words_of_all h.parameters = c.words_of_all.ensures ∙ ap (λ (ts : List Ty). words_of_all (map view_ty ts)) c.deref-2.ensures.value in
+    let slots : c.frame_count-words.result - 24 + 1 + 3 ≡ first_temporary h + kept_by_items h.body + items_need h.body + 3 = omega (arith, c.frame_count-words.ensures, slots-few h) in
     let code : c.take_back.new.self.code.items ≡ function_code structs globals scopes h =
-    function_made structs globals scopes h c.in_ok-locals.locals.items slot free raises (c.place.result + c.blocks_kept-count.result) c.saturating_sub.result c.blocks_kept-count.result c.in_ok-lower_body.field-0.code.items c.in_ok-emitter.emitter.code.items c.emit.new.self.code.items c.lower_blocks.new.self.code.items c.take_back.new.self.code.items
+    function_made structs globals scopes h c.in_ok-locals.locals.items slot free far raises (c.place.result + c.blocks_kept-count.result) c.saturating_sub.result c.blocks_kept-count.result c.in_ok-emitter.emitter.code.items c.settle.new.self.code.items c.emit.new.self.code.items c.lower_blocks.new.self.code.items c.take_back.new.self.code.items
     c.in_ok-locals.ensures.0 c.in_ok-locals.ensures.1 c.in_ok-locals.ensures.2
-    (c.in_ok-lower_body.ensures ∙ ap (λ (l : List ℕ). items_code (record { locals = l; tag_slot = slot; structs = structs; raises = 0; counters = []; globals = globals; scopes = scopes }) h.body 0 outside_loops free) c.deref.ensures.value)
-    c.place-raises.ensures
-    (c.in_ok-emitter.ensures ∙ ap (λ (l : List ℕ). items_code (record { locals = l; tag_slot = slot; structs = structs; raises = raises; counters = []; globals = globals; scopes = scopes }) h.body 0 outside_loops free) c.deref-2.ensures.value)
+    (c.in_ok-emitter.ensures ∙ ap (λ (l : List ℕ). items_code (record { locals = l; tag_slot = slot; structs = structs; raises = far; counters = []; globals = globals; scopes = scopes }) h.body 0 outside_loops free) c.deref.ensures.value)
+    c.place-raises.ensures c.settle.ensures c.requires.close (omega (arith, c.place-raises.ensures, v.ok.0, v.ok.1, v.small))
     (c.saturating_sub.ensures ∙ ap (λ (n : ℕ). n - raises) c.farthest.ensures) (c.blocks_kept-count.ensures ∙ ap blocks_kept c.min.ensures) c.in_ok-emit.ensures (ap (λ (n : ℕ). n + c.blocks_kept-count.result) c.place.ensures) c.in_ok-lower_blocks.ensures c.take_back.ensures in
     λ i. record {
       name = span_of_place h.place;
       parameters = parameters i;
       results = c.results_of.ensures i;
       slots = slots i;
-      frame_count = c.frame_count.ensures i;
+      frame_count = c.frame_count-words.ensures i;
       code = code i;
     }

@@ -6,10 +6,15 @@ use Rattle.cyc_lower.specs.inside.Lowering.{lower_function}
 use Rattle.cyc_lower.proofs.sizes.Routines.{one_more_mapped}
 use Rattle.cyc_lower.proofs.functions.lower_functions.Goals as goal
 
-pub lower_function-requires : goal.lower_function-requires
-lower_function-requires c =
+pub lower_function-requires-clause-few : goal.lower_function-requires-clause-few
+lower_function-requires-clause-few c =
     let x = c.function-item.result in
-    c.requires c.loop-function.function-index (view_function x) (slice_get-map_read view_function c.args.functions.now c.loop-function.function-index x c.loop-function-test.true c.function-item.is)
+    c.requires.few c.loop-function.function-index (view_function x) (slice_get-map_read view_function c.args.functions.now c.loop-function.function-index x c.loop-function-test.true c.function-item.is)
+
+pub lower_function-requires-clause-close : goal.lower_function-requires-clause-close
+lower_function-requires-clause-close c =
+    let x = c.function-item.result in
+    c.requires.close c.loop-function.function-index (view_function x) (slice_get-map_read view_function c.args.functions.now c.loop-function.function-index x c.loop-function-test.true c.function-item.is)
 
 pub loop-function-preserved : goal.loop-function-preserved
 loop-function-preserved c =

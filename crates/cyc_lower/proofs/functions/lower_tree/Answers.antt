@@ -9,13 +9,26 @@ use Rattle.cyc_plain.specs.inside.WellFormed.{IsPlain}
 use Rattle.cyc_meaning.specs.FrameCount.{words_of_all}
 use Rattle.cyc_lower.specs.inside.Slots.{starts_from, global_types}
 use Rattle.cyc_lower.specs.inside.Lowering.{lower_function, lower_globals, globals_of, lower_program, may_open, scopes_if, scopes_of}
-use Rattle.cyc_lower.proofs.sizes.Lowerings.{is_plain}
+use Rattle.cyc_lower.specs.inside.Emission.{AreClose}
+use Rattle.cyc_lower.proofs.sizes.Lowerings.{is_plain, closely_lowered}
 use Rattle.cyc_lower.proofs.functions.lower_tree.Goals as goal
 
 pub starts_of_globals-requires : goal.starts_of_globals-requires
 starts_of_globals-requires c =
     let globals = ap (λ (gs : List Global). words_of_all (global_types (map view_global gs))) c.deref.ensures.value in
     omega (arith, globals, c.requires.can_be.few_globals)
+
+pub lower_functions-requires-clause-close : goal.lower_functions-requires-clause-close
+lower_functions-requires-clause-close c =
+    let source = view_program c.args.tree.now in
+    let starts : c.in_ok-starts.starts.items ≡ globals_of source = c.in_ok-starts.ensures ∙ ap (λ (gs : List Global). starts_from 0 (global_types (map view_global gs))) c.deref.ensures.value in
+    let scopes : c.scopes_of-scopes.result ≡ scopes_of source
+    = c.scopes_of-scopes.ensures ∙ ap (λ (fs : List Function). scopes_if (list_any may_open (map view_function fs))) c.deref-3.ensures.value in
+    subst (λ (ss : List StructType). AreClose (map view_struct ss) c.deref-5.result.now c.scopes_of-scopes.result (map view_function c.deref-6.result.now)) (sym c.deref-4.ensures.value)
+    (subst (λ (l : List ℕ). AreClose source.structs l c.scopes_of-scopes.result (map view_function c.deref-6.result.now)) (sym (c.deref-5.ensures.value ∙ starts))
+    (subst (λ (o : Option ℕ). AreClose source.structs (globals_of source) o (map view_function c.deref-6.result.now)) (sym scopes)
+    (subst (λ (fs : List Function). AreClose source.structs (globals_of source) (scopes_of source) (map view_function fs)) (sym c.deref-6.ensures.value)
+    (closely_lowered source c.requires.well_typed c.requires.can_be))))
 
 pub new-requires : goal.new-requires
 new-requires c =
