@@ -8,8 +8,8 @@ ghost use Rattle.cyc_select.specs.inside.Slots.{coming, arrival_count, way_count
 ghost use Rattle.cyc_select.specs.inside.Operands.{reload_count, moves_count, operator_count};
 ghost use Rattle.cyc_select.specs.inside.Passing.{spill_count, spills_count, pass_count, copies_count};
 ghost use Rattle.cyc_select.specs.inside.Hoisting.{is_idle};
-ghost use Rattle.cyc_select.specs.inside.Counts.{move_words_count, ending_count, body_count, behind_count, count_of, code_count, function_count};
-ghost use Rattle.cyc_select.specs.inside.Emission.{AreFew, most_lines, instruction_lines, function_starts};
+ghost use Rattle.cyc_select.specs.inside.Counts.{move_words_count, ending_count, body_count, behind_count, count_of, code_count, function_line};
+ghost use Rattle.cyc_select.specs.inside.Emission.{AreFew, AreNumbered, most_lines, instruction_lines, lines_in};
 
 use crate::asking::ask_count;
 use crate::constants::START_LINES;
@@ -22,6 +22,7 @@ use crate::operands::{
 };
 use crate::operators::{Parts, is_tested, plan_count};
 use crate::plan::{binary_plan, test_of, unary_plan};
+use crate::tables::FunctionLines;
 use cyc_frame::Frame;
 use cyc_plain::{
     BinaryOperator, GREATEST_VALUE, Instruction, MOST_FRAME_WORDS, MOST_SIZE, Operand, Plain,
@@ -353,79 +354,100 @@ fn count_of(
     }
 }
 
-/// The lines of a function's code.
-fn code_count(plain: &Plain, frames: &[Frame], function: usize, code: &[Instruction]) -> usize
-    requires fit { AreFrames plain.now frames.now }
-    requires function { function < length plain.now.functions }
-    requires few { AreFew plain.now }
-    requires in_range { All (IsInRange plain.now (routine_at plain.now function)) code.now }
-    requires small { sum_by instruction_size code.now ≤ MOST_SIZE }
-    ensures value { result ≡ code_count plain.now frames.now function 0 code.now }
-    ensures small { result ≤ sum_by instruction_size code.now }
-{
-    let mut lines = 0;
-    for index in 0..code.len() {
-        lines += count_of(plain, frames, function, index, code[index]);
-    }
-    lines
-}
-
-/// The lines of a function.
-fn function_count(plain: &Plain, frames: &[Frame], function: usize, code: &[Instruction]) -> usize
-    requires fit { AreFrames plain.now frames.now }
-    requires function { function < length plain.now.functions }
-    requires few { AreFew plain.now }
-    requires in_range { All (IsInRange plain.now (routine_at plain.now function)) code.now }
-    requires small { sum_by instruction_size code.now ≤ MOST_SIZE }
-    requires code { code.now ≡ (routine_at plain.now function).code }
-    ensures value { result ≡ function_count plain.now frames.now function (routine_at plain.now function) }
-    ensures small { result ≤ size (routine_at plain.now function) }
-{
-    saving_count(frame_in(plain, frames, function)) + code_count(plain, frames, function, code)
+/// The numbers of the first lines of a function's instructions, and that of the line behind its last one.
+#[derive(Drop)]
+struct Counted {
+    lines: Vec<usize>,
+    behind: usize,
 }
 
 /// The number of the first line of each instruction of a function's code, where the first one has this.
-pub(crate) fn instruction_lines(
+fn instruction_lines(
     alloc: Global,
     plain: &Plain,
     frames: &[Frame],
     function: usize,
     first: usize,
     code: &[Instruction],
-) -> Result<Vec<usize>, AllocError>
+) -> Result<Counted, AllocError>
     requires fit { AreFrames plain.now frames.now }
     requires function { function < length plain.now.functions }
     requires few { AreFew plain.now }
     requires in_range { All (IsInRange plain.now (routine_at plain.now function)) code.now }
     requires small { sum_by instruction_size code.now ≤ MOST_SIZE }
     requires fits { first + sum_by instruction_size code.now ≤ most_lines + 2 * MOST_SAVED + 1 }
-    ensures { IfOk result (λ lines. lines.items ≡ instruction_lines plain.now frames.now function 0 first code.now) }
+    ensures lines { IfOk result (λ counted. counted.lines.items ≡ instruction_lines plain.now frames.now function 0 first code.now) }
+    ensures behind { IfOk result (λ counted. counted.behind ≡ first + code_count plain.now frames.now function 0 code.now) }
 {
-    let mut lines = Vec::new(alloc);
+    let mut lines = Vec::with_capacity(alloc, code.len())?;
     let mut here = first;
     for index in 0..code.len() {
         lines.push(here)?;
         here += count_of(plain, frames, function, index, code[index]);
     }
-    Ok(lines)
+    Ok(Counted {
+        lines,
+        behind: here,
+    })
 }
 
-/// The number of the first line of each function.
-pub(crate) fn function_starts(
+/// Where the lines of a function begin whose first one has this number, and the number of the line behind its last one.
+fn function_lines(
     alloc: Global,
     plain: &Plain,
     frames: &[Frame],
-) -> Result<Vec<usize>, AllocError>
+    function: usize,
+    here: usize,
+) -> Result<Counted, AllocError>
+    requires plain { IsPlain plain.now }
+    requires fit { AreFrames plain.now frames.now }
+    requires function { function < length plain.now.functions }
+    requires here { here ≡ function_line plain.now frames.now function }
+    ensures lines { IfOk result (λ counted. counted.lines.items ≡ lines_in plain.now frames.now function) }
+    ensures behind { IfOk result (λ counted. counted.behind ≡ function_line plain.now frames.now (function + 1)) }
+{
+    let first = here + saving_count(frame_in(plain, frames, function));
+    instruction_lines(
+        alloc,
+        plain,
+        frames,
+        function,
+        first,
+        code_of(plain, function),
+    )
+}
+
+/// Where the lines of each function begin, and the number of the line behind the last one.
+#[derive(Drop)]
+pub(crate) struct Numbered {
+    pub(crate) functions: Vec<FunctionLines>,
+    pub(crate) behind: usize,
+}
+
+/// Where the lines of each function begin. Each instruction's lines are counted here, and nowhere again.
+pub(crate) fn number_lines(
+    alloc: Global,
+    plain: &Plain,
+    frames: &[Frame],
+) -> Result<Numbered, AllocError>
     requires { AreFrames plain.now frames.now }
-    ensures starts { IfOk result (λ starts. starts.items ≡ function_starts plain.now frames.now 0 START_LINES plain.now.functions) }
+    ensures lines { IfOk result (λ numbered. AreNumbered plain.now frames.now (length plain.now.functions) numbered.functions.items) }
+    ensures behind { IfOk result (λ numbered. numbered.behind ≡ function_line plain.now frames.now (length plain.now.functions)) }
     ensures plain { IfOk result (λ _. IsPlain plain.now) }
 {
-    let mut starts = Vec::new(alloc);
+    let count = plain.functions().len();
+    let mut functions = Vec::with_capacity(alloc, count)?;
     let mut here = START_LINES;
-    for function in plain.functions() {
-        let lines = function_count(plain, frames, starts.len(), &function.code);
-        starts.push(here)?;
-        here += lines;
+    for function in 0..count {
+        let counted = function_lines(alloc, plain, frames, function, here)?;
+        functions.push(FunctionLines {
+            first: here,
+            lines: counted.lines,
+        })?;
+        here = counted.behind;
     }
-    Ok(starts)
+    Ok(Numbered {
+        functions,
+        behind: here,
+    })
 }

@@ -1,5 +1,5 @@
 //! Lines that are being made.
-ghost use Rattle.std.specs.Prelude.{◌≡◌, [], ◌∷◌, OnOk};
+ghost use Rattle.std.specs.Prelude.{◌≡◌, [], ◌∷◌, IfOk, OnOk};
 ghost use Rattle.cyc_isa.specs.Decoding.{register_of};
 ghost use Rattle.cyc_select.specs.declared.code.Condition.TheVariants as conditions;
 ghost use Rattle.cyc_select.specs.declared.code.Line.TheVariants as lines;
@@ -18,12 +18,13 @@ pub(crate) struct Emitter {
 }
 
 impl Emitter {
-    pub(crate) fn new(alloc: Global) -> Emitter
-        ensures { result.lines.items ≡ [] }
+    /// No lines yet, with room for so many.
+    pub(crate) fn new(alloc: Global, room: usize) -> Result<Emitter, AllocError>
+        ensures { IfOk result (λ emitter. emitter.lines.items ≡ []) }
     {
-        Emitter {
-            lines: Vec::new(alloc),
-        }
+        Ok(Emitter {
+            lines: Vec::with_capacity(alloc, room)?,
+        })
     }
 
     /// One line more.

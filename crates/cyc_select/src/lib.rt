@@ -21,4 +21,5 @@ mod selection;
 mod tables;
 
 pub use code::{Code, Condition, Line};
-pub use selection::{FunctionLines, lines_of, select};
+pub use selection::{lines_of, select};
+pub use tables::FunctionLines;

@@ -3,6 +3,7 @@ ghost use Rattle.std.specs.Prelude.{◌≡◌, ℕ, ◌+◌, ◌<◌, ◌≤◌,
 ghost use Rattle.cyc_plain.specs.inside.Program.{routine_at};
 ghost use Rattle.cyc_plain.specs.inside.WellFormed.{IsPlain};
 ghost use Rattle.cyc_frame.specs.inside.Layout.{AreFrames, frame_at};
+ghost use Rattle.cyc_select.specs.declared.constants.TheConstants.{START_LINES};
 ghost use Rattle.cyc_words.specs.Fault.{memory_fault};
 ghost use Rattle.cyc_select.specs.inside.Selected.{IsCodeOf};
 ghost use Rattle.cyc_select.specs.inside.Slots.{saving_count};
@@ -11,12 +12,12 @@ ghost use Rattle.cyc_select.specs.inside.Selection.{routine_lines, start_code, c
 ghost use Rattle.cyc_select.specs.inside.Emission.{AddsLines, IsKnown, IsReady};
 
 use crate::code::{Code, Line};
-use crate::constants::{FRAME, FRAME_SHIFT, GLOBALS, GLOBALS_MIDDLE, LOWEST, START_LINES};
-use crate::counting::{frame_in, function_starts, instruction_lines, saving_count};
+use crate::constants::{FRAME, FRAME_SHIFT, GLOBALS, GLOBALS_MIDDLE, LOWEST};
+use crate::counting::{frame_in, number_lines};
 use crate::emitter::Emitter;
 use crate::instructions::{load_upper, or_lower, push_frame};
 use crate::operators::{arithmetic, shift_by};
-use crate::tables::{Ready, Tables};
+use crate::tables::{FunctionLines, Ready, Tables};
 use cyc_frame::Frames;
 use cyc_isa::{ArithmeticOp, ShiftOp};
 use cyc_machine::constants::ARGUMENT;
@@ -53,12 +54,7 @@ impl Emitter {
     }
 
     /// The lines of a function.
-    fn function(
-        &mut self,
-        alloc: Global,
-        program: &Ready,
-        function: usize,
-    ) -> Result<(), AllocError>
+    fn function(&mut self, program: &Ready, function: usize) -> Result<(), AllocError>
         requires ready { IsReady program.now }
         requires function { function < length program.now.plain.now.functions }
         ensures { AddsLines result self.old self.new (routine_lines program.now.plain.now program.now.frames.now function (function_line program.now.plain.now program.now.frames.now function) (routine_at program.now.plain.now function)) }
@@ -66,13 +62,11 @@ impl Emitter {
         let routine = program.plain.function(function);
         let code = &routine.code;
         let frame = frame_in(program.plain, program.frames, function);
-        let first = program.starts[function] + saving_count(frame);
-        let lines = instruction_lines(alloc, program.plain, program.frames, function, first, code)?;
         let tables = Tables {
             plain: program.plain,
             frames: program.frames,
-            starts: program.starts,
-            lines: &lines,
+            functions: program.functions,
+            lines: &program.functions[function].lines,
             function,
         };
         self.saving(frame)?;
@@ -80,45 +74,16 @@ impl Emitter {
     }
 
     /// The lines of all functions.
-    fn functions(&mut self, alloc: Global, program: &Ready) -> Result<(), AllocError>
+    fn functions(&mut self, program: &Ready) -> Result<(), AllocError>
         requires { IsReady program.now }
         ensures { AddsLines result self.old self.new (function_lines program.now.plain.now program.now.frames.now 0 START_LINES program.now.plain.now.functions) }
     {
         let count = program.plain.functions().len();
         for function in 0..count {
-            self.function(alloc, program, function)?;
+            self.function(program, function)?;
         }
         Ok(())
     }
-}
-
-/// Where the lines of a function begin.
-#[derive(Drop)]
-pub struct FunctionLines {
-    /// The number of the first one.
-    pub first: usize,
-    /// The number of the first line of each instruction, or of what comes behind where one has none.
-    pub lines: Vec<usize>,
-}
-
-/// Where the lines of a function begin.
-fn lines_of_function(
-    alloc: Global,
-    program: &Ready,
-    function: usize,
-) -> Result<FunctionLines, AllocError>
-    requires ready { IsReady program.now }
-    requires function { function < length program.now.plain.now.functions }
-    ensures first { IfOk result (λ l. l.first ≡ function_line program.now.plain.now program.now.frames.now function) }
-{
-    let code = &program.plain.function(function).code;
-    let saving = saving_count(frame_in(program.plain, program.frames, function));
-    let first = program.starts[function] + saving;
-    let lines = instruction_lines(alloc, program.plain, program.frames, function, first, code)?;
-    Ok(FunctionLines {
-        first: program.starts[function],
-        lines,
-    })
 }
 
 /// Where the lines of each function of a plain program begin, in the code that `select` gives.
@@ -130,18 +95,8 @@ pub fn lines_of(
     requires { AreFrames plain.now frames.now }
     ensures { IfOk result (λ lines. length lines.items ≡ length plain.now.functions) }
 {
-    let frames = frames.as_slice();
-    let starts = function_starts(alloc, plain, frames)?;
-    let program = Ready {
-        plain,
-        frames,
-        starts: &starts,
-    };
-    let mut lines = Vec::new(alloc);
-    for function in 0..plain.functions().len() {
-        lines.push(lines_of_function(alloc, &program, function)?)?;
-    }
-    Ok(lines)
+    let numbered = number_lines(alloc, plain, frames.as_slice())?;
+    Ok(numbered.functions)
 }
 
 /// The code, where memory suffices.
@@ -151,19 +106,16 @@ fn selected(alloc: Global, plain: &Plain, frames: &Frames) -> Result<Code, Alloc
     ensures plain { IfOk result (λ _. IsPlain plain.now) }
 {
     let frames = frames.as_slice();
-    let starts = function_starts(alloc, plain, frames)?;
+    let numbered = number_lines(alloc, plain, frames)?;
     let globals = Vec::from_slice(alloc, plain.globals())?;
     let main = plain.main();
-    let mut emitter = Emitter::new(alloc);
-    emitter.start(starts[main])?;
-    emitter.functions(
-        alloc,
-        &Ready {
-            plain,
-            frames,
-            starts: &starts,
-        },
-    )?;
+    let mut emitter = Emitter::new(alloc, numbered.behind)?;
+    emitter.start(numbered.functions[main].first)?;
+    emitter.functions(&Ready {
+        plain,
+        frames,
+        functions: &numbered.functions,
+    })?;
     Ok(Code::new(emitter.lines, globals))
 }
 

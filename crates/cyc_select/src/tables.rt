@@ -11,12 +11,21 @@ use crate::counting::{frame_in, results_of};
 use cyc_frame::Frame;
 use cyc_plain::{GREATEST_VALUE, MOST_FRAME_WORDS, Plain};
 
-/// A program, its functions' frames, and the number of the first line of each function.
+/// Where the lines of a function begin.
+#[derive(Drop)]
+pub struct FunctionLines {
+    /// The number of the first one.
+    pub first: usize,
+    /// The number of the first line of each instruction, or of what comes behind where one has none.
+    pub lines: Vec<usize>,
+}
+
+/// A program, its functions' frames, and where the lines of each function begin.
 #[derive(Clone, Copy)]
 pub(crate) struct Ready<'a> {
     pub(crate) plain: &'a Plain,
     pub(crate) frames: &'a [Frame],
-    pub(crate) starts: &'a [usize],
+    pub(crate) functions: &'a [FunctionLines],
 }
 
 /// A function of a program, and what its lines name besides it.
@@ -24,8 +33,8 @@ pub(crate) struct Ready<'a> {
 pub(crate) struct Tables<'a> {
     pub(crate) plain: &'a Plain,
     pub(crate) frames: &'a [Frame],
-    /// The number of the first line of each function.
-    pub(crate) starts: &'a [usize],
+    /// Where the lines of each function begin.
+    pub(crate) functions: &'a [FunctionLines],
     /// The number of the first line of each instruction of the function.
     pub(crate) lines: &'a [usize],
     pub(crate) function: usize,
@@ -53,7 +62,7 @@ impl<'a> Tables<'a> {
         requires function { function < length self.now.plain.now.functions }
         ensures { result ≡ function_line self.now.plain.now self.now.frames.now function }
     {
-        self.starts[function]
+        self.functions[function].first
     }
 
     /// The number of the first line of an instruction.

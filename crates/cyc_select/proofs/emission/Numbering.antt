@@ -2,8 +2,8 @@
 use Rattle.std.proofs.Common.{◌≡◌, ℕ, zero, suc, ◌+◌, ◌<◌, ◌≤◌, Bool, true, false, List, [], ◌∷◌, ◌++◌, length, drop, take, Some, slice_get, refl, sym, ap, subst, ◌∙◌, inl, inr, arith}
 use Rattle.std.specs.Prelude.{sum_by, slice_index_or, if◌then◌else◌, ◌||◌}
 use Rattle.std.proofs.lemmas.Bool.{cases_lt}
-use Rattle.std.proofs.lemmas.List.{drop_more, get_or_past}
-use Rattle.std.proofs.lemmas.Option.{get_or_from_slice_get}
+use Rattle.std.proofs.lemmas.List.{drop_more, get_or_past, length_push}
+use Rattle.std.proofs.lemmas.Option.{get_or_from_slice_get, slice_get-get_or}
 use Rattle.std.proofs.lemmas.List.Sums.{sum_by-cons, sum_by-drop_more, sum_by-take-drop}
 use Rattle.cyc_plain.specs.declared.instruction.BinaryOperator.{BinaryOperator}
 use Rattle.cyc_plain.specs.declared.instruction.BinaryOperator.TheVariants as binary
@@ -11,7 +11,7 @@ use Rattle.cyc_plain.specs.declared.instruction.Instruction.{Instruction}
 use Rattle.cyc_plain.specs.declared.instruction.Instruction.TheVariants as plain
 use Rattle.cyc_plain.specs.inside.Requests.{second_operand, answer_count, destination_of}
 use Rattle.cyc_plain.specs.inside.Program.{Program, Routine, no_routine, routine_at, operator_size, instruction_size, size}
-use Rattle.cyc_plain.specs.inside.WellFormed.{IsCallInRange, IsRoutine, IsWellFormed}
+use Rattle.cyc_plain.specs.inside.WellFormed.{IsCallInRange, IsRoutine, IsWellFormed, IsPlain}
 use Rattle.cyc_plain.specs.declared.limits.TheConstants.{GREATEST_VALUE, MOST_SIZE, MOST_FRAME_WORDS}
 use Rattle.cyc_registers.specs.inside.Interference.{AreHomes, saved_count}
 use Rattle.cyc_frame.specs.inside.Layout.{IsFrame, AreFrames, frame_at, loses, loses_any, returns, returns_any}
@@ -23,8 +23,10 @@ use Rattle.cyc_select.specs.inside.Hoisting.{is_idle, hoisted}
 use Rattle.cyc_select.specs.inside.Counts.{ending_count, body_count, behind_count, count_of, code_count, function_count, functions_count, function_line, instruction_line}
 use Rattle.cyc_select.specs.inside.Selection.{behind, place_lines, code_lines, function_lines, routine_lines}
 use Rattle.cyc_select.specs.inside.Plans.{test_of}
-use Rattle.cyc_select.specs.inside.Emission.{AreReached, AreFew, most_lines, instruction_lines, function_starts, AreReady, AreTables}
+use Rattle.cyc_select.specs.inside.Emission.{AreReached, AreFew, most_lines, instruction_lines, lines_in, IsNumbered, AreNumbered, AreReady, AreTables}
+use Rattle.cyc_select.specs.declared.tables.FunctionLines.{FunctionLines}
 use Rattle.cyc_words.proofs.Lists.{slice_get_below}
+use Rattle.cyc_words.proofs.Items.{slice_get_last_cases}
 use Rattle.cyc_select.proofs.layout.Lines.{line_next}
 use Rattle.cyc_select.proofs.emission.Counts.{move_small, move_words_small, spills_few, copies_few, give_small, keep_few, argument_small, regions_small, gives_small, word_small, load_small, operand_small, address_small, unary_small, test_small, operator_small, reach_few, hoisted_few}
 
@@ -255,32 +257,38 @@ lines_at program frames function index here (i ∷ code) zero d below = omega ar
 lines_at program frames function index here (i ∷ code) (suc k) d below =
     omega (arith, lines_at program frames function (suc index) (here + count_of program frames function index i) code k d (omega arith))
 
-pub starts_length : (program : Program) (frames : List Frame) (function here : ℕ) (routines : List Routine) → length (function_starts program frames function here routines) ≡ length routines
-starts_length program frames function here [] = refl
-starts_length program frames function here (r ∷ routines) = ap suc (starts_length program frames (suc function) (here + function_count program frames function r) routines)
+-- one function's lines more
+pub numbered_more : (program : Program) (frames : List Frame) (k : ℕ) (functions : List FunctionLines) (its : FunctionLines) → AreNumbered program frames k functions → IsNumbered program frames k its
+    → AreNumbered program frames (k + 1) (functions ++ its ∷ [])
+numbered_more program frames k functions its are one = record {
+  as_many = omega (arith, length_push functions its, are.as_many);
+  each = λ j other at. elim (slice_get_last_cases functions its j other at) [
+    | inl before ↦ are.each j other before
+    | inr last ↦
+        let here : k ≡ j = omega (arith, last.0, are.as_many) in
+        subst (λ (n : ℕ). IsNumbered program frames n other) here (subst (IsNumbered program frames k) (sym last.1) one)
+  ];
+}
 
-pub starts_at : (program : Program) (frames : List Frame) (function here : ℕ) (routines : List Routine) (k d : ℕ) → k < length routines
-    → slice_index_or (function_starts program frames function here routines) k d ≡ here + functions_count program frames function (take k routines)
-starts_at program frames function here [] k d below = absurd (omega arith)
-starts_at program frames function here (r ∷ routines) zero d below = omega arith
-starts_at program frames function here (r ∷ routines) (suc k) d below =
-    omega (arith, starts_at program frames (suc function) (here + function_count program frames function r) routines k d (omega arith))
+pub numbered_at : {program : Program} {frames : List Frame} {count : ℕ} {functions : List FunctionLines} → AreNumbered program frames count functions → (k : ℕ) (d : FunctionLines) → k < count
+    → IsNumbered program frames k (slice_index_or functions k d)
+numbered_at {program} {frames} {count} {functions} are k d below = are.each k (slice_index_or functions k d) (slice_get-get_or functions k d (omega (arith, below, are.as_many)))
 
-module _ {program : Program} {frames : List Frame} {starts : List ℕ} (ready : AreReady program frames starts) where
-  pub ready_starts : length starts ≡ length program.functions
-  ready_starts = ap length ready.starts_are ∙ starts_length program frames 0 START_LINES program.functions
+pub routine_is_small : (program : Program) → IsPlain program → (k : ℕ) → k < length program.functions → size (routine_at program k) ≤ MOST_SIZE
+routine_is_small program plain k below =
+    omega (arith, plain.small, sum_by-drop_more size program.functions k no_routine below, sum_by-take-drop size program.functions k)
 
-  pub ready_start : (k : ℕ) → k < length program.functions → slice_index_or starts k 0 ≡ function_line program frames k
-  ready_start k below = ap (λ (s : List ℕ). slice_index_or s k 0) ready.starts_are ∙ starts_at program frames 0 START_LINES program.functions k 0 below
+-- a function's lines begin where there is room for all of them
+pub function_fits : (program : Program) (frames : List Frame) → IsPlain program → AreFrames program frames → (k : ℕ) → k < length program.functions
+    → function_line program frames k + size (routine_at program k) ≤ most_lines
+function_fits program frames plain fit k below =
+    omega (arith, plain.small, start_fits program frames fit (reads_few program frames fit) (are_few program plain.well_formed) k below)
 
-  pub ready_size : (k : ℕ) → k < length program.functions → size (routine_at program k) ≤ MOST_SIZE
-  ready_size k below =
-      omega (arith, ready.few, sum_by-drop_more size program.functions k no_routine below, sum_by-take-drop size program.functions k)
+module _ {program : Program} {frames : List Frame} {functions : List FunctionLines} (ready : AreReady program frames functions) where
+  pub ready_many : length functions ≡ length program.functions
+  ready_many = ready.numbered.as_many
 
-  pub ready_fits : (k : ℕ) → k < length program.functions → function_line program frames k + size (routine_at program k) ≤ most_lines
-  ready_fits k below = omega (arith, ready.few, start_fits program frames ready.fit (reads_few program frames ready.fit) (are_few program ready.well_formed) k below)
-
-module _ {program : Program} {frames : List Frame} {starts lines : List ℕ} {function : ℕ} (known : AreTables program frames starts lines function) where
+module _ {program : Program} {frames : List Frame} {functions : List FunctionLines} {lines : List ℕ} {function : ℕ} (known : AreTables program frames functions lines function) where
   pub known_lines : length lines ≡ length (routine_at program function).code
   known_lines = ap length known.lines_are ∙ lines_length program frames function 0 (function_line program frames function + saving_count (frame_at frames function)) (routine_at program function).code
 

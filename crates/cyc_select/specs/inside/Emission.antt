@@ -1,6 +1,6 @@
 -- What the code that emits says of itself: what it adds to the lines made so far, and the tables of line numbers that it
 -- looks targets up in. This project's own choice.
-use Rattle.std.specs.Prelude.{◌≡◌, ℕ, suc, ◌+◌, ◌<◌, ◌≤◌, ◌⊎◌, List, [], ◌∷◌, ◌++◌, length, sum_by, Option, Some, None, Result, OnOk}
+use Rattle.std.specs.Prelude.{◌≡◌, ℕ, suc, ◌+◌, ◌<◌, ◌≤◌, ◌⊎◌, List, [], ◌∷◌, ◌++◌, length, sum_by, Option, Some, None, slice_get, Result, OnOk}
 use Rattle.std.specs.declared.alloc.AllocError.{AllocError}
 use Rattle.cyc_plain.specs.declared.instruction.Instruction.{Instruction}
 use Rattle.cyc_plain.specs.declared.instruction.Operand.{Operand}
@@ -15,11 +15,12 @@ use Rattle.cyc_frame.specs.inside.Frame.{Frame}
 use Rattle.cyc_select.specs.declared.constants.TheConstants.{START_LINES}
 use Rattle.cyc_select.specs.declared.code.Line.{Line}
 use Rattle.cyc_select.specs.inside.Slots.{saving_count}
-use Rattle.cyc_select.specs.inside.Counts.{count_of, function_count, function_line}
+use Rattle.cyc_select.specs.inside.Counts.{count_of, function_line}
 use Rattle.cyc_select.specs.declared.emitter.Emitter.{Emitter}
 use Rattle.cyc_select.specs.declared.plan.Plan.{Plan}
 use Rattle.cyc_select.specs.declared.plan.Test.{Test}
 use Rattle.cyc_select.specs.declared.plan.Test.TheVariants as tests
+use Rattle.cyc_select.specs.declared.tables.FunctionLines.{FunctionLines}
 use Rattle.cyc_select.specs.declared.tables.Ready.{Ready}
 use Rattle.cyc_select.specs.declared.tables.Tables.{Tables}
 
@@ -72,29 +73,38 @@ instruction_lines program frames function index here [] = []
 instruction_lines program frames function index here (i ∷ code) =
     here ∷ instruction_lines program frames function (suc index) (here + count_of program frames function index i) code
 
--- the line numbers of functions, of which the first has this one
-abbrev pub function_starts : Program → List Frame → (function here : ℕ) → List Routine → List ℕ
-function_starts program frames function here [] = []
-function_starts program frames function here (r ∷ routines) =
-    here ∷ function_starts program frames (suc function) (here + function_count program frames function r) routines
+-- those of the instructions of a function
+abbrev pub lines_in : Program → List Frame → (function : ℕ) → List ℕ
+lines_in program frames function =
+    instruction_lines program frames function 0 (function_line program frames function + saving_count (frame_at frames function)) (routine_at program function).code
 
--- What the lines of a program are made from: its functions are not too large together, these are their frames, and these the
--- numbers of their first lines.
-pub record AreReady (program : Program) (frames : List Frame) (starts : List ℕ) : Type 0 where
+-- where the lines of a function begin
+pub record IsNumbered (program : Program) (frames : List Frame) (function : ℕ) (its : FunctionLines) : Type 0 where
+  pub first_is : its.first ≡ function_line program frames function
+  pub lines_are : its.lines.items ≡ lines_in program frames function
+
+-- where those of the first functions begin, so many of them
+pub record AreNumbered (program : Program) (frames : List Frame) (count : ℕ) (functions : List FunctionLines) : Type 0 where
+  pub as_many : length functions ≡ count
+  pub each : (k : ℕ) (its : FunctionLines) → slice_get functions k ≡ Some its → IsNumbered program frames k its
+
+-- What the lines of a program are made from: its functions are not too large together, these are their frames, and here their lines
+-- begin.
+pub record AreReady (program : Program) (frames : List Frame) (functions : List FunctionLines) : Type 0 where
   pub well_formed : IsWellFormed program
   pub few : sum_by size program.functions ≤ MOST_SIZE
   pub fit : AreFrames program frames
-  pub starts_are : starts ≡ function_starts program frames 0 START_LINES program.functions
+  pub numbered : AreNumbered program frames (length program.functions) functions
 
 abbrev pub IsReady : Ready → Type 0
-IsReady ready = AreReady ready.plain.now ready.frames.now ready.starts.now
+IsReady ready = AreReady ready.plain.now ready.frames.now ready.functions.now
 
 -- The same for a function of the program, with the numbers of the first lines of its instructions.
-pub record AreTables (program : Program) (frames : List Frame) (starts lines : List ℕ) (function : ℕ) : Type 0 where
-  pub ready : AreReady program frames starts
+pub record AreTables (program : Program) (frames : List Frame) (functions : List FunctionLines) (lines : List ℕ) (function : ℕ) : Type 0 where
+  pub ready : AreReady program frames functions
   pub function_in_range : function < length program.functions
-  pub lines_are : lines ≡ instruction_lines program frames function 0 (function_line program frames function + saving_count (frame_at frames function)) (routine_at program function).code
+  pub lines_are : lines ≡ lines_in program frames function
 
 abbrev pub IsKnown : Tables → Type 0
 IsKnown tables =
-    AreTables tables.plain.now tables.frames.now tables.starts.now tables.lines.now tables.function
+    AreTables tables.plain.now tables.frames.now tables.functions.now tables.lines.now tables.function
