@@ -27,6 +27,7 @@ pub mod Sparing
 pub mod Keeping
 pub mod Found
 pub mod Marked
+pub mod About
 pub mod Ranges
 pub mod Walks
 pub mod Tails

@@ -5,7 +5,7 @@ ghost use Rattle.cyc_simplify.specs.inside.Facts as facts_of;
 use crate::changes::{touched, written};
 use crate::fact::{Fact, MOST_FACTS};
 use crate::facts::Facts;
-use crate::outcomes::{copied, made, tested};
+use crate::outcomes::{copied, is_not, is_test, made, tested};
 use cyc_plain::{Instruction, Plain};
 use std::alloc::AllocError;
 
@@ -38,6 +38,33 @@ fn remember_copies(
     }
 }
 
+/// That what an instruction gives is 1 or 0, where it tests whether something is so.
+fn remember_test(
+    pinned: &[bool],
+    facts: &mut Facts,
+    instruction: Instruction,
+) -> Result<(), AllocError>
+    ensures { OnOk result (facts.new ≡ facts_of.remembered facts.old (facts_of.tested pinned.now instruction)) }
+{
+    match instruction {
+        Instruction::Unary { operator, .. } => {
+            if is_not(operator) {
+                facts.remember(tested(pinned, instruction))
+            } else {
+                Ok(())
+            }
+        }
+        Instruction::Binary { operator, .. } => {
+            if is_test(operator) {
+                facts.remember(tested(pinned, instruction))
+            } else {
+                Ok(())
+            }
+        }
+        _ => Ok(()),
+    }
+}
+
 /// The facts become those that are known behind an instruction, where the run goes on to the next one.
 pub(crate) fn go_on(
     plain: &Plain,
@@ -51,6 +78,6 @@ pub(crate) fn go_on(
 {
     facts.keep(written(plain, instruction), touched(pinned, instruction));
     remember_copies(pinned, facts, instruction)?;
-    facts.remember(tested(pinned, instruction))?;
+    remember_test(pinned, facts, instruction)?;
     facts.remember(made(pinned, instruction, index, index + 1))
 }

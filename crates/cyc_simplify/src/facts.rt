@@ -2,7 +2,8 @@
 ghost use Rattle.std.specs.Prelude.{◌≡◌, ◌%◌};
 ghost use Rattle.std.specs.Int.{bit_at};
 ghost use Rattle.cyc_simplify.specs.declared.fact.Fact.{Fact};
-ghost use Rattle.cyc_simplify.specs.inside.Copies.{IsMarked, AreMarked};
+ghost use Rattle.cyc_simplify.specs.declared.fact.Touched.TheVariants as touches;
+ghost use Rattle.cyc_simplify.specs.inside.Copies.{IsMarked, AreMarked, IsAboutOperand, IsAbout, AreAbout};
 
 use crate::changes::keep;
 use crate::effects::remember;
@@ -20,18 +21,20 @@ pub(crate) struct Facts {
     facts: Vec<Fact>,
     /// The bits of these slots, and it may be of others.
     copies: u64,
+    /// The bits of all slots that the facts are about, and it may be of others.
+    slots: u64,
 }
 
 impl Model for Facts {
     ghost use Rattle.std.specs.Prelude.{List};
     ghost use Rattle.cyc_simplify.specs.declared.fact.Fact.{Fact};
-    ghost use Rattle.cyc_simplify.specs.inside.Copies.{AreMarked};
+    ghost use Rattle.cyc_simplify.specs.inside.Copies.{AreMarked, AreAbout};
 
     ghost Value = { List Fact };
 
     ghost view = { λ f. f.facts.items };
 
-    ghost invariant = { λ f. AreMarked f.copies f.facts.items };
+    ghost invariant = { λ f. AreMarked f.copies f.facts.items × AreAbout f.slots f.facts.items };
 }
 
 /// The bit of a slot, which others may have too.
@@ -65,8 +68,66 @@ fn copies_in(facts: &[Fact]) -> u64
     copies
 }
 
+/// The bit of the slot that an operand is, if it is one.
+fn bits_of(operand: Operand) -> u64
+    ensures { IsAboutOperand result operand }
+{
+    match operand {
+        Operand::Slot { number } => bit_of(number),
+        Operand::Word { .. } => 0,
+    }
+}
+
+/// The bits of the slots that a fact is about.
+fn slots_of(fact: Fact) -> u64
+    ensures { IsAbout result fact }
+{
+    match fact {
+        Fact::Equal { slot, operand } => bit_of(slot) | bits_of(operand),
+        Fact::Computed {
+            slot,
+            left,
+            right,
+            ..
+        } => bit_of(slot) | (bits_of(left) | bits_of(right)),
+        Fact::Holds { left, right, .. } => bits_of(left) | bits_of(right),
+        Fact::Held { address, value, .. } => bits_of(address) | bits_of(value),
+    }
+}
+
+/// These bits and those of the slots that a fact is about.
+fn with_slots(slots: u64, fact: Fact) -> u64
+    ensures more { (other : Fact) → IsAbout slots other → IsAbout result other }
+    ensures has { IsAbout result fact }
+{
+    slots | slots_of(fact)
+}
+
+fn slots_in(facts: &[Fact]) -> u64
+    ensures { AreAbout result facts.now }
+{
+    let mut slots = 0;
+    for fact in facts {
+        slots = with_slots(slots, *fact);
+    }
+    slots
+}
+
+/// The bits of the slots that facts are about behind an instruction: they are found anew where one slot is written.
+fn slots_behind(slots: u64, facts: &[Fact], written: Written) -> u64
+    ensures { AreAbout slots facts.now → AreAbout result facts.now }
+{
+    if written.count == 1 {
+        slots_in(facts)
+    } else {
+        slots
+    }
+}
+
 impl Facts {
-    ghost use Rattle.std.specs.Prelude.{◌≡◌, [], false, OnOk};
+    ghost use Rattle.std.specs.Prelude.{◌≡◌, [], false, true, OnOk};
+    ghost use Rattle.cyc_plain.specs.declared.instruction.Operand.{Operand};
+    ghost use Rattle.cyc_simplify.specs.declared.fact.Fact.TheVariants as facts_are;
     ghost use Rattle.cyc_simplify.specs.inside.Facts as facts_of;
     ghost use Rattle.cyc_simplify.specs.inside.Replacement as replacement;
 
@@ -77,6 +138,7 @@ impl Facts {
         Facts {
             facts: Vec::new(alloc),
             copies: 0,
+            slots: 0,
         }
     }
 
@@ -101,6 +163,7 @@ impl Facts {
     {
         self.facts.clear();
         self.copies = 0;
+        self.slots = 0;
     }
 
     /// These are known in their place.
@@ -108,17 +171,41 @@ impl Facts {
         ensures { OnOk result (self.new ≡ facts.now) }
     {
         self.copies = ANY_SLOT;
+        self.slots = ANY_SLOT;
         self.facts.clear();
         self.facts.extend_from_slice(facts)?;
         self.copies = copies_in(facts);
+        self.slots = slots_in(facts);
         Ok(())
+    }
+
+    /// Whether a fact may be about a slot.
+    pub(crate) fn may_be_about(&self, slot: usize) -> bool
+        ensures kept { result ≡ false → facts_of.kept (record { first = slot; count = 1 }) touches.Nothing self.now ≡ self.now }
+        ensures unknown { result ≡ false → (operand : Operand) → facts_of.is_known self.now (facts_are.Equal slot operand) ≡ false }
+    {
+        self.slots & bit_of(slot) != 0
+    }
+
+    /// Whether it is seen at once that no fact is about what is written and changed: one slot, in most instructions.
+    fn leaves_all(&self, slots: Written, touched: Touched) -> bool
+        ensures { result ≡ true → facts_of.kept slots touched self.now ≡ self.now }
+    {
+        match touched {
+            Touched::Nothing => slots.count == 1 && !self.may_be_about(slots.first),
+            _ => false,
+        }
     }
 
     /// What is known of slots that are written, and of what may be changed, is forgotten.
     pub(crate) fn keep(&mut self, slots: Written, touched: Touched)
         ensures { self.new ≡ facts_of.kept slots touched self.old }
     {
+        if self.leaves_all(slots, touched) {
+            return;
+        }
         keep(&mut self.facts, slots, touched);
+        self.slots = slots_behind(self.slots, &self.facts, slots);
     }
 
     /// A fact more, in place of the oldest where there are as many as there may be.
@@ -127,9 +214,12 @@ impl Facts {
     {
         if let Some(fact) = made {
             let copies = with_copy(self.copies, fact);
+            let slots = with_slots(self.slots, fact);
             self.copies = ANY_SLOT;
+            self.slots = ANY_SLOT;
             remember(&mut self.facts, fact)?;
             self.copies = copies;
+            self.slots = slots;
         }
         Ok(())
     }

@@ -1,6 +1,7 @@
 //! Which facts are the same, and which are among others.
 ghost use Rattle.std.specs.Prelude.{◌≡◌, ◌<◌, ◌&&◌, ◌||◌, false, length, true};
 ghost use Rattle.cyc_plain.specs.inside.Uses as uses;
+ghost use Rattle.cyc_simplify.specs.declared.fact.Fact.TheVariants as facts_are;
 ghost use Rattle.cyc_simplify.specs.inside.Facts as facts_of;
 ghost use Rattle.cyc_simplify.specs.inside.Table as table;
 
@@ -118,65 +119,99 @@ pub(crate) fn is_same_word(
     is_same_operand(address, other_address) && offset == other_offset
 }
 
+/// Whether a fact says that this slot holds the same as this operand.
+fn says_equal(fact: Fact, slot: usize, operand: Operand) -> bool
+    ensures { result ≡ facts_of.is_same_fact fact (facts_are.Equal slot operand) }
+{
+    match fact {
+        Fact::Equal {
+            slot: other,
+            operand: other_operand,
+        } => other == slot && is_same_operand(other_operand, operand),
+        _ => false,
+    }
+}
+
+/// Whether a fact says that this slot holds this result.
+fn says_computed(
+    fact: Fact,
+    slot: usize,
+    operator: BinaryOperator,
+    left: Operand,
+    right: Operand,
+) -> bool
+    ensures { result ≡ facts_of.is_same_fact fact (facts_are.Computed slot operator left right) }
+{
+    match fact {
+        Fact::Computed {
+            slot: other,
+            operator: other_operator,
+            left: other_left,
+            right: other_right,
+        } => {
+            other == slot
+                && (is_same_operator(other_operator, operator)
+                    && are_same_operands(other_left, other_right, left, right))
+        }
+        _ => false,
+    }
+}
+
+/// Whether a fact says that this comparison holds.
+fn says_holds(fact: Fact, comparison: Comparison, left: Operand, right: Operand) -> bool
+    ensures { result ≡ facts_of.is_same_fact fact (facts_are.Holds comparison left right) }
+{
+    match fact {
+        Fact::Holds {
+            comparison: other,
+            left: other_left,
+            right: other_right,
+        } => {
+            is_same_comparison(other, comparison)
+                && are_same_operands(other_left, other_right, left, right)
+        }
+        _ => false,
+    }
+}
+
+/// Whether a fact says that memory has this word.
+fn says_held(fact: Fact, address: Operand, offset: u32, value: Operand) -> bool
+    ensures { result ≡ facts_of.is_same_fact fact (facts_are.Held address offset value) }
+{
+    match fact {
+        Fact::Held {
+            address: other,
+            offset: other_offset,
+            value: other_value,
+        } => {
+            is_same_word(other, other_offset, address, offset)
+                && is_same_operand(other_value, value)
+        }
+        _ => false,
+    }
+}
+
 fn is_same_fact(one: Fact, other: Fact) -> bool
     ensures { result ≡ facts_of.is_same_fact one other }
 {
-    match one {
-        Fact::Equal { slot, operand } => match other {
-            Fact::Equal {
-                slot: second,
-                operand: other_operand,
-            } => slot == second && is_same_operand(operand, other_operand),
-            _ => false,
-        },
+    match other {
+        Fact::Equal { slot, operand } => says_equal(one, slot, operand),
         Fact::Computed {
             slot,
             operator,
             left,
             right,
-        } => match other {
-            Fact::Computed {
-                slot: second,
-                operator: other_operator,
-                left: other_left,
-                right: other_right,
-            } => {
-                slot == second
-                    && (is_same_operator(operator, other_operator)
-                        && are_same_operands(left, right, other_left, other_right))
-            }
-            _ => false,
-        },
+        } => says_computed(one, slot, operator, left, right),
         Fact::Holds {
             comparison,
             left,
             right,
-        } => match other {
-            Fact::Holds {
-                comparison: second,
-                left: other_left,
-                right: other_right,
-            } => {
-                is_same_comparison(comparison, second)
-                    && are_same_operands(left, right, other_left, other_right)
-            }
-            _ => false,
-        },
+        } => says_holds(one, comparison, left, right),
         Fact::Held {
             address,
             offset,
             value,
-        } => match other {
-            Fact::Held {
-                address: second,
-                offset: other_offset,
-                value: other_value,
-            } => {
-                is_same_word(address, offset, second, other_offset)
-                    && is_same_operand(value, other_value)
-            }
-            _ => false,
-        },
+        } => says_held(one, address, offset, value),
     }
 }
 
@@ -196,21 +231,90 @@ pub(crate) fn is_unreached(facts: &[Fact]) -> bool
     ensures { result ≡ facts_of.is_unreached facts.now }
 {
     match facts.get(0) {
-        Some(fact) => is_same_fact(*fact, never()),
+        Some(fact) => says_holds(
+            *fact,
+            Comparison::NotEqual,
+            Operand::Word { word: 0 },
+            Operand::Word { word: 0 },
+        ),
         None => false,
     }
 }
 
-/// Whether a fact is among these.
-pub(crate) fn is_known(facts: &[Fact], fact: Fact) -> bool
-    ensures { result ≡ facts_of.is_known facts.now fact }
+/// Whether it is among these that this slot holds the same as this operand.
+pub(crate) fn is_known_equal(facts: &[Fact], slot: usize, operand: Operand) -> bool
+    ensures { result ≡ facts_of.is_known facts.now (facts_are.Equal slot operand) }
 {
     for other in facts {
-        if is_same_fact(*other, fact) {
+        if says_equal(*other, slot, operand) {
             return true;
         }
     }
     false
+}
+
+fn is_known_computed(
+    facts: &[Fact],
+    slot: usize,
+    operator: BinaryOperator,
+    left: Operand,
+    right: Operand,
+) -> bool
+    ensures { result ≡ facts_of.is_known facts.now (facts_are.Computed slot operator left right) }
+{
+    for other in facts {
+        if says_computed(*other, slot, operator, left, right) {
+            return true;
+        }
+    }
+    false
+}
+
+fn is_known_holding(facts: &[Fact], comparison: Comparison, left: Operand, right: Operand) -> bool
+    ensures { result ≡ facts_of.is_known facts.now (facts_are.Holds comparison left right) }
+{
+    for other in facts {
+        if says_holds(*other, comparison, left, right) {
+            return true;
+        }
+    }
+    false
+}
+
+fn is_known_held(facts: &[Fact], address: Operand, offset: u32, value: Operand) -> bool
+    ensures { result ≡ facts_of.is_known facts.now (facts_are.Held address offset value) }
+{
+    for other in facts {
+        if says_held(*other, address, offset, value) {
+            return true;
+        }
+    }
+    false
+}
+
+/// Whether a fact is among these.
+fn is_known(facts: &[Fact], fact: Fact) -> bool
+    ensures { result ≡ facts_of.is_known facts.now fact }
+{
+    match fact {
+        Fact::Equal { slot, operand } => is_known_equal(facts, slot, operand),
+        Fact::Computed {
+            slot,
+            operator,
+            left,
+            right,
+        } => is_known_computed(facts, slot, operator, left, right),
+        Fact::Holds {
+            comparison,
+            left,
+            right,
+        } => is_known_holding(facts, comparison, left, right),
+        Fact::Held {
+            address,
+            offset,
+            value,
+        } => is_known_held(facts, address, offset, value),
+    }
 }
 
 fn is_more(more: Option<Fact>, fact: Fact) -> bool

@@ -208,7 +208,7 @@ pub(crate) fn made(
 }
 
 /// Whether an operator computes whether something is so: 1 or 0.
-fn is_test(operator: BinaryOperator) -> bool
+pub(crate) fn is_test(operator: BinaryOperator) -> bool
     ensures { result ≡ facts_of.is_test operator }
 {
     match operator {
@@ -222,7 +222,7 @@ fn is_test(operator: BinaryOperator) -> bool
     }
 }
 
-fn is_not(operator: UnaryOperator) -> bool
+pub(crate) fn is_not(operator: UnaryOperator) -> bool
     ensures { result ≡ facts_of.is_not operator }
 {
     match operator {

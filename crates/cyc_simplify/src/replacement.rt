@@ -11,7 +11,7 @@ use crate::fact::Fact;
 use crate::facts::Facts;
 use crate::folding::{folded_at, folded_unary, right_operand};
 use crate::known::{
-    are_same_operands, is_known, is_same_comparison, is_same_operand, is_same_operator,
+    are_same_operands, is_known_equal, is_same_comparison, is_same_operand, is_same_operator,
     is_same_word, is_slot, is_unreached,
 };
 use crate::outcomes::negated;
@@ -211,14 +211,17 @@ fn moved_to_itself(slot: usize) -> Instruction
     }
 }
 
-fn simplified_move(facts: &[Fact], destination: usize, source: Operand) -> Instruction
+/// Whether it is known that a slot holds the same as an operand, which for most slots is seen at once not to be.
+fn is_equal(facts: &Facts, slot: usize, operand: Operand) -> bool
+    ensures { result ≡ facts_of.is_known facts.now (facts_are.Equal slot operand) }
+{
+    facts.may_be_about(slot) && is_known_equal(facts.all(), slot, operand)
+}
+
+fn simplified_move(facts: &Facts, destination: usize, source: Operand) -> Instruction
     ensures { result ≡ replacement.simplified_move (facts_of.is_known facts.now (facts_are.Equal destination source)) destination source }
 {
-    let equal = Fact::Equal {
-        slot: destination,
-        operand: source,
-    };
-    if is_known(facts, equal) {
+    if is_equal(facts, destination, source) {
         moved_to_itself(destination)
     } else {
         Instruction::Move {
@@ -458,7 +461,7 @@ pub(crate) fn simplified_instruction(facts: &Facts, instruction: Instruction) ->
         Instruction::Move {
             destination,
             source,
-        } => simplified_move(facts.all(), destination, simplified_operand(facts, source)),
+        } => simplified_move(facts, destination, simplified_operand(facts, source)),
         Instruction::Unary {
             operator,
             destination,

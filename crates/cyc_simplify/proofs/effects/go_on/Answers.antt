@@ -16,8 +16,7 @@ returns c =
     ∙ ap (λ (t : Touched). kept (written a.plain.now a.instruction) t a.facts.now) c.touched.ensures in
     let copies = c.in_ok-remember_copies.ensures ∙ ap (λ (facts : List Fact). with_copies a.pinned.now a.instruction facts) keeps in
     let tests =
-    c.in_ok-remember.ensures
-    ∙ ap (λ (one : Option Fact). remembered c.remember_copies.new.facts one) c.tested.ensures
+    c.in_ok-remember_test.ensures
     ∙ ap (λ (facts : List Fact). remembered facts (tested a.pinned.now a.instruction)) copies in
-    subst (λ (facts : List Fact). OnOk c.remember-2.result (c.remember-2.new.self ≡ remembered facts (made a.pinned.now a.instruction a.index (a.index + 1)))) tests
-    (subst (λ (one : Option Fact). OnOk c.remember-2.result (c.remember-2.new.self ≡ remembered c.remember.new.self one)) c.made.ensures c.remember-2.ensures)
+    subst (λ (facts : List Fact). OnOk c.remember.result (c.remember.new.self ≡ remembered facts (made a.pinned.now a.instruction a.index (a.index + 1)))) tests
+    (subst (λ (one : Option Fact). OnOk c.remember.result (c.remember.new.self ≡ remembered c.remember_test.new.facts one)) c.made.ensures c.remember.ensures)

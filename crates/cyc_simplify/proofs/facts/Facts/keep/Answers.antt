@@ -1,6 +1,17 @@
 -- cyc_simplify/proofs/facts/Facts/keep/Answers.antt
+use Rattle.std.proofs.Common.{◌∙◌, List, subst, sym}
+use Rattle.cyc_simplify.specs.declared.fact.Fact.{Fact}
+use Rattle.cyc_simplify.specs.inside.Copies.{AreAbout}
+use Rattle.cyc_simplify.proofs.About.{kept_about}
 use Rattle.cyc_simplify.proofs.Marked.{kept_marked}
 use Rattle.cyc_simplify.proofs.facts.Facts.keep.Goals as goal
 
 pub invariant_of-self : goal.invariant_of-self
-invariant_of-self c = rw c.keep.ensures (kept_marked c.self.inside.copies c.args.slots c.args.touched c.self.inside.facts.items c.self.invariant)
+invariant_of-self c =
+    let old = c.self.inside in (
+      rw c.keep.ensures (kept_marked old.copies c.args.slots c.args.touched old.facts.items c.self.invariant.0),
+      subst (λ (facts : List Fact). AreAbout c.slots_behind-self-inside.result facts) c.deref.ensures.value
+          (c.slots_behind-self-inside.ensures
+          (subst (λ (facts : List Fact). AreAbout old.slots facts) (sym (c.deref.ensures.value ∙ c.keep.ensures))
+          (kept_about old.slots c.args.slots c.args.touched old.facts.items c.self.invariant.1))),
+    )

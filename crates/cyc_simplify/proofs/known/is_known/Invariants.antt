@@ -1,9 +1,0 @@
--- cyc_simplify/proofs/known/is_known/Invariants.antt
-use Rattle.std.proofs.Common.{◌≡◌, drop}
-use Rattle.cyc_simplify.specs.inside.Facts.{is_known}
-use Rattle.cyc_simplify.proofs.known.is_known.Given as goal
-
--- no fact so far is the one
-abbrev pub invariant-loop-other : goal.invariant-loop-other
-invariant-loop-other l =
-    is_known (drop l.other-index l.facts) l.fact ≡ is_known l.facts l.fact

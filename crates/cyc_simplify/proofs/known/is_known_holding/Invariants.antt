@@ -1,0 +1,10 @@
+-- cyc_simplify/proofs/known/is_known_holding/Invariants.antt
+use Rattle.std.proofs.Common.{◌≡◌, drop}
+use Rattle.cyc_simplify.specs.declared.fact.Fact.TheVariants as facts_are
+use Rattle.cyc_simplify.specs.inside.Facts.{is_known}
+use Rattle.cyc_simplify.proofs.known.is_known_holding.Given as goal
+
+-- no fact so far is the one
+abbrev pub invariant-loop-other : goal.invariant-loop-other
+invariant-loop-other l =
+    is_known (drop l.other-index l.facts) (facts_are.Holds l.comparison l.left l.right) ≡ is_known l.facts (facts_are.Holds l.comparison l.left l.right)
