@@ -37,3 +37,16 @@ tried_passed code number count line here ordinary = by (nat_le number count) ref
 pub settled_passed : (code : List Line) (number : ℕ) (line : Line) → slice_get code number ≡ Some line → is_ordinary line ≡ true → settled code number ≡ code
 settled_passed code number line here ordinary =
     ap (λ (order : List Line). tried order number 2) (tried_passed code number 1 line here ordinary) ∙ tried_passed code number 2 line here ordinary
+
+-- and so is one whose slot is filled
+tried_filled : (code : List Line) (number count : ℕ) → is_some (filling code number) ≡ true → tried code number count ≡ code
+tried_filled code number count filled =
+    ap (λ (b : Bool). cond (nat_le number count) code (cond b code (sunk_from code (number - suc count) count))) filled ∙ by (nat_le number count)
+  where
+    by : (few : Bool) → cond few code code ≡ code
+    by true = refl
+    by false = refl
+
+pub settled_filled : (code : List Line) (number : ℕ) → is_some (filling code number) ≡ true → settled code number ≡ code
+settled_filled code number filled =
+    ap (λ (order : List Line). tried order number 2) (tried_filled code number 1 filled) ∙ tried_filled code number 2 filled

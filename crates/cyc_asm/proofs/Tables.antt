@@ -1,5 +1,5 @@
 -- What the tables of the layout hold.
-use Rattle.std.proofs.Common.{◌≡◌, ℕ, suc, ◌+◌, ◌≤◌, ◌<◌, List, [], ◌∷◌, ◌++◌, length, get_or, map, Bool, true, false, nat_le, None, Some, refl, sym, ap, subst, ◌∙◌, arith, inl, inr}
+use Rattle.std.proofs.Common.{◌≡◌, ℕ, suc, ◌+◌, ◌≤◌, ◌<◌, List, [], ◌∷◌, ◌++◌, length, get_or, map, Bool, true, false, cond, ◌==◌, eq-eqb, ne_eqb, nat_le, None, Some, refl, sym, ap, subst, ◌∙◌, arith, inl, inr}
 use Rattle.std.specs.Prelude.{◌&&◌, All, slice_get}
 use Rattle.std.specs.List.{range_with_len}
 use Rattle.std.proofs.lemmas.Bool.{cases_lt}
@@ -16,7 +16,7 @@ use Rattle.cyc_select.specs.declared.code.Line.{Line}
 use Rattle.cyc_select.specs.declared.code.Line.TheVariants as lines
 use Rattle.cyc_select.specs.inside.Labelled.{Fits, IsFormedLine, words_of}
 use Rattle.cyc_asm.specs.declared.constants.TheConstants.{MAX_REACH, FIRST_INDEX}
-use Rattle.cyc_asm.specs.inside.Slots.{filling}
+use Rattle.cyc_asm.specs.inside.Slots.{is_unreached, filling}
 use Rattle.cyc_asm.specs.inside.Layout.{most_before, most_of_each, is_near, head_width, tail_width, width_of, width_in, width_at, position, position_of_each}
 use Rattle.cyc_asm.specs.inside.Text.{branch_of}
 use Rattle.cyc_asm.specs.inside.Words.{offset_of, IsHeadPosition, head_of_branch, head_of, head_in, round_words, tail_of, tail_in, words_filled, filled_in, words_ordinary, words_of_line, words_in}
@@ -27,16 +27,19 @@ use Rattle.cyc_asm.proofs.Standing.{are_near_at}
 pub length-most_of_each : (code : List Line) (most : List ℕ) → most ≡ most_of_each code → length most ≡ length code
 length-most_of_each code most is = ap length is ∙ length-map-range_with_len (most_before code) 0 (length code)
 
-pub length-position_of_each : (code : List Line) (positions : List ℕ) → positions ≡ position_of_each code → length positions ≡ length code
-length-position_of_each code positions is = ap length is ∙ length-map-range_with_len (position code) 0 (length code)
+pub length-position_of_each : (code : List Line) (positions : List ℕ) → positions ≡ position_of_each code → length positions ≡ length code + 1
+length-position_of_each code positions is = ap length is ∙ length-map-range_with_len (position code) 0 (length code + 1)
 
 pub most_at : (code : List Line) (most : List ℕ) (number : ℕ) → most ≡ most_of_each code → number < length code → get_or most number 0 ≡ most_before code number
 most_at code most number is below =
     ap (λ (xs : List ℕ). get_or xs number 0) is ∙ get_or-map-range_with_len (most_before code) 0 (length code) number number 0 below (omega arith)
 
+pub position_up_to : (code : List Line) (positions : List ℕ) (number : ℕ) → positions ≡ position_of_each code → number < length code + 1 → get_or positions number 0 ≡ position code number
+position_up_to code positions number is within =
+    ap (λ (xs : List ℕ). get_or xs number 0) is ∙ get_or-map-range_with_len (position code) 0 (length code + 1) number number 0 within (omega arith)
+
 pub position_at : (code : List Line) (positions : List ℕ) (number : ℕ) → positions ≡ position_of_each code → number < length code → get_or positions number 0 ≡ position code number
-position_at code positions number is below =
-    ap (λ (xs : List ℕ). get_or xs number 0) is ∙ get_or-map-range_with_len (position code) 0 (length code) number number 0 below (omega arith)
+position_at code positions number is below = position_up_to code positions number is (omega (arith, below))
 
 -- all numbers are small
 
@@ -83,15 +86,60 @@ most_of_more code number most before words d below so_far now is = (
 )
 
 pub positions_of_more : (code : List Line) (number : ℕ) (positions : List ℕ) (before width : ℕ)
-    → positions ≡ map (position code) (range_with_len 0 number) → before ≡ position code number → width ≡ width_at code number
-    → (positions ++ before ∷ [] ≡ map (position code) (range_with_len 0 (number + 1))) × (before + width ≡ position code (number + 1))
-positions_of_more code number positions before width so_far now is = (
-  ap (λ (xs : List ℕ). xs ++ before ∷ []) so_far ∙ ap (λ (n : ℕ). map (position code) (range_with_len 0 number) ++ n ∷ []) now
-      ∙ sym (map-range_with_len_more (position code) 0 number number (omega arith)),
-  (let same : number + 1 ≡ suc number = omega arith in
-      let at = ap (position code) same in
-      omega (arith, at, now, is)),
-)
+    → positions ≡ map (position code) (range_with_len 0 (number + 1)) → before ≡ position code number → width ≡ width_at code number
+    → (positions ++ (before + width) ∷ [] ≡ map (position code) (range_with_len 0 (number + 1 + 1))) × (before + width ≡ position code (number + 1))
+positions_of_more code number positions before width so_far now is =
+    let same : number + 1 ≡ suc number = omega arith in
+    let at = ap (position code) same in
+    let next : before + width ≡ position code (number + 1) = omega (arith, at, now, is) in (
+      ap (λ (xs : List ℕ). xs ++ (before + width) ∷ []) so_far
+          ∙ ap (λ (n : ℕ). map (position code) (range_with_len 0 (number + 1)) ++ n ∷ []) next
+          ∙ sym (map-range_with_len_more (position code) 0 (number + 1) (number + 1) (omega arith)),
+      next,
+    )
+
+-- ---- a line that takes no word is one that no run comes to
+
+width_some : (code : List Line) (number : ℕ) (line : Line) → 0 < width_of code number line
+width_some code number (lines.Ordinary i) = omega arith
+width_some code number (lines.Branch condition label) = omega (arith, tail_some (is_near code number label))
+  where
+    tail_some : (near : Bool) → 0 < tail_width near
+    tail_some true = omega arith
+    tail_some false = omega arith
+width_some code number (lines.Jump label) = omega arith
+width_some code number (lines.Call label) = omega arith
+width_some code number lines.Return = omega arith
+
+width_by : (code : List Line) (number : ℕ) (b : Bool) → is_unreached code number ≡ b → width_at code number ≡ cond b 0 (width_in code number (slice_get code number))
+width_by code number b is = ap (λ (x : Bool). cond x 0 (width_in code number (slice_get code number))) is
+
+-- the words before the next line
+position_by : (code : List Line) (number : ℕ) (b : Bool) → is_unreached code number ≡ b
+    → position code (number + 1) ≡ position code number + cond b 0 (width_in code number (slice_get code number))
+position_by code number b is =
+    let same : number + 1 ≡ suc number = omega arith in
+    omega (arith, ap (position code) same, width_by code number b is)
+
+pub position_left_out : (code : List Line) (positions : List ℕ) (number : ℕ) → positions ≡ position_of_each code → number < length code
+    → (get_or positions number 0 == get_or positions (number + 1) 0) ≡ is_unreached code number
+position_left_out code positions number is below = go (is_unreached code number) refl
+  where
+    here : get_or positions number 0 ≡ position code number
+    here = position_up_to code positions number is (omega (arith, below))
+
+    next : get_or positions (number + 1) 0 ≡ position code (number + 1)
+    next = position_up_to code positions (number + 1) is (omega (arith, below))
+
+    some : 0 < width_in code number (slice_get code number)
+    some = omega (arith, ap (width_in code number) (slice_get-get_or code number lines.Return below), width_some code number (get_or code number lines.Return))
+
+    go : (b : Bool) → is_unreached code number ≡ b → (get_or positions number 0 == get_or positions (number + 1) 0) ≡ is_unreached code number
+    go true unreached = eq-eqb _ _ (omega (arith, here, next, position_by code number true unreached)) ∙ sym unreached
+    go false reached =
+        ne_eqb _ _
+        (λ same. omega (arith, same, here, next, position_by code number false reached, some))
+        ∙ sym reached
 
 -- whether a branch is near, from the table
 pub near_here : (code : List Line) (most : List ℕ) (number label : ℕ) (near b : Bool) → most ≡ most_of_each code → number < length code → label < length code

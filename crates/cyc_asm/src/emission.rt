@@ -13,7 +13,7 @@ ghost use Rattle.cyc_asm.specs.inside.Words.{offset_of, IsHeadPosition, head_in,
 
 use crate::constants::{FIRST_INDEX, MAX_REACH, ROUND_OFFSET};
 use crate::layout::is_near;
-use crate::slots::{filling, is_unreached_behind};
+use crate::slots::filling;
 use cyc_isa::{BranchOp, BranchZeroOp, Instr, JumpIndex, JumpOp, Register, encode};
 use cyc_machine::constants::{RETURN_ADDRESS, TEXT_WORDS};
 use cyc_select::{Condition, Line};
@@ -258,6 +258,15 @@ fn push_line(
     push_reached(words, lines, named, most, positions, number)
 }
 
+/// Whether no run comes to the line of this number: then it takes no word, and each other takes one or more.
+fn is_left_out(lines: &[Line], positions: &[u32], number: usize) -> bool
+    requires within { number < length lines.now }
+    requires positions { positions.now ≡ position_of_each lines.now }
+    ensures { result ≡ is_unreached lines.now number }
+{
+    positions[number] == positions[number + 1]
+}
+
 /// The words of all lines.
 pub(crate) fn words_of_all(
     alloc: Global,
@@ -273,10 +282,9 @@ pub(crate) fn words_of_all(
     requires positions { positions.now ≡ position_of_each lines.now }
     ensures { IfOk result (λ words. words.items ≡ words_before lines.now (length lines.now)) }
 {
-    let mut words = Vec::new(alloc);
-    let mut unreached = false;
+    let mut words = Vec::with_capacity(alloc, positions[lines.len()] as usize)?;
     for number in 0..lines.len() {
-        unreached = is_unreached_behind(unreached, lines, named, number);
+        let unreached = is_left_out(lines, positions, number);
         push_line(&mut words, lines, named, most, positions, unreached, number)?;
     }
     Ok(words)

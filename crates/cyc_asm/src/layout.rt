@@ -27,10 +27,10 @@ pub(crate) fn most_of_each(alloc: Global, lines: &[Line]) -> Result<Vec<u32>, Al
     requires { Fits lines.now }
     ensures { IfOk result (λ most. most.items ≡ most_of_each lines.now) }
 {
-    let mut most = Vec::new(alloc);
+    let mut most = Vec::with_capacity(alloc, lines.len())?;
     let mut before: u32 = 0;
     for line in lines {
-        most.push(before)?;
+        most.push_reserved(before);
         before += max_width(line);
     }
     Ok(most)
@@ -96,7 +96,7 @@ fn width_at(lines: &[Line], named: &[bool], most: &[u32], unreached: bool, numbe
     }
 }
 
-/// How many words stand before each line.
+/// How many words stand before each line, and how many there are.
 pub(crate) fn position_of_each(
     alloc: Global,
     lines: &[Line],
@@ -109,13 +109,14 @@ pub(crate) fn position_of_each(
     requires most { most.now ≡ most_of_each lines.now }
     ensures { IfOk result (λ positions. positions.items ≡ position_of_each lines.now) }
 {
-    let mut positions = Vec::new(alloc);
+    let mut positions = Vec::with_capacity(alloc, lines.len() + 1)?;
     let mut before: u32 = 0;
     let mut unreached = false;
+    positions.push_reserved(before);
     for number in 0..lines.len() {
-        positions.push(before)?;
         unreached = slots::is_unreached_behind(unreached, lines, named, number);
         before += width_at(lines, named, most, unreached, number);
+        positions.push_reserved(before);
     }
     Ok(positions)
 }

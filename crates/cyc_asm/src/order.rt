@@ -2,7 +2,7 @@
 
 ghost use Rattle.std.specs.Prelude.{◌≡◌, ◌+◌, ◌<◌, length, Some, IfOk};
 ghost use Rattle.std.specs.Option.{is_some};
-ghost use Rattle.cyc_asm.specs.inside.Slots.{moved, AreNamed};
+ghost use Rattle.cyc_asm.specs.inside.Slots.{moved, filling, AreNamed};
 ghost use Rattle.cyc_asm.specs.inside.Order.{is_apart, passes, passes_line, passes_at, passes_all, comes_down, sunk, tried, is_ordinary, settled, arranged};
 
 use crate::slots::{filling, moves};
@@ -131,6 +131,14 @@ fn sink(lines: &mut [Line], from: usize, count: usize)
     }
 }
 
+/// Whether the slot of this line is filled.
+fn is_filled(lines: &[Line], named: &[bool], number: usize) -> bool
+    requires named { AreNamed lines.now (length lines.now) named.now }
+    ensures { result ≡ is_some (filling lines.now number) }
+{
+    filling(lines, named, number).is_some()
+}
+
 /// Brings the instruction that has so many to pass down to the branch or jump of this number, where it fills the slot that
 /// would be empty.
 fn try_past(lines: &mut [Line], named: &[bool], number: usize, count: usize)
@@ -138,7 +146,7 @@ fn try_past(lines: &mut [Line], named: &[bool], number: usize, count: usize)
     requires named { AreNamed lines.old (length lines.old) named.now }
     ensures { lines.new ≡ tried lines.old number count }
 {
-    if number <= count || filling(lines, named, number).is_some() {
+    if number <= count || is_filled(lines, named, number) {
         return;
     }
     let from = number - (count + 1);
@@ -159,13 +167,16 @@ pub(crate) fn is_ordinary(line: &Line) -> bool
 
 /// Brings the instruction that has one to pass, or else two, down to the branch or jump of this number, where it fills the slot
 /// that would be empty.
-/// Most lines have no slot, and are passed over at once.
+/// Most lines have no slot, or one that is filled, and are passed over at once.
 pub(crate) fn settle(lines: &mut [Line], named: &[bool], number: usize)
     requires within { number < length lines.old }
     requires named { AreNamed lines.old (length lines.old) named.now }
     ensures { lines.new ≡ settled lines.old number }
 {
     if is_ordinary(&lines[number]) {
+        return;
+    }
+    if is_filled(lines, named, number) {
         return;
     }
     try_past(lines, named, number, 1);

@@ -43,8 +43,22 @@ fn leaves(instruction: Instr, condition: Condition) -> bool
     }
 }
 
-/// Whether an instruction may as well be executed behind a line's branch or jump as before it.
+/// Whether an instruction may as well be executed behind a line's branch or jump as before it. Most lines are neither, and are told
+/// at once.
+#[inline]
 pub(crate) fn moves(instruction: Instr, line: &Line) -> bool
+    ensures { result ≡ moves instruction line.now }
+{
+    match line {
+        Line::Ordinary { .. } => false,
+        Line::Branch { .. } | Line::Jump { .. } | Line::Call { .. } | Line::Return => {
+            moves_into_slot(instruction, line)
+        }
+    }
+}
+
+#[inline(never)]
+fn moves_into_slot(instruction: Instr, line: &Line) -> bool
     ensures { result ≡ moves instruction line.now }
 {
     match line {
@@ -115,6 +129,7 @@ fn goes_on(line: &Line) -> bool
 }
 
 /// Whether no run comes to the line of this number, which is told whether none comes to the line before.
+#[inline]
 pub(crate) fn is_unreached_behind(
     unreached: bool,
     lines: &[Line],

@@ -55,8 +55,9 @@ position code (suc number) = position code number + width_at code number
 abbrev pub most_of_each : List Line → List ℕ
 most_of_each code = map (most_before code) (range_with_len 0 (length code))
 
+-- and here also the words of all lines, behind the last one
 abbrev pub position_of_each : List Line → List ℕ
-position_of_each code = map (position code) (range_with_len 0 (length code))
+position_of_each code = map (position code) (range_with_len 0 (length code + 1))
 
 -- the address of a line among lines that lie in this order
 abbrev pub addresses_in : List Line → ℕ → ℕ

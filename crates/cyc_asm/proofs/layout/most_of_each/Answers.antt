@@ -13,5 +13,9 @@ overflow_add-before c =
 pub loop-line-preserved : goal.loop-line-preserved
 loop-line-preserved c =
     let more = most_of_more c.args.lines.now c.loop-line.line-index c.loop-line.most.items c.loop-line.before c.max_width-before.result c.line-item.result
-    c.loop-line-test.true c.loop-line.invariant.0 c.loop-line.invariant.1 (c.max_width-before.ensures ∙ ap words_of c.line-item.is) in
-    (c.in_ok-push.ensures.items ∙ more.0, more.1)
+    c.loop-line-test.true c.loop-line.invariant.0 c.loop-line.invariant.1 (c.max_width-before.ensures ∙ ap words_of c.line-item.is) in (
+      c.push_reserved.ensures.items ∙ more.0,
+      more.1,
+      omega (arith, c.push_reserved.ensures.len, c.loop-line.invariant.2),
+      omega (arith, c.push_reserved.ensures.capacity, c.loop-line.invariant.3),
+    )

@@ -18,9 +18,11 @@ pub loop-number-preserved : goal.loop-number-preserved
 loop-number-preserved c =
     let code = c.args.lines.now in
     let more = positions_of_more code c.loop-number.number c.loop-number.positions.items c.loop-number.before c.width_at-before.result c.loop-number.invariant.0 c.loop-number.invariant.1 c.width_at-before.ensures in (
-      c.in_ok-push.ensures.items ∙ more.0,
+      c.push_reserved-in-loop-number.ensures.items ∙ more.0,
       more.1,
       c.is_unreached_behind-unreached.ensures
           ∙ unreached_in_turn code c.loop-number.unreached c.loop-number.number c.loop-number.invariant.2
           ∙ ap (is_unreached_before code) (let e : suc c.loop-number.number ≡ c.loop-number.number + 1 = omega arith in e),
+      omega (arith, c.push_reserved-in-loop-number.ensures.len, c.loop-number.invariant.3),
+      omega (arith, c.push_reserved-in-loop-number.ensures.capacity, c.loop-number.invariant.4),
     )
