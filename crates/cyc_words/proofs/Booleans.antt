@@ -35,12 +35,6 @@ pub not_and_itself : (b : Bool) → (not b && b) ≡ false
 not_and_itself true = refl
 not_and_itself false = refl
 
-pub and_second_first : (a b c : Bool) → ((b && a) && c) ≡ (a && (b && c))
-and_second_first true true c = refl
-and_second_first true false c = refl
-and_second_first false true c = refl
-and_second_first false false c = refl
-
 -- ---- not
 
 pub not_not : (b : Bool) → not (not b) ≡ b
