@@ -15,6 +15,9 @@ use crate::steps::run_cost;
 use cyc_types::typed::TypedTree;
 use std::alloc::{AllocError, Global};
 
+/// The words of a page of the store.
+const PAGE_WORDS: u64 = 1024;
+
 /// How many pages of the store a run of a program may ask for.
 #[derive(Drop)]
 pub enum PageBound {
@@ -35,7 +38,7 @@ fn further_pages(blocks: u64, words: u64) -> u64
     requires { words < too_many }
     ensures { result ≡ further_pages blocks words }
 {
-    let by_words = 2 * words / 1025;
+    let by_words = 2 * words / (PAGE_WORDS + 1);
     if blocks < by_words { blocks } else { by_words }
 }
 
@@ -45,7 +48,7 @@ fn blocks_in_page(class: u32) -> u64
     ensures is { result ≡ blocks_in_page class }
     ensures some { 0 < result }
 {
-    1024 >> class
+    PAGE_WORDS >> class
 }
 
 /// The pages for so many unique blocks of a class.

@@ -208,7 +208,7 @@ impl PageStore {
         let used = self.table.filled(last);
         if used + words <= PAGE_WORDS {
             self.table.fill(root, used + words);
-            let address = address_at(1024 * last + used);
+            let address = address_at(PAGE_WORDS * last + used);
             self.ledger = Ledger::with(&self.ledger, &Change::Made(2 * root + 1, address, words));
             return Ok(address);
         }
@@ -216,7 +216,7 @@ impl PageStore {
             return Err(No::Full);
         };
         self.usage.note_added(root);
-        let address = address_at(1024 * page);
+        let address = address_at(PAGE_WORDS * page);
         self.ledger = Ledger::with(&self.ledger, &Change::Made(2 * root + 1, address, words));
         Ok(address)
     }
@@ -236,8 +236,8 @@ impl PageStore {
         self.usage.note_cut();
         self.classes[class as usize] = ClassSlots {
             dead: NONE,
-            fresh: 1024 * page,
-            left: 1024 >> class,
+            fresh: PAGE_WORDS * page,
+            left: PAGE_WORDS >> class,
         };
         self.ledger = Ledger::with(&self.ledger, &Change::Stocked(class));
         Ok(())
@@ -281,14 +281,14 @@ impl PageStore {
         let Some(word) = number_at(address) else {
             return None;
         };
-        if count <= word / 1024 {
+        if count <= word / PAGE_WORDS {
             return None;
         }
-        let Role::Slots(class) = self.table.role(word / 1024) else {
+        let Role::Slots(class) = self.table.role(word / PAGE_WORDS) else {
             return None;
         };
-        let number = (word % 1024) >> class;
-        if number * size_of(class) != word % 1024 {
+        let number = (word % PAGE_WORDS) >> class;
+        if number * size_of(class) != word % PAGE_WORDS {
             return None;
         }
         if self.table.is_marked(word) {

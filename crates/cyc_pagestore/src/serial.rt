@@ -5,6 +5,7 @@ ghost use Rattle.cyc_rawpages.specs.inside.Pool.{PoolState};
 ghost use Rattle.cyc_pagestore.specs.inside.Live.{IsWhole, AreNewer, AreOne, Readies, reach, Renumbers};
 
 use cyc_rawpages::{PageNo, Pool};
+use cyc_store::PAGE_WORDS;
 
 /// How many words of a page are live by its fill mark: all before it, if the page has the serial of its owner, else none.
 #[inline]
@@ -13,7 +14,7 @@ pub(crate) fn reach(pool: &Pool, page: u32) -> u32
     requires there { page < pool.now.pages }
     ensures { result ≡ reach pool.now page }
 {
-    let first = 1024 * page;
+    let first = PAGE_WORDS * page;
     let page = PageNo { number: page };
     let fill = pool.fill(page);
     if fill <= first {
@@ -37,7 +38,7 @@ pub(crate) fn is_within(pool: &Pool, word: u32) -> bool
     ensures { result ≡ nat_lt (word % 1024) (reach pool.now (word / 1024)) }
 {
     let page = PageNo {
-        number: word / 1024,
+        number: word / PAGE_WORDS,
     };
     if pool.fill(page) <= word {
         return false;

@@ -8,7 +8,7 @@ use super::links::Roster;
 use super::serial::{is_within, next_serial, reach};
 use super::step::Step;
 use cyc_rawpages::{Chain, PageNo, Pool};
-use cyc_store::{NONE, Role};
+use cyc_store::{NONE, PAGE_WORDS, Role};
 use std::alloc::{AllocError, Global};
 use std::marker::Model;
 
@@ -107,9 +107,9 @@ impl PoolTable {
     {
         self.pool.load(
             PageNo {
-                number: word / 1024,
+                number: word / PAGE_WORDS,
             },
-            word % 1024,
+            word % PAGE_WORDS,
         )
     }
 
@@ -121,9 +121,9 @@ impl PoolTable {
     {
         self.pool.save(
             PageNo {
-                number: word / 1024,
+                number: word / PAGE_WORDS,
             },
-            word % 1024,
+            word % PAGE_WORDS,
             value,
         )
     }
@@ -136,9 +136,9 @@ impl PoolTable {
     {
         self.pool.bit(
             PageNo {
-                number: word / 1024,
+                number: word / PAGE_WORDS,
             },
-            word % 1024,
+            word % PAGE_WORDS,
         )
     }
 
@@ -148,7 +148,11 @@ impl PoolTable {
         requires { first + count ≤ 1024 * self.old.most }
         ensures { Marks self.old self.new first count mark }
     {
-        if count >= 32 && count % 32 == 0 && first % 32 == 0 && count <= 1024 - first % 1024 {
+        if count >= 32
+            && count % 32 == 0
+            && first % 32 == 0
+            && count <= PAGE_WORDS - first % PAGE_WORDS
+        {
             self.mark_whole(first, count, mark);
         } else {
             self.mark_parts(first, count, mark);
@@ -165,9 +169,9 @@ impl PoolTable {
     {
         self.pool.set_whole_bits(
             PageNo {
-                number: first / 1024,
+                number: first / PAGE_WORDS,
             },
-            first % 1024,
+            first % PAGE_WORDS,
             count,
             mark,
         );
@@ -184,9 +188,9 @@ impl PoolTable {
             let some = (32 - word % 32).min(count - done);
             self.pool.set_bits(
                 PageNo {
-                    number: word / 1024,
+                    number: word / PAGE_WORDS,
                 },
-                word % 1024,
+                word % PAGE_WORDS,
                 some,
                 mark,
             );
@@ -271,7 +275,7 @@ impl PoolTable {
         let head = PageNo { number: root };
         let serial = self.pool.serial(head);
         self.pool.set_owner(page, root);
-        self.pool.set_fill(page, 1024 * page.number + words);
+        self.pool.set_fill(page, PAGE_WORDS * page.number + words);
         self.pool.set_serial(page, serial);
         self.pool.chain_push(head, page);
         let role = self.spots[root as usize].role;
@@ -310,7 +314,7 @@ impl PoolTable {
     {
         let page = self.spots[root as usize].newest;
         self.pool
-            .set_fill(PageNo { number: page }, 1024 * page + filled);
+            .set_fill(PageNo { number: page }, PAGE_WORDS * page + filled);
         self.roster = Roster::with(&self.roster, &Step::Filled(page, filled));
     }
 

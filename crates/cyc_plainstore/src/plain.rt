@@ -127,8 +127,8 @@ impl PlainStore {
         requires { word < length self.now.words }
         ensures { result ≡ is_some (holder (homes (held_of self.now)) (STORE_BASE + 4 * word)) }
     {
-        let offset = (word % 1024) as u32;
-        let row = &self.table.rows[word / 1024];
+        let offset = (word % PAGE_WORDS as usize) as u32;
+        let row = &self.table.rows[word / PAGE_WORDS as usize];
         if offset < row.filled {
             return true;
         }
@@ -202,7 +202,7 @@ impl PlainStore {
                 filled: last.filled + words,
                 ..last
             };
-            let address = address_at(1024 * first.newest + last.filled);
+            let address = address_at(PAGE_WORDS * first.newest + last.filled);
             self.ledger = Ledger::with(&self.ledger, &Change::Made(2 * root + 1, address, words));
             return Ok(address);
         }
@@ -222,7 +222,7 @@ impl PlainStore {
             count: first.count + 1,
             ..first
         };
-        let address = address_at(1024 * page);
+        let address = address_at(PAGE_WORDS * page);
         self.ledger = Ledger::with(&self.ledger, &Change::Made(2 * root + 1, address, words));
         Ok(address)
     }
@@ -250,8 +250,8 @@ impl PlainStore {
         };
         self.classes[class as usize] = ClassSlots {
             dead: NONE,
-            fresh: 1024 * page,
-            left: 1024 >> class,
+            fresh: PAGE_WORDS * page,
+            left: PAGE_WORDS >> class,
         };
         self.ledger = Ledger::with(&self.ledger, &Change::Stocked(class));
         Ok(())
@@ -296,15 +296,15 @@ impl PlainStore {
         let Some(word) = number_at(address) else {
             return None;
         };
-        if count <= (word / 1024) as usize {
+        if count <= (word / PAGE_WORDS) as usize {
             return None;
         }
-        let row = self.table.rows[(word / 1024) as usize];
+        let row = self.table.rows[(word / PAGE_WORDS) as usize];
         let Role::Slots(class) = row.role else {
             return None;
         };
-        let number = (word % 1024) >> class;
-        if number * size_of(class) != word % 1024 {
+        let number = (word % PAGE_WORDS) >> class;
+        if number * size_of(class) != word % PAGE_WORDS {
             return None;
         }
         if self.table.live[word as usize] {
