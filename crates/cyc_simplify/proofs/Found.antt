@@ -1,4 +1,4 @@
--- A fact that stands among others is known, and follows.
+-- A fact that stands among others is known, and follows. So does the one more.
 use Rattle.std.proofs.Common.{◌≡◌, ℕ, zero, suc, true, ◌||◌, List, [], ◌∷◌, Option, Some, None, slice_get, ap, ◌∙◌}
 use Rattle.std.proofs.lemmas.Bool.{or_left, or_right}
 use Rattle.cyc_simplify.specs.declared.fact.Fact.{Fact}
@@ -16,3 +16,8 @@ pub known_follows : (facts : List Fact) (more : Option Fact) (fact : Fact) → i
 known_follows facts more fact known =
     or_right (is_unreached facts) (is_known_with facts more fact || (is_known_with facts more (resolved_fact facts fact) || is_below facts fact))
     (or_left (is_known_with facts more fact) (is_known_with facts more (resolved_fact facts fact) || is_below facts fact) (or_left (is_known facts fact) (is_more more fact) known))
+
+pub more_follows : (facts : List Fact) (more : Option Fact) (fact : Fact) → is_more more fact ≡ true → follows facts more fact ≡ true
+more_follows facts more fact is =
+    or_right (is_unreached facts) (is_known_with facts more fact || (is_known_with facts more (resolved_fact facts fact) || is_below facts fact))
+    (or_left (is_known_with facts more fact) (is_known_with facts more (resolved_fact facts fact) || is_below facts fact) (or_right (is_known facts fact) (is_more more fact) is))

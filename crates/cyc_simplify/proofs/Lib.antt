@@ -29,5 +29,7 @@ pub mod Found
 pub mod Marked
 pub mod About
 pub mod Ranges
+pub mod Narrowed
+pub mod Entered
 pub mod Walks
 pub mod Tails

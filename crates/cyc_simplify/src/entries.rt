@@ -1,9 +1,11 @@
-//! Looks for what is known at the places that are jumped to. Nothing is promised of it: it is checked where it is used.
-use crate::entry::{Entry, enter};
-use crate::fact::{Fact, MOST_FACTS};
+//! Looks for what is known at the places of regions with loops. Nothing is promised of it: it is checked where it is used.
+ghost use Rattle.std.specs.Prelude.{◌<◌, length};
+
+use crate::entry::{Entry, come_to, enter, no_entries};
+use crate::fact::Fact;
 use crate::facts::Facts;
 use crate::jumps::{is_end, target_of};
-use crate::known::{are_known, follows, is_unreached};
+use crate::known::is_unreached;
 use crate::outcomes::made;
 use crate::replacement::put_at;
 use crate::walk::come_behind;
@@ -13,27 +15,40 @@ use std::alloc::{AllocError, Global};
 /// How often code is gone through at most.
 const ROUNDS: usize = 4;
 
-/// So many facts are looked for at most at a place that is jumped to: each jump on a way there may show one more.
-const MOST_ENTRY_FACTS: usize = 4 * MOST_FACTS;
+/// Whether a place is jumped to from further on, or exceptions come to it.
+#[derive(Clone, Copy)]
+struct Head {
+    is_head: bool,
+    /// The furthest place from which it is jumped back to, or itself.
+    jumped_from: usize,
+}
 
 /// Places of code, up to the one at the end. No jump leads into it or out of it, but to where a run ends.
 #[derive(Clone, Copy)]
-struct Region {
+pub(crate) struct Region {
     first: usize,
-    end: usize,
-    /// Whether one of its places is a head.
-    has_head: bool,
+    pub(crate) end: usize,
+    /// Whether what is known there is searched for: one of its places is a head.
+    pub(crate) is_searched: bool,
+}
+
+/// The search for what is known in a function.
+#[derive(Drop)]
+pub(crate) struct Search {
+    heads: Vec<Head>,
+    /// What is guessed to be known at each place, if there are heads.
+    pub(crate) guesses: Vec<Entry>,
+    facts: Facts,
+    /// What is known where a region begins.
+    before: Vec<Fact>,
+    /// The region that was begun last.
+    pub(crate) region: Region,
 }
 
 /// The furthest place to which the code jumps from a place, or from which it jumps back to that.
-fn furthest(
-    entries: &[Entry],
-    code: &[Instruction],
-    instruction: Instruction,
-    index: usize,
-) -> usize {
-    let back = match entries.get(index) {
-        Some(entry) => entry.jumped_from,
+fn furthest(heads: &[Head], code: &[Instruction], instruction: Instruction, index: usize) -> usize {
+    let back = match heads.get(index) {
+        Some(head) => head.jumped_from,
         None => index,
     };
     match target_of(instruction) {
@@ -48,260 +63,275 @@ fn furthest(
     }
 }
 
-fn is_head(entries: &[Entry], place: usize) -> bool {
-    match entries.get(place) {
-        Some(entry) => entry.is_head,
+fn is_head(heads: &[Head], place: usize) -> bool {
+    match heads.get(place) {
+        Some(head) => head.is_head,
         None => false,
     }
 }
 
 /// The region that begins at a place.
-fn region_at(entries: &[Entry], code: &[Instruction], first: usize) -> Region {
+fn region_at(heads: &[Head], code: &[Instruction], first: usize) -> Region {
     let mut last = first;
     let mut has_head = false;
     for index in first..code.len() {
-        let place = furthest(entries, code, code[index], index);
+        let place = furthest(heads, code, code[index], index);
         if last < place {
             last = place;
         }
-        has_head = has_head || is_head(entries, index);
+        has_head = has_head || is_head(heads, index);
         if last <= index {
             return Region {
                 first,
                 end: index + 1,
-                has_head,
+                is_searched: has_head,
             };
         }
     }
     Region {
         first,
         end: code.len(),
-        has_head,
+        is_searched: has_head,
     }
-}
-
-/// What does not follow from what is known is taken away. Answers whether nothing was.
-fn restrict(asked: &mut Vec<Fact>, facts: &[Fact], more: Option<Fact>) -> bool {
-    if are_known(asked, facts, more) {
-        return true;
-    }
-    let count = asked.len();
-    asked.retain(|fact| follows(facts, more, *fact));
-    asked.len() == count
-}
-
-/// The code comes to a place, where so much is known. Answers whether what is known there stays.
-fn come_to(
-    entries: &mut Vec<Entry>,
-    code: &[Instruction],
-    place: usize,
-    facts: &[Fact],
-    more: Option<Fact>,
-) -> Result<bool, AllocError> {
-    if let Some(entry) = entries.get_mut(place) {
-        if entry.is_target {
-            return Ok(restrict(&mut entry.facts, facts, more));
-        }
-        entry.is_target = true;
-        entry.facts.clear();
-        if !is_end(code, place) {
-            entry.facts.extend_from_slice(facts)?;
-            if let Some(fact) = more {
-                if entry.facts.len() >= MOST_ENTRY_FACTS {
-                    entry.facts.remove(0);
-                }
-                entry.facts.push(fact)?;
-            }
-        }
-    }
-    Ok(false)
-}
-
-/// Whether what is known at a place may come from elsewhere than the instruction before it.
-fn is_joined(entries: &[Entry], place: usize) -> bool {
-    match entries.get(place) {
-        Some(entry) => entry.is_target || entry.is_head,
-        None => false,
-    }
-}
-
-/// The code comes to a place from the instruction before it, if a run does. What is known becomes what is known at the place.
-fn come_next(
-    entries: &mut Vec<Entry>,
-    code: &[Instruction],
-    place: usize,
-    facts: &mut Facts,
-) -> Result<(), AllocError> {
-    if is_joined(entries, place) {
-        if is_unreached(facts.all()) {
-            facts.clear();
-        } else {
-            come_to(entries, code, place, facts.all(), None)?;
-        }
-    }
-    enter(entries, place, facts)
-}
-
-/// Once through a region. Answers whether what was known at each head was known where the code jumps back to it.
-fn go_through(
-    plain: &Plain,
-    function: &Function,
-    pinned: &[bool],
-    entries: &mut Vec<Entry>,
-    facts: &mut Facts,
-    region: Region,
-) -> Result<bool, AllocError> {
-    let mut is_settled = true;
-    for index in region.first..function.code.len() {
-        if index >= region.end {
-            return Ok(is_settled);
-        }
-        if index > region.first {
-            come_next(entries, &function.code, index, facts)?;
-        }
-        let instruction = put_at(facts, index, function.code.len(), function.code[index]);
-        let target = if is_unreached(facts.all()) {
-            None
-        } else {
-            target_of(instruction)
-        };
-        if let Some(target) = target {
-            let more = made(pinned, instruction, index, target);
-            let is_still = come_to(entries, &function.code, target, facts.all(), more)?;
-            is_settled = is_settled && (is_still || target > index);
-        }
-        come_behind(plain, pinned, facts, instruction, index)?;
-    }
-    Ok(is_settled)
 }
 
 /// A place to which the code jumps from further on.
-fn mark(entries: &mut Vec<Entry>, place: usize, from: usize) {
-    if let Some(entry) = entries.get_mut(place) {
-        entry.is_head = true;
-        entry.jumped_from = from;
+fn mark(heads: &mut Vec<Head>, place: usize, from: usize) {
+    if let Some(head) = heads.get_mut(place) {
+        head.is_head = true;
+        head.jumped_from = from;
     }
+}
+
+/// Whether an instruction leads to a head.
+fn has_head(instruction: Instruction, index: usize) -> bool {
+    match instruction {
+        Instruction::Jump { target } => target <= index,
+        Instruction::Branch { target, .. } => target <= index,
+        Instruction::Try { .. } => true,
+        _ => false,
+    }
+}
+
+fn has_heads(code: &[Instruction]) -> bool {
+    for index in 0..code.len() {
+        if has_head(code[index], index) {
+            return true;
+        }
+    }
+    false
+}
+
+/// Each place, with whether it is a head, if there are heads.
+fn heads_of(alloc: Global, code: &[Instruction]) -> Result<Vec<Head>, AllocError> {
+    if !has_heads(code) {
+        return Ok(Vec::new(alloc));
+    }
+    let mut heads = Vec::with_capacity(alloc, code.len())?;
+    for index in 0..code.len() {
+        heads.push(Head {
+            is_head: false,
+            jumped_from: index,
+        })?;
+        if let Some(target) = target_of(code[index]) {
+            if target <= index {
+                mark(&mut heads, target, index);
+            }
+        }
+        if let Instruction::Try { .. } = code[index] {
+            if let Some(head) = heads.get_mut(index) {
+                head.is_head = true;
+            }
+        }
+    }
+    Ok(heads)
 }
 
 /// A place where a handler is opened: exceptions come to it, and nothing is known.
 fn close(entries: &mut Vec<Entry>, place: usize) {
     if let Some(entry) = entries.get_mut(place) {
-        entry.is_head = true;
         entry.is_target = true;
     }
 }
 
-/// Each place, with whether it is a head.
-fn unknown(alloc: Global, code: &[Instruction]) -> Result<Vec<Entry>, AllocError> {
-    let mut entries = Vec::with_capacity(alloc, code.len())?;
-    for index in 0..code.len() {
-        entries.push(Entry {
-            is_target: false,
-            is_head: false,
-            jumped_from: index,
-            facts: Vec::new(alloc),
-        })?;
-        if let Some(target) = target_of(code[index]) {
-            if target <= index {
-                mark(&mut entries, target, index);
+/// At so many places nothing is known yet but that there is nothing where handlers are opened.
+fn unknown(alloc: Global, code: &[Instruction], count: usize) -> Result<Vec<Entry>, AllocError> {
+    let mut guesses = no_entries(alloc, count)?;
+    for index in 0..count.min(code.len()) {
+        if let Instruction::Try { .. } = code[index] {
+            close(&mut guesses, index);
+        }
+    }
+    Ok(guesses)
+}
+
+impl Search {
+    pub(crate) fn new(alloc: Global, code: &[Instruction]) -> Result<Search, AllocError> {
+        let heads = heads_of(alloc, code)?;
+        let guesses = unknown(alloc, code, heads.len())?;
+        Ok(Search {
+            heads,
+            guesses,
+            facts: Facts::new(alloc),
+            before: Vec::new(alloc),
+            region: Region {
+                first: 0,
+                end: 0,
+                is_searched: false,
+            },
+        })
+    }
+
+    /// Whether what is known at a place may come from elsewhere than the instruction before it.
+    fn is_joined(&self, place: usize) -> bool {
+        match self.guesses.get(place) {
+            Some(guess) => guess.is_target || is_head(&self.heads, place),
+            None => false,
+        }
+    }
+
+    /// The code comes to a place from the instruction before it, if a run does. What is known becomes what is known at the place.
+    fn come_next(&mut self, code: &[Instruction], place: usize) -> Result<(), AllocError> {
+        if self.is_joined(place) {
+            if is_unreached(self.facts.all()) {
+                self.facts.clear();
+            } else {
+                come_to(&mut self.guesses, code, place, self.facts.all(), None)?;
             }
         }
-        if let Instruction::Try { .. } = code[index] {
-            close(&mut entries, index);
+        enter(&self.guesses, place, &mut self.facts)
+    }
+
+    /// One instruction. Answers whether what was known where it jumps back to was known here.
+    fn pass(
+        &mut self,
+        plain: &Plain,
+        function: &Function,
+        pinned: &[bool],
+        index: usize,
+    ) -> Result<bool, AllocError>
+        requires { index < length function.now.code.items }
+    {
+        let count = function.code.len();
+        let instruction = put_at(&self.facts, index, count, function.code[index]);
+        let mut is_settled = true;
+        if let Some(target) = target_of(instruction) {
+            if !is_unreached(self.facts.all()) {
+                let more = made(pinned, instruction, index, target);
+                let facts = self.facts.all();
+                let is_still = come_to(&mut self.guesses, &function.code, target, facts, more)?;
+                is_settled = is_still || target > index;
+            }
+        }
+        come_behind(plain, pinned, &mut self.facts, instruction, index)?;
+        Ok(is_settled)
+    }
+
+    /// Once through a region. Answers whether what was known at each head was known where the code jumps back to it.
+    fn go_through(
+        &mut self,
+        plain: &Plain,
+        function: &Function,
+        pinned: &[bool],
+    ) -> Result<bool, AllocError> {
+        let mut is_settled = true;
+        for index in self.region.first..function.code.len() {
+            if index >= self.region.end {
+                return Ok(is_settled);
+            }
+            if index > self.region.first {
+                self.come_next(&function.code, index)?;
+            }
+            let is_still = self.pass(plain, function, pinned, index)?;
+            is_settled = is_settled && is_still;
+        }
+        Ok(is_settled)
+    }
+
+    /// What is known elsewhere in a region than at heads is to be found once more, but where a run ends, to which others may jump too.
+    fn forget(&mut self, code: &[Instruction]) {
+        for index in self.region.first..self.region.end {
+            let is_head = is_head(&self.heads, index);
+            if let Some(guess) = self.guesses.get_mut(index) {
+                guess.is_target = guess.is_target && (is_head || is_end(code, index));
+            }
         }
     }
-    Ok(entries)
-}
 
-/// What is known elsewhere in a region than at heads is to be found once more, but where a run ends, to which others may jump too.
-fn forget(entries: &mut Vec<Entry>, code: &[Instruction], region: Region) {
-    for index in region.first..region.end {
-        if let Some(entry) = entries.get_mut(index) {
-            entry.is_target = entry.is_target && (entry.is_head || is_end(code, index));
+    /// At heads nothing is known, and elsewhere in a region it is to be found once more.
+    fn forget_heads(&mut self, code: &[Instruction]) {
+        for index in self.region.first..self.region.end {
+            let is_head = is_head(&self.heads, index);
+            if let Some(guess) = self.guesses.get_mut(index) {
+                guess.is_target = is_head || (guess.is_target && is_end(code, index));
+                guess.facts.clear();
+            }
         }
     }
-}
 
-/// At heads nothing is known, and elsewhere in a region it is to be found once more.
-fn forget_heads(entries: &mut Vec<Entry>, code: &[Instruction], region: Region) {
-    for index in region.first..region.end {
-        if let Some(entry) = entries.get_mut(index) {
-            entry.is_target = entry.is_head || (entry.is_target && is_end(code, index));
-            entry.facts.clear();
+    /// What is known where a region begins becomes what is known there where the code jumps back to it too.
+    fn come_again(&mut self) -> Result<(), AllocError> {
+        self.facts.replace(&self.before)?;
+        if self.region.first > 0 {
+            enter(&self.guesses, self.region.first, &mut self.facts)?;
         }
+        Ok(())
     }
-}
 
-/// What is known where a region begins becomes what is known there where the code jumps back to it too.
-fn come_again(
-    entries: &[Entry],
-    facts: &mut Facts,
-    before: &[Fact],
-    region: Region,
-) -> Result<(), AllocError> {
-    facts.replace(before)?;
-    if region.first > 0 {
-        enter(entries, region.first, facts)?;
-    }
-    Ok(())
-}
-
-/// What is known at each place of a region that is jumped to. The facts become those behind it.
-fn settle(
-    plain: &Plain,
-    function: &Function,
-    pinned: &[bool],
-    entries: &mut Vec<Entry>,
-    facts: &mut Facts,
-    before: &mut Vec<Fact>,
-    region: Region,
-) -> Result<(), AllocError> {
-    if region.has_head {
-        before.clear();
-        before.extend_from_slice(facts.all())?;
+    /// What is known at each place of a region that is jumped to.
+    fn settle(
+        &mut self,
+        plain: &Plain,
+        function: &Function,
+        pinned: &[bool],
+    ) -> Result<(), AllocError> {
+        self.before.clear();
+        self.before.extend_from_slice(self.facts.all())?;
         for _ in 0..ROUNDS {
-            if go_through(plain, function, pinned, entries, facts, region)? {
+            if self.go_through(plain, function, pinned)? {
                 return Ok(());
             }
-            forget(entries, &function.code, region);
-            come_again(entries, facts, before, region)?;
+            self.forget(&function.code);
+            self.come_again()?;
         }
-        forget_heads(entries, &function.code, region);
-        come_again(entries, facts, before, region)?;
+        self.forget_heads(&function.code);
+        self.come_again()?;
+        self.go_through(plain, function, pinned)?;
+        Ok(())
     }
-    go_through(plain, function, pinned, entries, facts, region)?;
-    Ok(())
-}
 
-/// What is known at each place that is jumped to, as far as it is found, one region behind the other. Where a function begins nothing is.
-pub(crate) fn entries_of(
-    alloc: Global,
-    plain: &Plain,
-    function: &Function,
-    pinned: &[bool],
-) -> Result<Vec<Entry>, AllocError> {
-    let mut entries = unknown(alloc, &function.code)?;
-    let mut facts = Facts::new(alloc);
-    let mut before = Vec::new(alloc);
-    let mut next = 0;
-    for first in 0..function.code.len() {
-        if first != next {
-            continue;
+    /// Whether a region begins at a place. Where there is no head no region is looked for.
+    pub(crate) fn begins_at(&self, place: usize) -> bool {
+        place >= self.region.end && !self.heads.is_empty()
+    }
+
+    /// Whether the search came to a place to which no run comes: behind the head of a loop that nothing leads to.
+    fn is_alone(&self, facts: &[Fact]) -> bool {
+        self.region.is_searched && is_unreached(facts) && !is_unreached(self.facts.all())
+    }
+
+    /// A region begins at a place, to which the code comes with so much known, but where a function begins. Where the search is alone it
+    /// goes on.
+    pub(crate) fn begin(
+        &mut self,
+        plain: &Plain,
+        function: &Function,
+        pinned: &[bool],
+        facts: &[Fact],
+        first: usize,
+    ) -> Result<(), AllocError> {
+        let is_alone = self.is_alone(facts);
+        self.region = region_at(&self.heads, &function.code, first);
+        if !self.region.is_searched && !is_alone {
+            return Ok(());
+        }
+        self.region.is_searched = true;
+        if !is_alone {
+            self.facts.replace(facts)?;
         }
         if first > 0 {
-            come_next(&mut entries, &function.code, first, &mut facts)?;
+            self.come_next(&function.code, first)?;
         }
-        let region = region_at(&entries, &function.code, first);
-        settle(
-            plain,
-            function,
-            pinned,
-            &mut entries,
-            &mut facts,
-            &mut before,
-            region,
-        )?;
-        next = region.end;
+        self.settle(plain, function, pinned)
     }
-    Ok(entries)
 }

@@ -1,25 +1,47 @@
 //! What is known at the places that are jumped to.
-ghost use Rattle.std.specs.Prelude.{◌≡◌, OnOk, None};
+ghost use Rattle.std.specs.Prelude.{◌≡◌, ℕ, ◌<◌, true, IfOk, OnOk, None, length};
 ghost use Rattle.cyc_simplify.specs.inside.Facts as facts_of;
 ghost use Rattle.cyc_simplify.specs.inside.Entries as entries_of;
 ghost use Rattle.cyc_simplify.specs.inside.Table as table;
 
-use crate::fact::Fact;
+use crate::fact::{Fact, MOST_FACTS};
 use crate::facts::Facts;
-use crate::known::are_known;
+use crate::jumps::is_end;
+use crate::known::{are_known, follows};
 use crate::pins::are_suited;
-use std::alloc::AllocError;
+use cyc_plain::Instruction;
+use std::alloc::{AllocError, Global};
+use std::mem;
+
+/// So many facts are looked for at most at a place that is jumped to: each jump on a way there may show one more.
+const MOST_ENTRY_FACTS: usize = 4 * MOST_FACTS;
 
 /// What is known at a place in the code.
 #[derive(Drop)]
 pub(crate) struct Entry {
     /// Whether it is jumped to. At any other place what is known is known from the instruction before it.
     pub(crate) is_target: bool,
-    /// Whether it is jumped to from further on, or exceptions come to it.
-    pub(crate) is_head: bool,
-    /// The furthest place from which it is jumped back to, or itself.
-    pub(crate) jumped_from: usize,
     pub(crate) facts: Vec<Fact>,
+}
+
+/// As many places, to which nothing leads yet.
+pub(crate) fn no_entries(alloc: Global, count: usize) -> Result<Vec<Entry>, AllocError> {
+    let mut entries = Vec::with_capacity(alloc, count)?;
+    for _ in 0..count {
+        entries.push(Entry {
+            is_target: false,
+            facts: Vec::new(alloc),
+        })?;
+    }
+    Ok(entries)
+}
+
+/// Whether a place is jumped to.
+pub(crate) fn is_target(entries: &[Entry], place: usize) -> bool {
+    match entries.get(place) {
+        Some(entry) => entry.is_target,
+        None => false,
+    }
 }
 
 /// Whether a place that is jumped to asks for no more than what is known.
@@ -62,4 +84,98 @@ pub(crate) fn enter(entries: &[Entry], place: usize, facts: &mut Facts) -> Resul
         }
     }
     Ok(())
+}
+
+/// What does not follow from what is known is taken away. Answers whether nothing was.
+fn restrict(asked: &mut Vec<Fact>, facts: &[Fact], more: Option<Fact>) -> bool
+    ensures less { entries_of.IsLess asked.old.items asked.new.items }
+    ensures known { table.are_known asked.new.items facts.now more ≡ true }
+{
+    if are_known(asked, facts, more) {
+        return true;
+    }
+    let count = asked.len();
+    asked.retain(|fact| follows(facts, more, *fact));
+    asked.len() == count
+}
+
+/// One more is known, if there is: the oldest of so many is forgotten for it.
+#[tactic(auto, using(crate::proofs::Entered::known_of_itself, crate::proofs::Entered::known_with_one, crate::proofs::Entered::known_without_first,))]
+fn remember_more(known: &mut Vec<Fact>, more: Option<Fact>) -> Result<(), AllocError>
+    ensures { OnOk result (table.are_known known.new.items known.old.items more ≡ true) }
+{
+    if let Some(fact) = more {
+        if known.len() >= MOST_ENTRY_FACTS {
+            known.remove(0);
+        }
+        known.push(fact)?;
+    }
+    Ok(())
+}
+
+/// What is known on the first way to a place. Where a run ends nothing need be.
+fn come_first(
+    entry: &mut Entry,
+    is_end: bool,
+    facts: &[Fact],
+    more: Option<Fact>,
+) -> Result<(), AllocError>
+    ensures target { OnOk result (entry.new.is_target ≡ true) }
+    ensures known { OnOk result (table.are_known entry.new.facts.items facts.now more ≡ true) }
+{
+    entry.is_target = true;
+    entry.facts.clear();
+    if is_end {
+        return Ok(());
+    }
+    entry.facts.extend_from_slice(facts)?;
+    remember_more(&mut entry.facts, more)
+}
+
+/// The code comes to a place, where so much is known. Answers whether what is known there stays.
+#[tactic(auto, using(crate::proofs::Entered::known_where_set))]
+pub(crate) fn come_to(
+    entries: &mut Vec<Entry>,
+    code: &[Instruction],
+    place: usize,
+    facts: &[Fact],
+    more: Option<Fact>,
+) -> Result<bool, AllocError>
+    ensures narrowed { IfOk result (λ is_still. (index : ℕ) → index < place → entries_of.AreNarrowed index (entries_of.entry_in entries.old.items) (entries_of.entry_in entries.new.items)) }
+    ensures known { IfOk result (λ is_still. place < length entries.old.items
+        → table.may_jump (entries_of.entry_in entries.new.items place) facts.now more ≡ true) }
+{
+    if place >= entries.len() {
+        return Ok(false);
+    }
+    if entries[place].is_target {
+        return Ok(restrict(&mut entries[place].facts, facts, more));
+    }
+    come_first(&mut entries[place], is_end(code, place), facts, more)?;
+    Ok(false)
+}
+
+/// What was guessed to be known at a place is known there, if it is jumped to.
+#[tactic(auto, using(crate::proofs::Narrowed::none_narrowed))]
+fn adopt_at(guesses: &mut Vec<Entry>, entries: &mut Vec<Entry>, place: usize)
+    ensures { (index : ℕ) → index < place → entries_of.AreNarrowed index (entries_of.entry_in entries.old.items) (entries_of.entry_in entries.new.items) }
+{
+    if place >= entries.len() || entries[place].is_target {
+        return;
+    }
+    if let Some(guess) = guesses.get_mut(place) {
+        if guess.is_target {
+            mem::swap(&mut entries[place], guess);
+        }
+    }
+}
+
+/// So it is at the places from the first to the one at the end.
+#[tactic(auto, using(crate::proofs::Narrowed::none_narrowed))]
+pub(crate) fn adopt(guesses: &mut Vec<Entry>, entries: &mut Vec<Entry>, first: usize, end: usize)
+    ensures { (index : ℕ) → index < first → entries_of.AreNarrowed index (entries_of.entry_in entries.old.items) (entries_of.entry_in entries.new.items) }
+{
+    for place in first..end {
+        adopt_at(guesses, entries, place);
+    }
 }

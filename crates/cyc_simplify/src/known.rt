@@ -411,13 +411,13 @@ fn found_from(facts: &[Fact], place: usize, fact: Fact) -> usize
     facts.len()
 }
 
-/// Whether a fact follows that was found at a place, if there is one.
-#[tactic(auto, using(crate::proofs::Found::known_follows))]
+/// Whether a fact follows that was found at a place, if there is one. The one more is asked for last, and stands nowhere.
+#[tactic(auto, using(crate::proofs::Found::known_follows, crate::proofs::Found::more_follows))]
 fn follows_found(facts: &[Fact], more: Option<Fact>, fact: Fact, place: usize) -> bool
     requires { place < length facts.now → facts_of.is_known facts.now fact ≡ true }
     ensures { result ≡ table.follows facts.now more fact }
 {
-    place < facts.len() || follows(facts, more, fact)
+    place < facts.len() || (is_more(more, fact) || follows(facts, more, fact))
 }
 
 /// Whether all that is asked for is known. What is known there mostly stands in the same order.

@@ -7,7 +7,6 @@ ghost use Rattle.cyc_simplify.specs.inside.Simplified.{IsSimplified};
 ghost use Rattle.cyc_simplify.specs.inside.Table.{IsReplaced};
 
 use crate::candidates::is_candidate;
-use crate::entries::entries_of;
 use crate::pins::pins_of;
 use crate::room::spare;
 use crate::tail::without_tail;
@@ -25,8 +24,7 @@ fn simplified_code(
 {
     if is_candidate(&function.code) {
         let pinned = pins_of(alloc, function)?;
-        let entries = entries_of(alloc, plain, function, &pinned)?;
-        if let Some(code) = walked(alloc, plain, function, &pinned, &entries)? {
+        if let Some(code) = walked(alloc, plain, function, &pinned)? {
             return Ok(code);
         }
     }

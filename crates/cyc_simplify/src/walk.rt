@@ -1,15 +1,19 @@
 //! The code of a function, each instruction by what is known where it stands.
-ghost use Rattle.std.specs.Prelude.{◌≡◌, ◌+◌, ◌<◌, ◌^◌, true, IfOk, IfSome, OnOk, length};
+ghost use Rattle.std.specs.Prelude.{◌≡◌, ℕ, ◌+◌, ◌<◌, ◌^◌, true, IfOk, IfSome, OnOk, length};
 ghost use Rattle.cyc_plain.specs.inside.Program.{routine_of};
 ghost use Rattle.cyc_plain.specs.inside.Uses.{At};
 ghost use Rattle.cyc_simplify.specs.inside.Entries as entries_of;
+ghost use Rattle.cyc_simplify.specs.inside.Facts as facts_of;
 ghost use Rattle.cyc_simplify.specs.inside.Table as table;
 
 use crate::effects::go_on;
-use crate::entry::{Entry, enter, is_entry_suited, may_go_on, may_jump};
+use crate::entries::Search;
+use crate::entry::{
+    Entry, adopt, come_to, enter, is_entry_suited, is_target, may_go_on, may_jump, no_entries,
+};
 use crate::fact::Fact;
 use crate::facts::Facts;
-use crate::jumps::goes_on;
+use crate::jumps::{goes_on, is_end};
 use crate::known::{is_unreached, never};
 use crate::outcomes::made;
 use crate::replacement::put_at;
@@ -77,30 +81,222 @@ pub(crate) fn come_behind(
     facts.remember(Some(never()))
 }
 
+/// An instruction leads by a jump to a place further on: of what was known there stays what is known here too. One to which no run comes
+/// leads nowhere, and in a region that was searched it was found, but where a run ends. Answers whether no more is asked for there.
+#[tactic(auto, using(crate::proofs::Narrowed::none_narrowed))]
+fn lead(
+    entries: &mut Vec<Entry>,
+    code: &[Instruction],
+    is_searched: bool,
+    pinned: &[bool],
+    facts: &[Fact],
+    instruction: Instruction,
+    index: usize,
+    target: usize,
+) -> Result<bool, AllocError>
+    requires { index + 1 < 2 ^ 64 }
+    ensures narrowed { IfOk result (λ is_known. entries_of.AreNarrowed index (entries_of.entry_in entries.old.items) (entries_of.entry_in entries.new.items)) }
+    ensures known { IfOk result (λ is_known. is_known ≡ true
+        → table.may_jump (entries_of.entry_in entries.new.items target) facts.now (facts_of.made pinned.now instruction index target) ≡ true) }
+{
+    if target <= index || is_unreached(facts) || (is_searched && !is_end(code, target)) {
+        return Ok(false);
+    }
+    let is_inside = target < entries.len();
+    let more = made(pinned, instruction, index, target);
+    come_to(entries, code, target, facts, more)?;
+    Ok(is_inside)
+}
+
+/// An instruction may lead by a jump to a place further on. Answers whether the entries are right where it jumps to.
+#[tactic(auto, using(crate::proofs::Narrowed::none_narrowed, crate::proofs::Entered::jumped_well))]
+fn is_led(
+    entries: &mut Vec<Entry>,
+    code: &[Instruction],
+    is_searched: bool,
+    pinned: &[bool],
+    facts: &[Fact],
+    instruction: Instruction,
+    index: usize,
+) -> Result<bool, AllocError>
+    requires { index + 1 < 2 ^ 64 }
+    ensures narrowed { IfOk result (λ is_right. entries_of.AreNarrowed index (entries_of.entry_in entries.old.items) (entries_of.entry_in entries.new.items)) }
+    ensures right { IfOk result (λ is_right. is_right ≡ true
+        → entries_of.jumps_well pinned.now (entries_of.entry_in entries.new.items) facts.now instruction index ≡ true) }
+{
+    match instruction {
+        Instruction::Jump { target } => Ok(
+            lead(
+                entries,
+                code,
+                is_searched,
+                pinned,
+                facts,
+                instruction,
+                index,
+                target,
+            )? || jumps_well(pinned, entries, facts, instruction, index),
+        ),
+        Instruction::Branch { target, .. } => Ok(
+            lead(
+                entries,
+                code,
+                is_searched,
+                pinned,
+                facts,
+                instruction,
+                index,
+                target,
+            )? || jumps_well(pinned, entries, facts, instruction, index),
+        ),
+        Instruction::Try { handler, .. } => {
+            lead(
+                entries,
+                code,
+                is_searched,
+                pinned,
+                facts,
+                instruction,
+                index,
+                handler,
+            )?;
+            Ok(jumps_well(pinned, entries, facts, instruction, index))
+        }
+        _ => Ok(true),
+    }
+}
+
+/// A region begins at a place, if it does.
+#[tactic(auto, using(crate::proofs::Narrowed::none_narrowed))]
+fn begin_at(
+    plain: &Plain,
+    function: &Function,
+    pinned: &[bool],
+    search: &mut Search,
+    entries: &mut Vec<Entry>,
+    facts: &[Fact],
+    place: usize,
+) -> Result<(), AllocError>
+    ensures { OnOk result ((index : ℕ) → index < place → entries_of.AreNarrowed index (entries_of.entry_in entries.old.items) (entries_of.entry_in entries.new.items)) }
+{
+    if search.begins_at(place) {
+        search.begin(plain, function, pinned, facts, place)?;
+        adopt(&mut search.guesses, entries, place, search.region.end);
+    }
+    Ok(())
+}
+
+/// What was known at a place that is jumped to stays, so far as it is known from the instruction before it. Answers whether no more is
+/// asked for there.
+#[tactic(auto, using(crate::proofs::Narrowed::none_narrowed, crate::proofs::Entered::jumped_on))]
+fn join(
+    entries: &mut Vec<Entry>,
+    code: &[Instruction],
+    is_searched: bool,
+    facts: &[Fact],
+    place: usize,
+) -> Result<bool, AllocError>
+    ensures narrowed { IfOk result (λ is_known. (index : ℕ) → index < place → entries_of.AreNarrowed index (entries_of.entry_in entries.old.items) (entries_of.entry_in entries.new.items)) }
+    ensures known { IfOk result (λ is_known. is_known ≡ true → table.may_go_on (entries_of.entry_in entries.new.items place) facts.now None ≡ true) }
+{
+    if is_searched || !is_target(entries, place) || is_unreached(facts) {
+        return Ok(false);
+    }
+    let is_inside = place < entries.len();
+    come_to(entries, code, place, facts, None)?;
+    Ok(is_inside)
+}
+
+/// The code comes to a place from the instruction before it. Answers whether no more is asked for there, if that is seen.
+fn come_next(
+    plain: &Plain,
+    function: &Function,
+    pinned: &[bool],
+    search: &mut Search,
+    entries: &mut Vec<Entry>,
+    facts: &[Fact],
+    place: usize,
+) -> Result<bool, AllocError>
+    ensures narrowed { IfOk result (λ is_known. (index : ℕ) → index < place → entries_of.AreNarrowed index (entries_of.entry_in entries.old.items) (entries_of.entry_in entries.new.items)) }
+    ensures known { IfOk result (λ is_known. is_known ≡ true → table.may_go_on (entries_of.entry_in entries.new.items place) facts.now None ≡ true) }
+{
+    begin_at(plain, function, pinned, search, entries, facts, place)?;
+    let is_known = join(
+        entries,
+        &function.code,
+        search.region.is_searched,
+        facts,
+        place,
+    )?;
+    Ok(is_known)
+}
+
+/// The code comes to the place behind an instruction. Answers whether no more is asked for there, where it goes on to that.
+#[tactic(auto, using(crate::proofs::Entered::gone_well))]
+fn is_come_behind(
+    plain: &Plain,
+    function: &Function,
+    pinned: &[bool],
+    search: &mut Search,
+    entries: &mut Vec<Entry>,
+    behind: &[Fact],
+    instruction: Instruction,
+    index: usize,
+) -> Result<bool, AllocError>
+    requires { index + 1 < 2 ^ 64 }
+    ensures narrowed { IfOk result (λ is_right. entries_of.AreNarrowed index (entries_of.entry_in entries.old.items) (entries_of.entry_in entries.new.items)) }
+    ensures right { IfOk result (λ is_right. is_right ≡ true → entries_of.goes_well (entries_of.entry_in entries.new.items) behind.now instruction index ≡ true) }
+{
+    if come_next(plain, function, pinned, search, entries, behind, index + 1)? {
+        return Ok(true);
+    }
+    Ok(goes_well(entries, behind, instruction, index))
+}
+
 /// One instruction: the facts become those at the next one. Answers whether the entries are right there.
 fn is_passed(
     plain: &Plain,
+    function: &Function,
     pinned: &[bool],
-    entries: &[Entry],
+    search: &mut Search,
+    entries: &mut Vec<Entry>,
     facts: &mut Facts,
     instruction: Instruction,
     index: usize,
 ) -> Result<bool, AllocError>
     requires { index + 1 < 2 ^ 64 }
+    ensures narrowed { IfOk result (λ is_right. is_right ≡ true → entries_of.AreNarrowed index (entries_of.entry_in entries.old.items) (entries_of.entry_in entries.new.items)) }
     ensures checked { IfOk result (λ is_right. is_right ≡ true
-        → table.is_checked_at plain.now pinned.now (entries_of.entry_in entries.now) facts.old instruction index ≡ true) }
+        → table.is_checked_at plain.now pinned.now (entries_of.entry_in entries.new.items) facts.old instruction index ≡ true) }
     ensures facts { IfOk result (λ is_right. is_right ≡ true
-        → facts.new ≡ table.entered_or (entries_of.entry_in entries.now (index + 1))
+        → facts.new ≡ table.entered_or (entries_of.entry_in entries.new.items (index + 1))
         (table.behind_put plain.now pinned.now facts.old instruction index)) }
 {
-    if !jumps_well(pinned, entries, facts.all(), instruction, index) {
+    if !is_led(
+        entries,
+        &function.code,
+        search.region.is_searched,
+        pinned,
+        facts.all(),
+        instruction,
+        index,
+    )? {
         return Ok(false);
     }
     come_behind(plain, pinned, facts, instruction, index)?;
-    if !is_entry_suited(pinned, entries, index + 1) {
+    if !is_come_behind(
+        plain,
+        function,
+        pinned,
+        search,
+        entries,
+        facts.all(),
+        instruction,
+        index,
+    )? {
         return Ok(false);
     }
-    if !goes_well(entries, facts.all(), instruction, index) {
+    if !is_entry_suited(pinned, entries, index + 1) {
         return Ok(false);
     }
     enter(entries, index + 1, facts)?;
@@ -114,25 +310,44 @@ fn instruction_at(function: &Function, index: usize) -> Instruction
     function.code[index]
 }
 
-/// The code of a function, each instruction by what is known where it stands, if the entries are right.
+/// The code of a function, each instruction by what is known where it stands, if what the search found is right.
 #[tactic(auto, using(crate::proofs::Walks::none_walked))]
 pub(crate) fn walked(
     alloc: Global,
     plain: &Plain,
     function: &Function,
     pinned: &[bool],
-    entries: &[Entry],
 ) -> Result<Option<Vec<Instruction>>, AllocError>
     ensures { IfOk result (λ made. IfSome made (λ code.
-        entries_of.IsWalked plain.now (routine_of function.now) pinned.now entries.now code.items)) }
+        entries_of.IsWalkedBySome plain.now (routine_of function.now) pinned.now code.items)) }
 {
     let mut code = Vec::with_capacity(alloc, function.code.len())?;
+    let mut entries = no_entries(alloc, function.code.len())?;
+    let mut search = Search::new(alloc, &function.code)?;
     let mut facts = Facts::new(alloc);
+    come_next(
+        plain,
+        function,
+        pinned,
+        &mut search,
+        &mut entries,
+        facts.all(),
+        0,
+    )?;
     for index in 0..function.code.len() {
         let given = instruction_at(function, index);
         let instruction = put_at(&facts, index, function.code.len(), given);
         code.push(instruction)?;
-        if !is_passed(plain, pinned, entries, &mut facts, instruction, index)? {
+        if !is_passed(
+            plain,
+            function,
+            pinned,
+            &mut search,
+            &mut entries,
+            &mut facts,
+            instruction,
+            index,
+        )? {
             return Ok(None);
         }
     }

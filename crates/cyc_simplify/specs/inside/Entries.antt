@@ -1,5 +1,5 @@
 -- What is known at the places that are jumped to, as the code holds it, and the two halves of the check.
-use Rattle.std.specs.Prelude.{◌≡◌, ℕ, ◌+◌, ◌<◌, Bool, true, false, ◌==◌, ◌&&◌, ◌||◌, if◌then◌else◌, List, length, Option, Some, None, slice_get, slice_index_or}
+use Rattle.std.specs.Prelude.{◌≡◌, ℕ, ◌+◌, ◌<◌, ◌≤◌, Bool, true, false, ◌==◌, ◌&&◌, ◌||◌, if◌then◌else◌, List, length, Option, Some, None, slice_get, slice_index_or}
 use Rattle.cyc_plain.specs.declared.instruction.Instruction.{Instruction}
 use Rattle.cyc_plain.specs.declared.instruction.Instruction.TheVariants as instructions
 use Rattle.cyc_plain.specs.inside.Uses.{At}
@@ -11,7 +11,7 @@ use Rattle.cyc_simplify.specs.declared.fact.Touched.TheVariants as touches
 use Rattle.cyc_simplify.specs.declared.fact.Written.{Written}
 use Rattle.cyc_simplify.specs.inside.Facts.{is_unreached, made}
 use Rattle.cyc_simplify.specs.inside.Replacement.{put_at}
-use Rattle.cyc_simplify.specs.inside.Table.{facts_at, may_jump, may_go_on, is_checked_at, IsReplaced}
+use Rattle.cyc_simplify.specs.inside.Table.{facts_at, are_known, may_jump, may_go_on, is_checked_at, IsReplaced}
 
 abbrev pub entry_of : Option Entry → Option (List Fact)
 entry_of (Some entry) = if entry.is_target then Some entry.facts.items else None
@@ -19,6 +19,15 @@ entry_of None = None
 
 abbrev pub entry_in : List Entry → (index : ℕ) → Option (List Fact)
 entry_in entries index = entry_of (slice_get entries index)
+
+-- less is asked for: what is known is enough for the second where it is for the first
+abbrev pub IsLess : (asked less : List Fact) → Type 0
+IsLess asked less = (facts : List Fact) (more : Option Fact) → are_known asked facts more ≡ true → are_known less facts more ≡ true
+
+-- The places behind this one ask for no more than before, and the others for the same. A place that nothing led to may ask for anything.
+pub record AreNarrowed (index : ℕ) (old new : ℕ → Option (List Fact)) : Type 0 where
+  pub same : (k : ℕ) → k ≤ index → new k ≡ old k
+  pub less : (k : ℕ) (facts : List Fact) (more : Option Fact) → may_jump (old k) facts more ≡ true → may_jump (new k) facts more ≡ true
 
 -- an instruction leads by a jump to a place that asks for no more than what is known
 abbrev pub jumps_well : List Bool → (entry : ℕ → Option (List Fact)) → List Fact → Instruction → (index : ℕ) → Bool
@@ -51,6 +60,10 @@ pub record AreWalked (program : Program) (r : Routine) (pinned : List Bool) (ent
 -- all of them were
 abbrev pub IsWalked : Program → Routine → List Bool → List Entry → (code : List Instruction) → Type 0
 IsWalked program r pinned entries code = (facts : List Fact) × AreWalked program r pinned entries (length r.code) code facts
+
+-- so they were by some entries
+abbrev pub IsWalkedBySome : Program → Routine → List Bool → (code : List Instruction) → Type 0
+IsWalkedBySome program r pinned code = (entries : List Entry) × IsWalked program r pinned entries code
 
 -- the function with other code
 abbrev pub with_code : Routine → List Instruction → Routine

@@ -3,7 +3,7 @@ use Rattle.std.proofs.Common.{Bool, true, refl, sym, subst, replicate}
 use Rattle.std.proofs.lemmas.Result.{IfOk-weaker}
 use lib.ListN.{length-replicate}
 use Rattle.cyc_plain.specs.inside.Program.{routine_of}
-use Rattle.cyc_simplify.specs.inside.Entries.{with_code}
+use Rattle.cyc_simplify.specs.inside.Entries.{with_code, IsWalkedBySome}
 use Rattle.cyc_simplify.specs.inside.Table.{ArePins, IsReplaced}
 use Rattle.cyc_simplify.specs.inside.Tail.{IsTailless}
 use Rattle.cyc_simplify.proofs.Ranges.{all_pinned}
@@ -14,8 +14,9 @@ use Rattle.cyc_simplify.proofs.simplification.simplified_code.Goals as goal
 pub returns-in-Some : goal.returns-in-Some
 returns-in-Some c =
     let r = routine_of c.args.function.now in
-    walked_replaced c.args.plain.now r c.deref-then-is_candidate-2.result.now c.deref-then-is_candidate-3.result.now c.in-Some.code.items
-    (subst (ArePins r) (sym c.deref-then-is_candidate-2.ensures.value) c.in_ok-pinned.ensures) (rw c.in-Some.is at c.in_ok-code.ensures)
+    let pinned = c.deref-then-is_candidate.result.now in
+    let by : IsWalkedBySome c.args.plain.now r pinned c.in-Some.code.items = rw c.in-Some.is at c.in_ok-code.ensures in
+    walked_replaced c.args.plain.now r pinned by.0 c.in-Some.code.items (subst (ArePins r) (sym c.deref-then-is_candidate.ensures.value) c.in_ok-pinned.ensures) by.1
 
 pub returns : goal.returns
 returns c =

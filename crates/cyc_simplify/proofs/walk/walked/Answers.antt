@@ -3,6 +3,7 @@ use Rattle.std.proofs.Common.{◌≡◌, ℕ, ◌∙◌, ap, arith}
 use Rattle.std.specs.Prelude.{length}
 use Rattle.cyc_plain.specs.inside.Program.{routine_of}
 use Rattle.cyc_simplify.specs.inside.Replacement.{put_at}
+use Rattle.cyc_simplify.proofs.Narrowed.{walked_narrowed}
 use Rattle.cyc_simplify.proofs.Walks.{stepped}
 use Rattle.cyc_simplify.proofs.walk.walked.Goals as goal
 
@@ -11,9 +12,11 @@ loop-index-preserved c =
     let a = c.args in
     let old = c.loop-index in
     let i = c.instruction_at-given.result in
+    let entries = c.is_passed.new.entries.items in
     let long : c.len-in-loop-index.result ≡ length (routine_of a.function.now).code = omega (arith, c.len-in-loop-index.ensures, a.function.now.code.ok.0) in
-    stepped a.plain.now (routine_of a.function.now) a.pinned.now a.entries.now old.index old.code.items old.facts c.is_passed.new.facts
-    i old.invariant c.instruction_at-given.ensures c.put_at-instruction.result c.push.new.self.items
+    stepped a.plain.now (routine_of a.function.now) a.pinned.now entries old.index old.code.items old.facts c.is_passed.new.facts
+    i (walked_narrowed a.plain.now (routine_of a.function.now) a.pinned.now old.entries.items entries old.index old.code.items old.facts (c.in_ok-is_passed.ensures.narrowed c.if-not-branch.false) old.invariant)
+    c.instruction_at-given.ensures c.put_at-instruction.result c.push.new.self.items
     (c.put_at-instruction.ensures ∙ ap (λ (count : ℕ). put_at old.facts old.index count i) long)
     c.in_ok-push.ensures.items
     (c.in_ok-is_passed.ensures.checked c.if-not-branch.false) (c.in_ok-is_passed.ensures.facts c.if-not-branch.false)

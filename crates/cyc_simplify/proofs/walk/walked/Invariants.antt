@@ -6,4 +6,4 @@ use Rattle.cyc_simplify.proofs.walk.walked.Given as goal
 -- the instructions so far
 abbrev pub invariant-loop-index : goal.invariant-loop-index
 invariant-loop-index l =
-    AreWalked l.plain (routine_of l.function) l.pinned l.entries l.index l.code.items l.facts
+    AreWalked l.plain (routine_of l.function) l.pinned l.entries.items l.index l.code.items l.facts

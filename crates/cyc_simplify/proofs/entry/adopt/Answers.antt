@@ -1,0 +1,8 @@
+-- cyc_simplify/proofs/entry/adopt/Answers.antt
+use Rattle.std.proofs.Common.{arith}
+use Rattle.cyc_simplify.proofs.Narrowed.{narrowed_again}
+use Rattle.cyc_simplify.proofs.entry.adopt.Goals as goal
+
+pub loop-place-preserved : goal.loop-place-preserved
+loop-place-preserved c index below =
+    narrowed_again index _ _ _ (c.loop-place.invariant index below) (c.adopt_at.ensures index (omega (arith, below, c.loop-place.auto.place)))
