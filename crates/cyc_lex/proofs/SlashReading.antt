@@ -2,15 +2,16 @@
 use Rattle.std.proofs.Common.{◌≡◌, ◌≢◌, ℕ, ◌+◌, ◌-◌, ◌<◌, ◌≤◌, true, false, not, Some, None, inl, inr, ⊎_elim, List, [], ◌∷◌, ◌++◌, length, get_or, take, drop, refl, sym, ap, ◌∙◌, append_assoc, append-nil, arith}
 use Rattle.std.specs.Prelude.{codes}
 use Rattle.std.specs.List.{list_all, list_any, prefix_len}
-use Rattle.std.proofs.lemmas.Bool.{cases_lt, and_left, and_from, and_parts, or_from, or_parts, not-true, not_from_false, cond-false, ne_eqb}
+use Rattle.std.proofs.lemmas.Bool.{cases_lt, and_from, and_parts, or_from, or_parts, not-true, not_from_false}
 use Rattle.std.proofs.lemmas.List.{take-append-drop, take-append-le, take_at, length-append, length-drop}
 use Rattle.std.proofs.lemmas.List.Sums.{prefix_len-le-length}
 use Rattle.cyc_words.specs.declared.fault.Code.TheVariants as codes_of
 use Rattle.cyc_words.proofs.Lists.{two_first, take_two_first}
 use Rattle.cyc_words.proofs.Searches.{prefix_len-passes, prefix_len-at_least}
 use Rattle.cyc_syntax.specs.declared.tokens.Sign.{Sign}
+use Rattle.cyc_syntax.specs.declared.tokens.Sign.TheVariants as signs
 use Rattle.cyc_syntax.specs.declared.tokens.TokenKind.TheVariants as kinds
-use Rattle.cyc_syntax.specs.Spelling.{is_letter, is_digit, is_space, is_line_feed, sign_text, HasNoClose, Lexeme, Comment}
+use Rattle.cyc_syntax.specs.Spelling.{is_line_feed, sign_text, HasNoClose, Lexeme, Comment}
 use Rattle.cyc_syntax.specs.Tokens.{Mark}
 use Rattle.cyc_syntax.proofs.PieceLemmas.{AtSlash, AtSign, start_of}
 use Rattle.cyc_lex.specs.inside.Found.{IsFound}
@@ -132,28 +133,55 @@ open_comment text long first second none = (
 
 -- a sign
 
-pub found_sign : (text : List ℕ) (s : Sign) (n : ℕ) → is_letter (get_or text 0 0) ≡ false → is_digit (get_or text 0 0) ≡ false
-    → is_space (get_or text 0 0) ≡ false → get_or text 0 0 ≢ 96 → get_or text 0 0 ≢ 39 → get_or text 0 0 ≢ 47
-    → n ≡ length (sign_text s) → text ≡ sign_text s ++ drop n text
+-- no other piece but a comment begins with the first byte of a sign
+at_sign : (s : Sign) (rest : List ℕ) → get_or (sign_text s ++ rest) 0 0 ≢ 47 → start_of (get_or (sign_text s ++ rest) 0 0) ≡ AtSign
+at_sign signs.Swap rest other = refl
+at_sign signs.AndAnd rest other = refl
+at_sign signs.OrOr rest other = refl
+at_sign signs.Equal rest other = refl
+at_sign signs.NotEqual rest other = refl
+at_sign signs.LessOrEqual rest other = refl
+at_sign signs.GreaterOrEqual rest other = refl
+at_sign signs.ShiftLeft rest other = refl
+at_sign signs.ShiftRight rest other = refl
+at_sign signs.Arrow rest other = refl
+at_sign signs.Plus rest other = refl
+at_sign signs.Minus rest other = refl
+at_sign signs.Star rest other = refl
+at_sign signs.Slash rest other = absurd (other refl)
+at_sign signs.Percent rest other = refl
+at_sign signs.And rest other = refl
+at_sign signs.Or rest other = refl
+at_sign signs.Xor rest other = refl
+at_sign signs.Tilde rest other = refl
+at_sign signs.Not rest other = refl
+at_sign signs.Less rest other = refl
+at_sign signs.Greater rest other = refl
+at_sign signs.Assign rest other = refl
+at_sign signs.LeftParen rest other = refl
+at_sign signs.RightParen rest other = refl
+at_sign signs.LeftBracket rest other = refl
+at_sign signs.RightBracket rest other = refl
+at_sign signs.LeftBrace rest other = refl
+at_sign signs.RightBrace rest other = refl
+at_sign signs.Comma rest other = refl
+at_sign signs.Semicolon rest other = refl
+at_sign signs.Colon rest other = refl
+at_sign signs.At rest other = refl
+at_sign signs.Question rest other = refl
+
+pub found_sign : (text : List ℕ) (s : Sign) (n : ℕ) → get_or text 0 0 ≢ 47 → n ≡ length (sign_text s) → text ≡ sign_text s ++ drop n text
     → ((other : Sign) (rest : List ℕ) → text ≡ sign_text other ++ rest → length (sign_text other) ≤ n)
     → IsFound text (Some (kinds.Sign s)) n
-found_sign text s n letter digit space backquote quote slash len begins longest =
+found_sign text s n other len begins longest =
     let inside : n ≤ length text = omega (arith, len, ap length begins, length-append (sign_text s) (drop n text)) in
     let cut : take n text ≡ sign_text s = ap (take n) begins ∙ take_at (sign_text s) (drop n text) n (sym len) in
+    let first : get_or text 0 0 ≡ get_or (sign_text s ++ drop n text) 0 0 = ap (λ l. get_or l 0 0) begins in
     record {
       within = inside;
       piece = (
-        read_at (Lexeme (Mark s)) AtSign text n
-            (at_sign (get_or text 0 0) letter digit space backquote quote slash)
-            inside cut
+        read_at (Lexeme (Mark s)) AtSign text n (ap start_of first ∙ at_sign s (drop n text) (λ slash. other (first ∙ slash))) inside cut
             (λ front rest whole shape. rw shape.1 (longest shape.0 rest (whole ∙ ap (λ l. l ++ rest) shape.1))),
         tt,
       );
     }
-  where
-    at_sign : (b : ℕ) → is_letter b ≡ false → is_digit b ≡ false → is_space b ≡ false → b ≢ 96 → b ≢ 39 → b ≢ 47 → start_of b ≡ AtSign
-    at_sign b letter digit space backquote quote slash =
-        cond-false _ _ _ letter ∙ cond-false _ _ _ digit ∙ cond-false _ _ _ space
-        ∙ cond-false _ _ _ (and_left _ _ (ne_eqb b 96 backquote))
-        ∙ cond-false _ _ _ (and_left _ _ (ne_eqb b 39 quote))
-        ∙ cond-false _ _ _ (and_left _ _ (ne_eqb b 47 slash))

@@ -151,21 +151,21 @@ pub fn read_piece(text: &[u8]) -> Result<Found, Code>
 {
     let first = text[0];
     if is_letter(first) {
-        Ok(read_name(text))
-    } else if first.is_ascii_digit() {
-        read_number(text)
-    } else if is_space(first) {
-        Ok(blank(1))
-    } else if first == b'`' {
-        read_region_name(text)
-    } else if first == b'\'' {
-        read_character(text)
-    } else if first == b'/' {
-        read_slash(text)
-    } else {
-        match sign(text) {
-            Some((sign, len)) => Ok(token(TokenKind::Sign(sign), len)),
-            None => Err(Code::UnknownByte),
-        }
+        return Ok(read_name(text));
+    }
+    if first.is_ascii_digit() {
+        return read_number(text);
+    }
+    if first == b'/' {
+        return read_slash(text);
+    }
+    if let Some((sign, len)) = sign(text) {
+        return Ok(token(TokenKind::Sign(sign), len));
+    }
+    match first {
+        b'`' => read_region_name(text),
+        b'\'' => read_character(text),
+        _ if is_space(first) => Ok(blank(1)),
+        _ => Err(Code::UnknownByte),
     }
 }
