@@ -184,22 +184,12 @@ impl SpillCosts {
                 mark(places, target);
                 return false;
             }
-            Instruction::Load {
-                destination,
-                address,
-                ..
-            } => self.change(destination, address, weight),
-            Instruction::Store {
-                address,
-                source,
-                ..
-            } => self.read_operands(address, source, weight),
             _ => return self.look_at_other(places, instruction, weight),
         }
         true
     }
 
-    /// The same of those that are seldom.
+    /// The same of those that neither compute nor branch.
     fn look_at_other(
         &mut self,
         places: &mut Vec<Place>,
@@ -220,17 +210,47 @@ impl SpillCosts {
                 source,
                 count,
             } => self.move_words(destination, source, count, weight),
-            Instruction::LoadByte {
+            Instruction::Try { handler, .. } => mark(places, handler),
+            Instruction::Throw { tag, value } => {
+                self.read_operands(tag, value, weight);
+                return false;
+            }
+            Instruction::Return { value } | Instruction::Finish { value } => {
+                self.read(value, weight);
+                return false;
+            }
+            Instruction::Uncaught { value, .. } => {
+                self.read_operand(value, weight);
+                return false;
+            }
+            _ => self.look_at_memory(instruction, weight),
+        }
+        true
+    }
+
+    /// What an instruction reads and writes that loads, stores, or asks the store.
+    fn look_at_memory(&mut self, instruction: Instruction, weight: u64) {
+        match instruction {
+            Instruction::Load {
+                destination,
+                address,
+                ..
+            }
+            | Instruction::LoadByte {
                 destination,
                 address,
                 ..
             } => self.change(destination, address, weight),
-            Instruction::StoreByte {
+            Instruction::Store {
+                address,
+                source,
+                ..
+            }
+            | Instruction::StoreByte {
                 address,
                 source,
                 ..
             } => self.read_operands(address, source, weight),
-            Instruction::Try { handler, .. } => mark(places, handler),
             Instruction::WriteByte { source } | Instruction::StoreGlobal { source, .. } => {
                 self.read_operand(source, weight)
             }
@@ -239,22 +259,8 @@ impl SpillCosts {
             | Instruction::LoadGlobal { destination, .. }
             | Instruction::CountLexical { destination } => self.write(destination, weight),
             Instruction::Ask { request } => self.read_request(request, weight),
-            _ => return self.look_at_last(instruction, weight),
+            _ => {}
         }
-        true
-    }
-
-    /// The same of those behind which the code does not go on, but for jumps, and of those of which nothing is known.
-    fn look_at_last(&mut self, instruction: Instruction, weight: u64) -> bool {
-        match instruction {
-            Instruction::Throw { tag, value } => self.read_operands(tag, value, weight),
-            Instruction::Return { value } | Instruction::Finish { value } => {
-                self.read(value, weight)
-            }
-            Instruction::Uncaught { value, .. } => self.read_operand(value, weight),
-            _ => return true,
-        }
-        false
     }
 
     /// The places of a function's code, with where its loops begin and end.
