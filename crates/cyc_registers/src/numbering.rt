@@ -7,7 +7,6 @@ use crate::spill_costs::SpillCosts;
 use std::alloc::{AllocError, Global};
 
 /// A mask for one slot more: where it is chosen the bit of the next number, while there is one. Answers the number after it.
-#[tactic(auto, using(crate::proofs::Bits::one_mask_more, crate::proofs::Bits::one_bit))]
 fn number(masks: &mut Vec<u64>, next: u32, is_chosen: bool) -> Result<u32, AllocError>
     requires numbered { AreMasks masks.old.items next }
     requires few { next ≤ MOST_CHOSEN }
@@ -23,7 +22,6 @@ fn number(masks: &mut Vec<u64>, next: u32, is_chosen: bool) -> Result<u32, Alloc
 }
 
 /// The masks of slots: those that cost most in memory are chosen, and get numbers in order.
-#[tactic(auto, using(crate::proofs::Bits::fewer_masks))]
 pub(crate) fn masks_of(alloc: Global, costs: &SpillCosts) -> Result<Vec<u64>, AllocError>
     ensures { IfOk result (λ masks. AreMasks masks.items MOST_CHOSEN) }
 {

@@ -173,7 +173,6 @@ fn are_single(groups: &[u64], set: u64) -> bool
 }
 
 /// Whether of each group one slot at most is in a set. It is so where the set is within one of which that is known.
-#[tactic(auto, using(crate::proofs::Meeting::alone_within, crate::proofs::Meeting::alone_single))]
 fn are_alone(groups: &[u64], known: u64, set: u64) -> bool
     requires { checks.AreAlone groups.now known }
     ensures { result ≡ true → checks.AreAlone groups.now set }
@@ -246,7 +245,6 @@ fn never_meet(
 }
 
 /// Whether no two slots that share a register meet, of which one at most is a parameter.
-#[tactic(auto, using(crate::proofs::CheckedHomes::groups_alone))]
 fn may_share(
     plain: &Plain,
     function: &Function,
