@@ -10,6 +10,7 @@ pub mod Bytes
 pub mod Operations
 pub mod Jumps
 pub mod FastLoop
+pub mod Between
 pub mod Serving
 -- words that are kept, and those that are left out
 pub mod Widening

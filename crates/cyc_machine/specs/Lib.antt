@@ -9,8 +9,8 @@ pub mod WorldMachine
 pub mod Shape
 -- what is told of an instruction that prints a byte or wants one
 pub mod Exchanging
--- what was printed and is still to be passed on
-pub mod Printing
+-- a machine that exchanges bytes with devices itself
+pub mod Between
 -- the machine over a store of some type
 pub mod Held
 -- how the code keeps its memory, which only the crate's own functions speak of

@@ -37,9 +37,6 @@ pub const MIN_CALLS: u32 = 1;
 /// The most calls that may be allowed to be under way at once.
 pub const MAX_CALLS: u32 = 4096;
 
-/// How many bytes of those that were printed are held at most before they are passed on.
-pub const MOST_PRINTED: usize = 256;
-
 /// The service that gets a byte of the input.
 pub const GET_BYTE: u32 = 1;
 

@@ -1,8 +1,10 @@
 //! A MIPS32 machine for user programs: loading an image, and executing its instructions one at a time.
 #![tactic(auto)]
 
+mod closed;
 pub mod constants;
 mod event;
+mod exchanged;
 mod fast;
 mod fault;
 mod kept;
@@ -12,7 +14,6 @@ mod machine;
 mod memory;
 mod operation;
 mod phase;
-mod printed;
 mod registers;
 mod results;
 mod service;
@@ -20,7 +21,7 @@ mod start;
 mod text;
 
 pub use event::{Cause, End, Event, Exchange, Stretch};
+pub use exchanged::{Ahead, Device, Exchanged, NOTHING};
 pub use fault::LoadFault;
 pub use limits::Limits;
 pub use machine::Machine;
-pub use printed::Printed;

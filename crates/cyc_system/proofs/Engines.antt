@@ -1,21 +1,24 @@
 -- The loop of the engine: what it has done so far is a run of the machine on every input that goes on from what was
 -- read.
-use Rattle.std.proofs.Common.{◌≡◌, ℕ, zero, suc, ◌+◌, ◌<◌, ◌≤◌, List, [], ◌∷◌, ◌++◌, drop, take, Bool, true, false, Option, None, Some, Result, Ok, Err, refl, sym, ap, subst, ◌∙◌, arith, append_assoc, append-nil, inl, inr}
+use Rattle.std.proofs.Common.{◌≡◌, ℕ, zero, suc, ◌+◌, ◌<◌, ◌≤◌, List, [], ◌∷◌, ◌++◌, drop, Bool, true, false, Option, None, Some, Result, Ok, Err, refl, sym, ap, subst, ◌∙◌, arith, append_assoc, append-nil, inl, inr}
 use Rattle.std.specs.Prelude.{unwrap_or, slice_get, MatchBool, length, IfSome}
 use Rattle.std.specs.Io.KnownBytes.{Keeps, Appends, Consumes, IsAtEnd}
-use Rattle.std.proofs.lemmas.Bool.{cases_lt}
-use Rattle.std.proofs.lemmas.List.{length-append, take-append-le, take_at}
+use Rattle.std.proofs.lemmas.List.{length-append}
 use Rattle.std.proofs.KnownBytes.{Appends-kept, Consumes-kept}
 use Rattle.cyc_words.proofs.DeviceLemmas.{Keeps-refl, Appends-nil, Appends-append, Consumes-append}
 use Rattle.cyc_words.proofs.Booleans.{MatchBool-false}
 use Rattle.cyc_words.proofs.Lists.{length_in_two}
 use Rattle.cyc_machine.specs.declared.event.End.{End}
+use Rattle.cyc_machine.specs.declared.exchanged.Device.{Device}
+use Rattle.cyc_machine.specs.declared.exchanged.Device.TheVariants.{Reader, Writer}
+use Rattle.cyc_machine.specs.declared.exchanged.Exchanged.{Exchanged}
 use Rattle.cyc_machine.specs.declared.event.Event.{Event}
 use Rattle.cyc_machine.specs.declared.event.Event.TheVariants.{Ran, WantsByte, Puts, Ended, NoMemory}
 use Rattle.cyc_machine.specs.declared.phase.Phase.TheVariants.{Running, Waiting}
 use Rattle.cyc_machine.specs.State.{State}
 use Rattle.cyc_machine.specs.Step.{Step, StepOver, given, given_in}
-use Rattle.cyc_machine.specs.Run.{World, told, Goes, Run, Prints, RunsPrinting, end_in}
+use Rattle.cyc_machine.specs.Between.{Asked, Exchanges, FailsAt, RunsAhead, RunsBetween, Traffic, after_byte}
+use Rattle.cyc_machine.specs.Run.{World, told, Goes, Run, end_in}
 use Rattle.cyc_elf.specs.declared.fault.ElfFault.{ElfFault}
 use Rattle.cyc_elf.specs.Image.{ImageContents}
 use Rattle.cyc_machine.specs.declared.fault.LoadFault.TheVariants as load
@@ -25,7 +28,6 @@ use Rattle.cyc_machine.specs.Bounds.{Bounds}
 use Rattle.cyc_machine.specs.Shape.{phase_after}
 use Rattle.cyc_machine.specs.Start.{has_outside, start_state, start_world}
 use Rattle.cyc_machine.proofs.PhaseLaws.{Step-phase}
-use Rattle.cyc_system.specs.declared.engine.Exchanged.{Exchanged}
 use Rattle.cyc_system.specs.declared.report.Peaks.{Peaks}
 use Rattle.cyc_system.specs.declared.report.Report.{Report}
 use Rattle.cyc_system.specs.declared.report.Stop.{Stop}
@@ -33,9 +35,9 @@ use Rattle.cyc_system.specs.declared.report.Stop.TheVariants as stops
 use Rattle.cyc_system.specs.declared.report.RunFault.{RunFault}
 use Rattle.cyc_system.specs.declared.report.RunFault.TheVariants.{Elf, Load, Read, Write, Memory}
 use Rattle.cyc_system.specs.Engine.{Devices, Rests, Tells, Leaves, Counted, HasPeaks, Executes, Runs, uses_in, higher, Refuses, Starts, Answers, AnswersAnew, IsReported, limit_at}
-use Rattle.cyc_system.specs.Faults.{is_read, is_write}
+use Rattle.cyc_system.specs.Faults.{fault_of, is_read, is_write}
 use Rattle.cyc_system.specs.inside.Loading.{Declines, Loads}
-use Rattle.cyc_system.specs.inside.Turn.{Asked, HandsOn, Turned, TurnedOver, after_byte, counted_at}
+use Rattle.cyc_system.specs.inside.Turn.{Turned, TurnedOver, WentOn, counted_at}
 
 -- one more instruction at the end of a run
 pub Run-more : (count : ℕ) (u v w : World) → Run count u v → Goes v w → Run (suc count) u w
@@ -196,59 +198,56 @@ Progress-turn start old now new count x x' peaks machine machine' p (Puts byte, 
 Progress-turn start old now new count x x' peaks machine machine' p (Ended end, s, step, none) = absurd none
 Progress-turn start old now new count x x' peaks machine machine' p (NoMemory, s, step, none) = absurd none
 
--- Instructions that only ran or printed a byte, where nothing is counted.
+-- Instructions between two turns, where nothing is counted.
 
-printing_step : (count : ℕ) (u : World) (output rest : List ℕ) (machine machine' : State) (event : Event) (before after : List ℕ) → machine.phase ≡ Running
-    → Counted count u (record { machine = machine; output = output ++ before; input = rest }) → Step machine event machine' → Prints event before after
-    → (machine'.phase ≡ Running) × Counted (count + 1) u (record { machine = machine'; output = output ++ after; input = rest })
-printing_step count u output rest machine machine' Ran before after on counted step same = (
-  Step-phase machine Ran machine' step,
-  counted_more count u (record { machine = machine; output = output ++ before; input = rest }) (record { machine = machine'; output = output ++ after; input = rest }) counted on
-      (Ran, machine', step, ap (λ (bytes : List ℕ). record { machine = machine'; output = output ++ bytes; input = rest }) same),
+-- what the devices tell in a traffic
+abbrev pub devices_of : Traffic → Devices
+devices_of t = record { remaining = t.remaining; written = t.written }
+
+went_on : (event : Event) (s machine : State) (before after : Traffic) → Exchanges event s machine before after → WentOn event s machine before.counts after.counts (devices_of before) (devices_of after)
+went_on Ran s machine before after (is, same) = (
+  is,
+  ap (λ (t : Traffic). t.counts) same,
+  subst (λ (t : Traffic). Rests (devices_of before) (devices_of t)) (sym same) (Keeps-refl before.remaining, Keeps-refl before.written),
 )
-printing_step count u output rest machine machine' WantsByte before after on counted step none = absurd none
-printing_step count u output rest machine machine' (Puts byte) before after on counted step longer = (
-  Step-phase machine (Puts byte) machine' step,
-  counted_more count u (record { machine = machine; output = output ++ before; input = rest }) (record { machine = machine'; output = output ++ after; input = rest }) counted on
-      (Puts byte, machine', step, ap (λ (bytes : List ℕ). record { machine = machine'; output = bytes; input = rest }) (ap (λ (bytes : List ℕ). output ++ bytes) longer ∙ sym (append_assoc output before (byte ∷ [])))),
-)
-printing_step count u output rest machine machine' (Ended end) before after on counted step none = absurd none
-printing_step count u output rest machine machine' NoMemory before after on counted step none = absurd none
+went_on WantsByte s machine before after (byte, is, (asked, silent, counts)) =
+    (byte, is, counts, asked, subst (Keeps before.written) (sym silent) (Keeps-refl before.written))
+went_on (Puts byte) s machine before after (is, (kept, appends, counts)) =
+    (is, counts, subst (Keeps before.remaining) (sym kept) (Keeps-refl before.remaining), appends)
+went_on (Ended end) s machine before after none = absurd none
+went_on NoMemory s machine before after none = absurd none
 
-printing_way : (more count : ℕ) (u : World) (output rest : List ℕ) (machine machine' : State) (before after : List ℕ) → machine.phase ≡ Running
-    → Counted count u (record { machine = machine; output = output ++ before; input = rest }) → RunsPrinting more machine before machine' after
-    → (machine'.phase ≡ Running) × Counted (count + more) u (record { machine = machine'; output = output ++ after; input = rest })
-printing_way zero count u output rest machine machine' before after on counted (same, none) =
-    let there : World = record { machine = machine'; output = output ++ after; input = rest } in
-    let is : there ≡ record { machine = machine; output = output ++ before; input = rest } =
-    ap (λ (s : State). record { machine = s; output = output ++ after; input = rest }) same ∙ ap (λ (bytes : List ℕ). record { machine = machine; output = output ++ bytes; input = rest }) none in (
-      ap (λ (s : State). s.phase) same ∙ on,
-      subst (λ (k : ℕ). Counted k u there) (let all : count ≡ count + zero = omega arith in all) (subst (λ (w : World). Counted count u w) (sym is) counted),
-    )
-printing_way (suc more) count u output rest machine machine' before after on counted (mid, between, run, event, step, prints) =
-    let so_far = printing_way more count u output rest machine mid before between on counted run in
-    let behind = printing_step (count + more) u output rest mid machine' event between after so_far.0 so_far.1 step prints in
-    (behind.0, subst (λ (k : ℕ). Counted k u (record { machine = machine'; output = output ++ after; input = rest })) (let all : count + more + 1 ≡ count + suc more = omega arith in all) behind.1)
+progress_between : (start : List ℕ → World) (old : Devices) (count more : ℕ) (machine machine' : State) (before after : Traffic)
+    → Progress start old (devices_of before) count before.counts None machine → RunsBetween more machine before machine' after → Progress start old (devices_of after) (count + more) after.counts None machine'
+progress_between start old count zero machine machine' before after p (same, none) =
+    subst (λ (k : ℕ). Progress start old (devices_of after) k after.counts None machine') (let all : count ≡ count + zero = omega arith in all)
+    (subst (λ (t : Traffic). Progress start old (devices_of t) count t.counts None machine') (sym none)
+    (subst (λ (s : State). Progress start old (devices_of before) count before.counts None s) (sym same) p))
+progress_between start old count (suc more) machine machine' before after p (mid, between, run, event, s, step, exchanges) =
+    let so_far = progress_between start old count more machine mid before between p run in
+    let last = Progress-turn start old (devices_of between) (devices_of after) (count + more) between.counts after.counts None mid machine' so_far (event, s, step, went_on event s machine' between after exchanges) in
+    subst (λ (k : ℕ). Progress start old (devices_of after) k after.counts None machine') (let all : count + more + 1 ≡ count + suc more = omega arith in all) last
 
-pub Progress-printing : (start : List ℕ → World) (old now new : Devices) (count more : ℕ) (x x' : Exchanged) (machine machine' : State) (bytes : List ℕ)
-    → Progress start old now count x None machine → RunsPrinting more machine [] machine' bytes → x' ≡ record x { written = x.written + length bytes } → Keeps now.remaining new.remaining → Appends now.written new.written bytes
-    → Progress start old new (count + more) x' None machine'
-Progress-printing start old now new count more x x' machine machine' bytes p run is kept appends =
-    let ways : (rest : List ℕ) → (x.ended ≡ true → rest ≡ []) → (machine'.phase ≡ Running) × Counted (count + more) (start (p.read ++ rest)) (record { machine = machine'; output = p.output ++ bytes; input = rest }) =
-    λ rest ended. printing_way more count (start (p.read ++ rest)) p.output rest machine machine' [] bytes p.running
-    (subst (λ (o : List ℕ). Counted count (start (p.read ++ rest)) (record { machine = machine; output = o; input = rest })) (sym (append-nil p.output)) (p.runs rest ended).0) run in
-    let all : Progress start old new (count + more) (record x { written = x.written + length bytes }) None machine' = record {
-      read = p.read;
-      output = p.output ++ bytes;
-      consumed = Consumes-kept old.remaining now.remaining new.remaining p.read p.consumed kept;
-      printed = Appends-append old.written now.written new.written p.output bytes p.printed appends;
-      reads = p.reads;
-      writes = ap (λ n. n + length bytes) p.writes ∙ sym (length-append p.output bytes);
-      at_end = λ end. leaves_kept old.remaining now.remaining new.remaining [] (p.at_end end) kept;
-      running = (ways [] (λ ended. refl)).0;
-      runs = λ rest ended. ((ways rest ended).1, tt);
-    } in
-    subst (λ (y : Exchanged). Progress start old new (count + more) y None machine') (sym is) all
+-- a call of a device that failed leaves what was done
+progress_kept : (start : List ℕ → World) (old now new : Devices) (count : ℕ) (x : Exchanged) (peaks : Option Peaks) (machine : State) → Progress start old now count x peaks machine → Rests now new → Progress start old new count x peaks machine
+progress_kept start old now new count x peaks machine p (kept, silent) = record {
+  read = p.read;
+  output = p.output;
+  consumed = Consumes-kept old.remaining now.remaining new.remaining p.read p.consumed kept;
+  printed = Appends-kept old.written now.written new.written p.output p.printed silent;
+  reads = p.reads;
+  writes = p.writes;
+  at_end = λ end. leaves_kept old.remaining now.remaining new.remaining [] (p.at_end end) kept;
+  running = p.running;
+  runs = p.runs;
+}
+
+pub Progress-ahead : (start : List ℕ → World) (old : Devices) (count more : ℕ) (machine machine' : State) (before after : Traffic)
+    → Progress start old (devices_of before) count before.counts None machine → RunsAhead more machine before machine' after → Progress start old (devices_of after) (count + more) after.counts None machine'
+Progress-ahead start old count more machine machine' before after p runs =
+    subst (λ (x : Exchanged). Progress start old (devices_of after) (count + more) x None machine') (sym runs.stays.2)
+    (progress_kept start old (devices_of runs.last) (devices_of after) (count + more) runs.last.counts None machine'
+    (progress_between start old count more machine machine' before runs.last p runs.runs) (runs.stays.0, runs.stays.1))
 
 -- What the loop answers.
 
@@ -376,62 +375,13 @@ fails_at grows start old now new count budget x x' peaks machine machine' (Elf f
 fails_at grows start old now new count budget x x' peaks machine machine' (Load f) p below none = absurd none
 fails_at grows start old now new count budget x x' peaks machine machine' Memory p below none = absurd none
 
--- where a byte was printed, there was an instruction that printed it
-record PrintsAt (most number : ℕ) (machine : State) (bytes : List ℕ) : Type 0 where
-  pub count : ℕ
-  pub few : count < most
-  pub mid : State
-  pub run : RunsPrinting count machine [] mid (take number bytes)
-  pub byte : ℕ
-  pub next : State
-  pub step : Step mid (Puts byte) next
-
-more_of : (most number : ℕ) (machine : State) (bytes longer : List ℕ) → take number longer ≡ take number bytes → PrintsAt most number machine bytes → PrintsAt (suc most) number machine longer
-more_of most number machine bytes longer same at = record {
-  count = at.count;
-  few = omega (arith, at.few);
-  mid = at.mid;
-  run = subst (λ (taken : List ℕ). RunsPrinting at.count machine [] at.mid taken) (sym same) at.run;
-  byte = at.byte;
-  next = at.next;
-  step = at.step;
-}
-
-prints_at : (most number : ℕ) (machine machine' : State) (bytes : List ℕ) → RunsPrinting most machine [] machine' bytes → number < length bytes → PrintsAt most number machine bytes
-prints_at zero number machine machine' bytes (same, none) inside = absurd (let empty : length bytes ≡ 0 = ap (λ (xs : List ℕ). length xs) none in omega (arith, empty, inside))
-prints_at (suc most) number machine machine' bytes (mid, between, run, Ran, step, same) inside =
-    more_of most number machine between bytes (ap (λ (xs : List ℕ). take number xs) same) (prints_at most number machine mid between run (subst (λ (xs : List ℕ). number < length xs) same inside))
-prints_at (suc most) number machine machine' bytes (mid, between, run, WantsByte, step, none) inside = absurd none
-prints_at (suc most) number machine machine' bytes (mid, between, run, Puts byte, step, longer) inside = elim (cases_lt number (length between)) [
-  | inl below ↦
-      more_of most number machine between bytes (ap (λ (xs : List ℕ). take number xs) longer ∙ take-append-le number between (byte ∷ []) (omega (arith, below))) (prints_at most number machine mid between run below)
-  | inr enough ↦
-      let long : length bytes ≡ length between + 1 = ap (λ (xs : List ℕ). length xs) longer ∙ length-append between (byte ∷ []) in
-      let here : length between ≡ number = omega (arith, long, inside, enough) in
-      let taken : take number bytes ≡ between = ap (λ (xs : List ℕ). take number xs) longer ∙ take_at between (byte ∷ []) number here in record {
-        count = most;
-        few = omega arith;
-        mid = mid;
-        run = subst (λ (xs : List ℕ). RunsPrinting most machine [] mid xs) (sym taken) run;
-        byte = byte;
-        next = machine';
-        step = step;
-      }
-]
-prints_at (suc most) number machine machine' bytes (mid, between, run, Ended end, step, none) inside = absurd none
-prints_at (suc most) number machine machine' bytes (mid, between, run, NoMemory, step, none) inside = absurd none
-
--- the writer fails at a byte that was printed
-pub fails_printing : (grows : Bool) (start : List ℕ → World) (old now new : Devices) (count more budget : ℕ) (x x' : Exchanged) (machine machine' : State) (bytes : List ℕ) (e : RunFault) → Progress start old now count x None machine → RunsPrinting more machine [] machine' bytes
-    → count + more < budget → Keeps now.remaining new.remaining → HandsOn {A = Unit} bytes x x' now.written new.written (Err e) → Runs grows start budget old new (Err e)
-fails_printing grows start old now new count more budget x x' machine machine' bytes Read p run below kept none = absurd none
-fails_printing grows start old now new count more budget x x' machine machine' bytes Write p run below kept (number, inside, appends) =
-    let at = prints_at more number machine machine' bytes run inside in
-    let so_far = Progress-printing start old now new count at.count x (record x { written = x.written + length (take number bytes) }) machine at.mid (take number bytes) p at.run refl kept appends in
-    fails_at grows start old new new (count + at.count) budget (record x { written = x.written + length (take number bytes) }) x None at.mid at.mid Write so_far (omega (arith, below, at.few)) (at.byte, at.next, at.step, (Keeps-refl new.remaining, Keeps-refl new.written))
-fails_printing grows start old now new count more budget x x' machine machine' bytes (Elf f) p run below kept none = absurd none
-fails_printing grows start old now new count more budget x x' machine machine' bytes (Load f) p run below kept none = absurd none
-fails_printing grows start old now new count more budget x x' machine machine' bytes Memory p run below kept none = absurd none
+-- between two turns
+pub fails_ahead : (grows : Bool) (start : List ℕ → World) (old now : Devices) (count budget : ℕ) (x : Exchanged) (machine : State) (device : Device) → Progress start old now count x None machine → count < budget
+    → FailsAt (Some device) machine → Runs grows start budget old now (Err (fault_of device))
+fails_ahead grows start old now count budget x machine Reader p below (s, step) =
+    fails_at grows start old now now count budget x x None machine machine Read p below (s, step, (Keeps-refl now.remaining, Keeps-refl now.written))
+fails_ahead grows start old now count budget x machine Writer p below (byte, s, step) =
+    fails_at grows start old now now count budget x x None machine machine Write p below (byte, s, step, (Keeps-refl now.remaining, Keeps-refl now.written))
 
 -- or the store wanted memory, and no device was used
 pub fails_turn : (grows : Bool) (start : List ℕ → World) (old now new : Devices) (count budget : ℕ) (x x' : Exchanged) (peaks : Option Peaks) (machine machine' : State) (e : RunFault) → Progress start old now count x peaks machine → count < budget

@@ -4,6 +4,8 @@ use Rattle.cyc_elf.specs.declared.fault.ElfFault.{ElfFault}
 use Rattle.cyc_elf.specs.declared.fault.ElfFault.TheVariants as elf
 use Rattle.cyc_machine.specs.declared.fault.LoadFault.{LoadFault}
 use Rattle.cyc_machine.specs.declared.fault.LoadFault.TheVariants as load
+use Rattle.cyc_machine.specs.declared.exchanged.Device.{Device}
+use Rattle.cyc_machine.specs.declared.exchanged.Device.TheVariants.{Reader, Writer}
 use Rattle.cyc_system.specs.declared.report.RunFault.{RunFault}
 use Rattle.cyc_system.specs.declared.report.RunFault.TheVariants.{Elf, Load, Read, Write, Memory}
 
@@ -14,6 +16,10 @@ of_elf f = Elf f
 abbrev pub of_load : LoadFault → RunFault
 of_load load.Memory = Memory
 of_load load.Outside = Load load.Outside
+
+abbrev pub fault_of : Device → RunFault
+fault_of Reader = Read
+fault_of Writer = Write
 
 -- whether a call answered that a device failed
 abbrev pub is_read : {T : Type 0} → Result T RunFault → Bool

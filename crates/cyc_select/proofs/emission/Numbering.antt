@@ -152,15 +152,15 @@ function_count_small program frames function fit few index i = omega (arith, bod
     go false = omega arith
 
 -- where there is no function no register is read again
-pub reads_few : (program : Program) (frames : List Frame) → AreFrames program frames → (k : ℕ) → ReadsFew frames k
-reads_few program frames fit k = elim (cases_lt k (length program.functions)) [
+pub function_reads_few : (program : Program) (frames : List Frame) → AreFrames program frames → (k : ℕ) → ReadsFew frames k
+function_reads_few program frames fit k = elim (cases_lt k (length program.functions)) [
   | inl below ↦ ((fit.homes k below).few, (fit.each k below).most_saved)
   | inr past ↦
       subst (λ (frame : Frame). (reload_count frame ≤ 6) × (frame.saved ≤ 7)) (sym (get_or_past frames k no_frame (omega (arith, past, fit.as_many)))) ((omega arith), (omega arith))
 ]
 
 pub body_fits : (program : Program) (frames : List Frame) (function : ℕ) → AreFrames program frames → AreFew program → (i : Instruction) → body_count program frames function i + behind_count program frames function i ≤ instruction_size i
-body_fits program frames function fit few i = omega (arith, body_small program frames function (reads_few program frames fit function) few i)
+body_fits program frames function fit few i = omega (arith, body_small program frames function (function_reads_few program frames fit function) few i)
 
 code_small : (program : Program) (frames : List Frame) (function : ℕ) → ReadsFew frames function → AreFew program → (index : ℕ) (code : List Instruction) → code_count program frames function index code + losing code + returning code ≤ sum_by instruction_size code
 code_small program frames function fit few index [] = omega arith
@@ -282,7 +282,7 @@ routine_is_small program plain k below =
 pub function_fits : (program : Program) (frames : List Frame) → IsPlain program → AreFrames program frames → (k : ℕ) → k < length program.functions
     → function_line program frames k + size (routine_at program k) ≤ most_lines
 function_fits program frames plain fit k below =
-    omega (arith, plain.small, start_fits program frames fit (reads_few program frames fit) (are_few program plain.well_formed) k below)
+    omega (arith, plain.small, start_fits program frames fit (function_reads_few program frames fit) (are_few program plain.well_formed) k below)
 
 module _ {program : Program} {frames : List Frame} {functions : List FunctionLines} (ready : AreReady program frames functions) where
   pub ready_many : length functions ≡ length program.functions
@@ -297,7 +297,7 @@ module _ {program : Program} {frames : List Frame} {functions : List FunctionLin
 
   pub known_fits : (k : ℕ) → instruction_line program frames function k ≤ most_lines
   known_fits k =
-      omega (arith, line_fits program frames known.ready.fit (reads_few program frames known.ready.fit) (are_few program known.ready.well_formed) function known.function_in_range k, known.ready.few)
+      omega (arith, line_fits program frames known.ready.fit (function_reads_few program frames known.ready.fit) (are_few program known.ready.well_formed) function known.function_in_range k, known.ready.few)
 
 -- ---- one instruction behind the other
 

@@ -16,7 +16,7 @@ use Rattle.cyc_select.specs.inside.Counts.{function_count, function_line}
 use Rattle.cyc_select.specs.inside.Selection.{routine_lines, function_lines, start_lines, select_of}
 use Rattle.cyc_select.proofs.layout.Inside.{few_results}
 use Rattle.cyc_select.proofs.layout.Formed.{formed}
-use Rattle.cyc_select.proofs.emission.Numbering.{reads_few, is_saving, are_saved}
+use Rattle.cyc_select.proofs.emission.Numbering.{function_reads_few, is_saving, are_saved}
 use Rattle.cyc_select.proofs.layout.Parts.{place_in, own_function, parts}
 use Rattle.cyc_select.proofs.runs.Runs.{own_of}
 use Rattle.cyc_select.proofs.emission.Sizes.{words_range, routine_words, functions_words}
@@ -36,14 +36,14 @@ module _ (program : Program) (well : IsWellFormed program) (words : HasWords pro
       let long = length_routine program frames (few_results program well) function (function_line program frames function) (routine_at program function) in
       let four : sum_by (words_at (select_of program frames)) (range_with_len (function_line program frames function) (function_count program frames function (routine_at program function))) ≡ sum_by (words_at (select_of program frames)) (range_with_len (function_line program frames function) (length (routine_lines program frames function (function_line program frames function) (routine_at program function)))) = ap (λ (n : ℕ). sum_by (words_at (select_of program frames)) (range_with_len (function_line program frames function) n)) (sym long) in
       let five = words_range (select_of program frames) (function_line program frames function) (routine_lines program frames function (function_line program frames function) (routine_at program function)) (stand_function program frames (few_results program well) function known) in
-      omega (arith, one, two, three, four, five, routine_words program frames (reads_few program frames fit) (few_results program well) function (function_line program frames function) (routine_at program function) (is_saving program (routine_at program function) (frame_at frames function) (fit.each function known) (fit.homes function known)))
+      omega (arith, one, two, three, four, five, routine_words program frames (function_reads_few program frames fit) (few_results program well) function (function_line program frames function) (routine_at program function) (is_saving program (routine_at program function) (frame_at frames function) (fit.each function known) (fit.homes function known)))
 
   few_before : sum_by (words_at (select_of program frames)) (range_with_len 0 START_LINES) ≤ MAX_START_WORDS
   few_before = omega (arith, words_range (select_of program frames) 0 (start_lines program frames) (starts program frames (few_results program well)))
 
   few_words : all_words (select_of program frames).lines ≤ MAX_START_WORDS + sum_by size program.functions
   few_words =
-      omega (arith, sum_by-append words_of (start_lines program frames) (function_lines program frames 0 START_LINES program.functions), functions_words program frames (reads_few program frames fit) (few_results program well) 0 START_LINES program.functions (are_saved program frames fit))
+      omega (arith, sum_by-append words_of (start_lines program frames) (function_lines program frames 0 START_LINES program.functions), functions_words program frames (function_reads_few program frames fit) (few_results program well) 0 START_LINES program.functions (are_saved program frames fit))
 
   pub is_code_of : IsCodeOf program (select_of program frames)
   is_code_of = record {

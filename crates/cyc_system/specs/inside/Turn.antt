@@ -1,28 +1,17 @@
 -- One instruction of a machine that stands between two devices, as the code executes it.
-use Rattle.std.specs.Prelude.{◌≡◌, ℕ, ◌+◌, ◌<◌, List, [], ◌∷◌, length, take, Bool, true, false, Option, None, Some, Result, Ok, Err}
+use Rattle.std.specs.Prelude.{◌≡◌, ℕ, ◌+◌, [], ◌∷◌, Bool, Option, None, Some, Result, Ok, Err}
 use Rattle.std.specs.Io.KnownBytes.{Keeps, Appends}
-use Rattle.cyc_words.specs.Device.{Gives}
-use Rattle.cyc_words.specs.declared.device.Failed.{Failed}
+use Rattle.cyc_machine.specs.Between.{Asked, after_byte}
 use Rattle.cyc_machine.specs.declared.event.End.{End}
 use Rattle.cyc_machine.specs.declared.event.Event.{Event}
 use Rattle.cyc_machine.specs.declared.event.Event.TheVariants.{Ran, WantsByte, Puts, Ended, NoMemory}
+use Rattle.cyc_machine.specs.declared.exchanged.Exchanged.{Exchanged}
 use Rattle.cyc_machine.specs.State.{State}
 use Rattle.cyc_machine.specs.Step.{Step, WantsMemory, given}
 use Rattle.cyc_system.specs.Engine.{Devices, Rests, higher, uses_at}
-use Rattle.cyc_system.specs.declared.engine.Exchanged.{Exchanged}
 use Rattle.cyc_system.specs.declared.report.Peaks.{Peaks}
 use Rattle.cyc_system.specs.declared.report.RunFault.{RunFault}
 use Rattle.cyc_system.specs.declared.report.RunFault.TheVariants.{Read, Write, Memory}
-
--- what the reader gives: nothing at all once its end was seen
-abbrev pub Asked : Bool → Option ℕ → Option (List ℕ) → Option (List ℕ) → Type 0
-Asked true byte old new = (byte ≡ None) × Keeps old new
-Asked false byte old new = Gives {E = Failed} old (Ok byte) new
-
--- what was exchanged once a byte was given, or it was told that there is none
-abbrev pub after_byte : Exchanged → Option ℕ → Exchanged
-after_byte x None = record x { ended = true }
-after_byte x (Some byte) = record x { ended = false; read = x.read + 1 }
 
 -- an instruction that told this event and came to this state, what is done then, and what was exchanged before and after it
 abbrev pub WentOn : Event → State → (machine : State) (x x' : Exchanged) (old new : Devices) → Type 0
@@ -47,12 +36,6 @@ Turned machine machine' x x' old new (Err e) = ⊥
 abbrev pub TurnedOver : (grows : Bool) (machine machine' : State) (x x' : Exchanged) (old new : Devices) → Result (Option End) RunFault → Type 0
 TurnedOver grows machine machine' x x' old new (Err Memory) = WantsMemory grows machine × Rests old new
 TurnedOver grows machine machine' x x' old new result = Turned machine machine' x x' old new result
-
--- what is answered where these bytes are handed on: they are written; or the writer fails at one of them, and those before it are
-abbrev pub HandsOn : {A : Type 0} → List ℕ → (x x' : Exchanged) → (old new : Option (List ℕ)) → Result A RunFault → Type 0
-HandsOn bytes x x' old new (Ok done) = (x' ≡ record x { written = x.written + length bytes }) × Appends old new bytes
-HandsOn bytes x x' old new (Err Write) = (count : ℕ) × (count < length bytes) × Appends old new (take count bytes)
-HandsOn bytes x x' old new (Err e) = ⊥
 
 -- the peaks after one instruction more, where they are counted
 abbrev pub counted_at : Option Peaks → State → Option Peaks

@@ -13,7 +13,6 @@ invariant-loop-count g l = record {
   writer : g.W.ByteOut.failed l.writer ≡ g.W.ByteOut.failed l.fn.writer;
   past_end : g.R.ByteIn.ended l.fn.reader ≡ false
       → (l.exchanged.ended ≡ false → g.R.ByteIn.ended l.reader ≡ false) × (g.R.ByteIn.asked_past_end l.reader ≡ g.R.ByteIn.asked_past_end l.fn.reader);
-  held : l.printed.bytes ≡ [];
   few : l.count ≤ l.budget;
   fits : (l.exchanged.read ≤ l.count) × (l.exchanged.written ≤ l.count);
 }
