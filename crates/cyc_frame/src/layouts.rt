@@ -105,7 +105,6 @@ fn opens_any(code: &[Instruction]) -> bool
 
 /// The frame of a function, which may save so many registers: the words that are kept for the layout, of which the first is for the
 /// return address and the others for those registers, and then the slots in order.
-#[tactic(auto, using(crate::proofs::Sound::is_frame))]
 fn frame_of(
     alloc: Global,
     plain: &Plain,
