@@ -21,7 +21,8 @@ mod start;
 mod text;
 
 pub use event::{Cause, End, Event, Exchange, Stretch};
-pub use exchanged::{Ahead, Device, Exchanged, NOTHING};
+pub use exchanged::{Ahead, Device, Exchanged, NOTHING, note_byte};
 pub use fault::LoadFault;
 pub use limits::Limits;
 pub use machine::Machine;
+pub use start::segment_word_at;

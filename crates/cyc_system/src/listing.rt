@@ -1,6 +1,6 @@
 //! Lists the words of an image's text with their instructions.
 
-ghost use Rattle.std.specs.Prelude.{◌≡◌, ◌+◌, ◌<◌, ◌≤◌, ◌^◌, ◌&&◌, ◌||◌, nat_le, nat_lt, true, All, OnOk, OnErr, length, map, slice_index, Err};
+ghost use Rattle.std.specs.Prelude.{◌≡◌, ◌+◌, ◌<◌, ◌≤◌, ◌&&◌, ◌||◌, nat_le, nat_lt, true, All, OnOk, OnErr, length, map, Err};
 ghost use Rattle.std.specs.Io.KnownBytes.{Keeps};
 ghost use Rattle.std.specs.List.{flat_map};
 ghost use Rattle.cyc_words.specs.Device.{TakesText};
@@ -8,7 +8,6 @@ ghost use Rattle.cyc_isa.specs.Text.{hex_digit_of, hex_digits_of};
 ghost use Rattle.cyc_elf.specs.Image.{IsSegment};
 ghost use Rattle.cyc_elf.specs.Outline.{fields_of};
 ghost use Rattle.cyc_machine.specs.State.{text_base, text_end};
-ghost use Rattle.cyc_machine.specs.Start.{word_in};
 ghost use Rattle.cyc_elf.specs.Reading.{reading, segment_of};
 ghost use Rattle.cyc_system.specs.Faults.{is_write};
 ghost use Rattle.cyc_system.specs.declared.report.RunFault.TheVariants.{Memory};
@@ -18,7 +17,8 @@ use crate::report::RunFault;
 use cyc_elf::{ProgramHeader, read_outline};
 use cyc_isa::{decode, write_text};
 use cyc_machine::constants::{TEXT_BASE, TEXT_END};
-use cyc_words::{ByteOut, Failed, word_at};
+use cyc_machine::segment_word_at;
+use cyc_words::{ByteOut, Failed};
 use std::alloc::Global;
 
 fn hex_digit(digit: u32) -> u8
@@ -84,29 +84,6 @@ fn put_line<W: ByteOut>(address: u32, word: u32, out: &mut W) -> Result<(), Fail
     out.put_all(b"\n")
 }
 
-/// The byte at an index, or 0 past the end.
-fn byte_at(bytes: &[u8], index: usize) -> u8
-    ensures { result ≡ slice_index bytes.now index }
-{
-    if index < bytes.len() { bytes[index] } else { 0 }
-}
-
-/// The word at an offset of the segment that a header describes: the file's bytes, and zeros past them.
-fn word_in(file: &[u8], header: &ProgramHeader, offset: usize) -> u32
-    requires stored { header.now.offset + header.now.file_size ≤ length file.now }
-    requires offset { offset < 2 ^ 32 }
-    ensures { result ≡ word_in (segment_of file.now (fields_of header.now)) (header.now.vaddr + offset) }
-{
-    let start = header.offset as usize;
-    let bytes = &file[start..start + header.file_size as usize];
-    word_at(&[
-        byte_at(bytes, offset),
-        byte_at(bytes, offset + 1),
-        byte_at(bytes, offset + 2),
-        byte_at(bytes, offset + 3),
-    ])
-}
-
 /// Writes the lines of the segment that a header describes.
 fn put_segment<W: ByteOut>(file: &[u8], header: &ProgramHeader, out: &mut W) -> Result<(), Failed>
     requires stored { header.now.offset + header.now.file_size ≤ length file.now }
@@ -119,7 +96,7 @@ fn put_segment<W: ByteOut>(file: &[u8], header: &ProgramHeader, out: &mut W) -> 
         let offset = 4 * number;
         put_line(
             header.vaddr + offset,
-            word_in(file, header, offset as usize),
+            segment_word_at(file, header, offset as usize),
             out,
         )?;
     }

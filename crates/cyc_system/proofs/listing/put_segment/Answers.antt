@@ -17,7 +17,7 @@ returns-in_err-put_line-clause-bytes g c =
     (g.W.ByteOut.written c.args.out.now) (g.W.ByteOut.written c.loop-number.out) (g.W.ByteOut.written c.put_line.new.out)
     c.from_residual.result count c.loop-number-test.true c.from_residual.ensures.0 c.loop-number.invariant.written
     (subst (λ w. AppendsPrefix (g.W.ByteOut.written c.loop-number.out) (g.W.ByteOut.written c.put_line.new.out) (line_of (c.args.header.now.vaddr + 4 * c.loop-number.number) w))
-    c.word_in.ensures c.in_err-put_line.ensures.bytes)
+    c.segment_word_at.ensures c.in_err-put_line.ensures.bytes)
 
 pub loop-number-preserved : goal.loop-number-preserved
 loop-number-preserved g c = record {
@@ -26,7 +26,7 @@ loop-number-preserved g c = record {
       (flat_map (segment_line (segment_of c.args.file.now (fields_of c.args.header.now))) (range_with_len 0 c.loop-number.number)) (segment_line (segment_of c.args.file.now (fields_of c.args.header.now)) c.loop-number.number)
       c.loop-number.invariant.written
       (subst (λ w. Appends (g.W.ByteOut.written c.loop-number.out) (g.W.ByteOut.written c.put_line.new.out) (line_of (c.args.header.now.vaddr + 4 * c.loop-number.number) w))
-      c.word_in.ensures c.in_ok-put_line.ensures.bytes));
+      c.segment_word_at.ensures c.in_ok-put_line.ensures.bytes));
   works = c.in_ok-put_line.ensures.works ∙ c.loop-number.invariant.works;
 }
 
