@@ -2,6 +2,8 @@
 pub mod Whole
 pub mod Inside
 pub mod Formed
+pub mod FormedOperations
 pub mod Parts
 pub mod Structure
 pub mod Lines
+pub mod OwnLines

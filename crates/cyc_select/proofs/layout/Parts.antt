@@ -16,7 +16,7 @@ use Rattle.cyc_select.specs.inside.Counts.{behind_count, place_count, code_count
 use Rattle.cyc_select.specs.inside.Selection.{start_lines, function_lines, select_of}
 use Rattle.cyc_select.proofs.layout.Inside.{few_results}
 use Rattle.cyc_select.proofs.layout.Lines.{line_next, line_first}
-use Rattle.cyc_select.proofs.runs.Runs.{behind_of, previous_count, body_of, own_of, previous_fits}
+use Rattle.cyc_select.proofs.layout.OwnLines.{behind_of, previous_count, body_of, own_of, previous_fits}
 use Rattle.cyc_select.proofs.layout.Structure.{length_functions}
 
 leaving_counts_none : (program : Program) (frames : List Frame) (function : ℕ) (i : Instruction) → leaves i ≡ true → behind_count program frames function i ≡ 0

@@ -18,7 +18,7 @@ use Rattle.cyc_select.proofs.layout.Inside.{few_results}
 use Rattle.cyc_select.proofs.layout.Formed.{formed}
 use Rattle.cyc_select.proofs.emission.Numbering.{function_reads_few, is_saving, are_saved}
 use Rattle.cyc_select.proofs.layout.Parts.{place_in, own_function, parts}
-use Rattle.cyc_select.proofs.runs.Runs.{own_of}
+use Rattle.cyc_select.proofs.layout.OwnLines.{own_of}
 use Rattle.cyc_select.proofs.emission.Sizes.{words_range, routine_words, functions_words}
 use Rattle.cyc_select.proofs.runs.Start.{follows, main_place, main_below}
 use Rattle.cyc_select.proofs.layout.Structure.{length_body, length_routine, stand, stand_saving, stand_function, starts}

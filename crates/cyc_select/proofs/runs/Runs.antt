@@ -1,7 +1,6 @@
 -- Each step of the plain machine is matched by steps of the labelled machine through the place's own lines.
-use Rattle.std.proofs.Common.{◌≡◌, ◌≢◌, ℕ, zero, suc, ◌+◌, ◌-◌, ◌*◌, ◌^◌, ◌<◌, ◌≤◌, Bool, true, false, not, List, [], ◌∷◌, ◌++◌, length, Option, Some, None, slice_get, refl, sym, ap, subst, ◌∙◌, arith, inl, inr}
+use Rattle.std.proofs.Common.{◌≡◌, ◌≢◌, ℕ, suc, ◌+◌, ◌-◌, ◌*◌, ◌^◌, ◌<◌, ◌≤◌, Bool, true, false, not, List, [], ◌∷◌, ◌++◌, length, Option, Some, None, slice_get, refl, sym, ap, subst, ◌∙◌, arith, inl, inr}
 use Rattle.std.specs.Prelude.{if◌then◌else◌}
-use Rattle.std.specs.List.{range_with_len}
 use Rattle.std.proofs.lemmas.Bool.{cases_lt, eq-eqb, ne_eqb, false≢true}
 use Rattle.cyc_words.specs.Ending.{Ending}
 use Rattle.std.proofs.lemmas.List.{get_or_past}
@@ -18,7 +17,7 @@ use Rattle.cyc_plain.specs.declared.instruction.BinaryOperator.{BinaryOperator}
 use Rattle.cyc_plain.specs.declared.instruction.BinaryOperator.TheVariants as binary
 use Rattle.cyc_plain.specs.declared.instruction.Operand.{Operand}
 use Rattle.cyc_plain.specs.inside.Operators.{unary_result, binary_result, has_no_result}
-use Rattle.cyc_plain.specs.inside.Program.{Routine, Program, CodePlace, no_routine, routine_at}
+use Rattle.cyc_plain.specs.inside.Program.{Routine, Program, no_routine, routine_at}
 use Rattle.cyc_words.specs.Simulation as simulation
 use Rattle.cyc_words.specs.inside.Following.{IsOnTheWay, Matching, IsMatchedStep, IsStepped, Steps}
 use Rattle.cyc_plain.specs.inside.State as states
@@ -41,7 +40,7 @@ use Rattle.cyc_select.specs.inside.Machine.{State, Running, Ended, machine}
 use Rattle.cyc_select.specs.declared.constants.TheConstants.{HANDLERS}
 use Rattle.cyc_select.specs.declared.code.Line.{Line}
 use Rattle.cyc_select.specs.declared.code.Line.TheVariants as lines
-use Rattle.cyc_select.specs.inside.Slots.{coming, saving_code, saving_count}
+use Rattle.cyc_select.specs.inside.Slots.{coming, saving_code}
 use Rattle.cyc_select.specs.inside.Operands.{reload_count, divide_count, plan_code, plan_count, is_tested, operator_count}
 use Rattle.cyc_select.specs.inside.Passing.{spills, spills_count, copies_count}
 use Rattle.cyc_select.specs.inside.Hoisting.{is_idle}
@@ -49,6 +48,7 @@ use Rattle.cyc_select.specs.inside.Counts.{body_count, behind_count, place_count
 use Rattle.cyc_select.specs.inside.Selection.{recorded_code, caught_code, opened_code, body, behind, place_lines, ordinary, calling_code, divide_code, part_of}
 use Rattle.cyc_select.proofs.emission.Counts.{length_spills}
 use Rattle.cyc_select.proofs.layout.Lines.{line_next, line_first}
+use Rattle.cyc_select.proofs.layout.OwnLines.{behind_of, previous_count, body_of, own_of, previous_fits}
 use Rattle.cyc_select.specs.inside.Numbers.{is_plain_divisor}
 use Rattle.cyc_select.specs.inside.Plans.{binary_plan}
 use Rattle.cyc_select.proofs.values.Halves.{divisor_is}
@@ -78,40 +78,6 @@ use Rattle.cyc_select.proofs.steps.Passing.{call_goes}
 use Rattle.cyc_select.proofs.steps.Behind.{behind_goes}
 use Rattle.cyc_select.proofs.steps.Leaving.{return_goes}
 use Rattle.cyc_select.proofs.layout.Inside.{body_stands, place_inside}
-
--- ---- the lines of each place
-
--- the lines behind a call belong to the next place
-abbrev pub behind_of : Program → List Frame → (function : ℕ) → Option Instruction → ℕ
-behind_of program frames function (Some i) = behind_count program frames function i
-behind_of program frames function None = 0
-
-abbrev pub previous_count : Program → List Frame → (function : ℕ) → List Instruction → (index : ℕ) → ℕ
-previous_count program frames function code zero = saving_count (frame_at frames function)
-previous_count program frames function code (suc index) = behind_of program frames function (slice_get code index)
-
-abbrev pub body_of : Program → List Frame → (function index : ℕ) → Option Instruction → ℕ
-body_of program frames function index (Some i) = place_count program frames function index i
-body_of program frames function index None = 0
-
-abbrev pub own_of : Program → List Frame → CodePlace → List ℕ
-own_of program frames place =
-    let code = (routine_at program place.function).code in
-    range_with_len
-    (instruction_line program frames place.function place.index - previous_count program frames place.function code place.index)
-    (previous_count program frames place.function code place.index + body_of program frames place.function place.index (slice_get code place.index))
-
--- the lines before a place are there
-pub previous_fits : (program : Program) (frames : List Frame) (function index : ℕ) → previous_count program frames function (routine_at program function).code index ≤ instruction_line program frames function index
-previous_fits program frames function zero = omega (arith, line_first program frames function)
-previous_fits program frames function (suc index) = go (slice_get (routine_at program function).code index) refl
-  where
-    go : (o : Option Instruction) → slice_get (routine_at program function).code index ≡ o → behind_of program frames function o ≤ instruction_line program frames function (suc index)
-    go (Some i) at =
-        let e = line_next program frames function index i at in
-        let one : index + 1 ≡ suc index = omega arith in
-        omega (arith, e, ap (instruction_line program frames function) one)
-    go None at = omega arith
 
 module _ (program : Program) (well : IsWellFormed program) (words : HasWords program) (frames : List Frame) (fit : AreFrames program frames) (code : Labelled) (formed : IsFormed code) (addresses : ℕ → ℕ) (lie : AreAddresses code addresses)
     (pages calls : ℕ) (few : calls ≤ 4096)

@@ -50,7 +50,8 @@ use Rattle.cyc_select.proofs.relation.Waiting.{left_past, preserved_of, frame_si
 use Rattle.cyc_select.proofs.relation.Standing.{entering, Standing}
 use Rattle.cyc_select.proofs.relation.Stores.{new_laid, new_counted}
 use Rattle.cyc_select.proofs.relation.Matches.{Matches}
-use Rattle.cyc_select.proofs.runs.Runs.{own_of, matching, all_steps}
+use Rattle.cyc_select.proofs.runs.Runs.{matching, all_steps}
+use Rattle.cyc_select.proofs.layout.OwnLines.{own_of}
 
 -- ---- rising places that are as many as there are
 
