@@ -11,6 +11,7 @@ pub mod Passing
 pub mod Exchanging
 pub mod Fetching
 pub mod Layouts
+pub mod Leading
 mod Lengths
 pub mod Ordinary
 pub mod Steps

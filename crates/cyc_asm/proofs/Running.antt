@@ -21,7 +21,8 @@ use Rattle.cyc_asm.specs.inside.Text.{IsTextInOrder}
 use Rattle.cyc_asm.specs.inside.Machine.{Runs, start}
 use Rattle.cyc_machine.specs.WorldMachine.{world_machine, status_in}
 use Rattle.cyc_asm.proofs.Fetching.{world_at}
-use Rattle.cyc_asm.proofs.Steps.{above, matching, matched}
+use Rattle.cyc_asm.proofs.Leading.{above, matching}
+use Rattle.cyc_asm.proofs.Steps.{matched}
 
 over_of : (p : Phase) (ending : Ending) → status_in p ≡ Ended ending → (end : End) × (p ≡ phases.Over end)
 over_of phases.Running ending ended = absurd (running_ended ending ended)
@@ -52,7 +53,7 @@ started code store calls input = record {
 
 pub runs_in_order : (code : Labelled) (addresses : ℕ → ℕ) (words : List ℕ) → IsTextInOrder code code addresses words → Runs code addresses words
 runs_in_order code addresses words text store calls input few never =
-    simulates (above code addresses words text) world_machine (matching code addresses words text) (matched code addresses words text) world_is_lawful []
+    simulates (above code addresses) world_machine (matching code addresses words) (matched code addresses words text) world_is_lawful []
     (labelled.start code store calls input) never (start code words store calls input) refl (
       (let nothing : ℕ = 0 in let long = length-replicate (words_per_call * calls) nothing in omega (arith, long, few)),
       refl,
