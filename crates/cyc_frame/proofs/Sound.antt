@@ -8,7 +8,7 @@ use Rattle.cyc_words.specs.declared.fault.Fault.{Fault}
 use Rattle.cyc_words.specs.declared.fault.Code.TheVariants as faults
 use Rattle.cyc_words.specs.declared.span.Span.{Span}
 use Rattle.cyc_plain.specs.declared.program.Function.{Function}
-use Rattle.cyc_plain.specs.declared.limits.TheConstants.{LAYOUT_WORDS, MOST_FRAME_WORDS}
+use Rattle.cyc_plain.specs.declared.limits.TheConstants.{MOST_FRAME_WORDS}
 use Rattle.cyc_plain.specs.inside.Program.{Routine, Program, no_routine, routine_of, routine_at}
 use Rattle.cyc_plain.specs.inside.WellFormed.{IsWellFormed}
 use Rattle.cyc_words.specs.Decision.{Decides}
@@ -19,25 +19,7 @@ use Rattle.cyc_registers.specs.declared.home.TheConstants.{MOST_SAVED}
 use Rattle.cyc_registers.specs.inside.Interference.{AreHomes}
 use Rattle.cyc_registers.specs.inside.Idle.{AreIdle}
 use Rattle.cyc_registers.specs.inside.Fills.{AreFillable}
-use Rattle.cyc_frame.specs.inside.Layout.{AllReturn, AreFirstFrames, AreFrames, AreRaised, HasSmallFrames, IsAccepted, IsFrame, IsTooLarge, first_too_large, frame_at, is_too_large, loses_any, opens_any, returns_any}
-
-pub is_frame : (r : Routine) (saves : Bool) (saved : ℕ) (homes : List Home) (idle fills : List Bool) → saves ≡ loses_any r.code → saved ≤ MOST_SAVED → (0 < saved → returns_any r.code ≡ true) → r.slots + LAYOUT_WORDS ≤ r.frame_count → r.frame_count ≤ MOST_FRAME_WORDS
-    → IsFrame r (record { return_address = 0; saves = saves; first_saved = 1; saved = saved; first_slot = LAYOUT_WORDS; parameters = r.parameters; homes = homes; idle = idle; fills = fills })
-is_frame r saves saved homes idle fills loses few returns fits small = record {
-  apart = λ a b a_below b_below same. omega (arith, same);
-  inside = λ slot below. omega (arith, below, fits);
-  first_inside = omega (arith, fits);
-  beside = λ slot below same. absurd (omega (arith, same));
-  return_inside = omega (arith, fits);
-  small = small;
-  saved = loses;
-  saved_inside = λ j below. omega (arith, below, fits);
-  saved_beside = λ slot j slot_below below same. absurd (omega (arith, same, below));
-  saved_apart = λ j below same. absurd (omega (arith, same));
-  most_saved = few;
-  parameters = refl;
-  returning = returns;
-}
+use Rattle.cyc_frame.specs.inside.Layout.{AllReturn, AreFirstFrames, AreFrames, AreRaised, HasSmallFrames, IsAccepted, IsFrame, IsTooLarge, first_too_large, frame_at, is_too_large, opens_any, returns_any}
 
 -- ---- the first that is too large
 
@@ -121,11 +103,6 @@ one_first program f g a b = elim (cases_lt a.function b.function) [
 ]
 
 -- ---- the frames
-
-module _ (program : Program) (well : IsWellFormed program) (small : HasSmallFrames program) where
-  -- what each function's frame asks of the function
-  pub fits : (k : ℕ) (r : Routine) → k < length program.functions → r ≡ routine_at program k → r.slots + LAYOUT_WORDS ≤ r.frame_count
-  fits k r below is = subst (λ (r : Routine). r.slots + LAYOUT_WORDS ≤ r.frame_count) (sym is) (well.functions k no_routine below).frame
 
 frame_before : (frames : List Frame) (frame : Frame) (k : ℕ) → k < length frames → frame_at (frames ++ frame ∷ []) k ≡ frame_at frames k
 frame_before [] frame k below = absurd (omega arith)

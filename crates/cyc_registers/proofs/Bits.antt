@@ -90,9 +90,6 @@ mask_last : (masks : List ℕ) (m : ℕ) → mask_at (masks ++ m ∷ []) (length
 mask_last [] m = refl
 mask_last (x ∷ masks) m = mask_last masks m
 
-pub fewer_masks : (masks : List ℕ) (next most : ℕ) → AreMasks masks next → next ≤ most → AreMasks masks most
-fewer_masks masks next most are few = record { below = λ slot j has. omega (arith, are.below slot j has, few); one = are.one; some = are.some }
-
 module _ (masks : List ℕ) (m next after : ℕ) (are : AreMasks masks next) (up : next ≤ after) (new : (j : ℕ) → bit_at m j ≡ 1 → (j ≡ next) × (next < after))
     (any : 0 < m → (j : ℕ) × (bit_at m j ≡ 1)) where
   of_last : (slot j : ℕ) → slot ≡ length masks → HasBit (masks ++ m ∷ []) slot j → bit_at m j ≡ 1

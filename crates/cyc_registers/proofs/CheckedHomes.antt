@@ -66,11 +66,6 @@ more_meet program r masks live groups count last at_last here so_far index i at 
   | inr other ↦ so_far index i at (omega (arith, below, other))
 ]
 
--- no instruction is left out
-pub groups_alone : (program : Program) (r : Routine) (masks live : List ℕ) (count : ℕ) → NeverMeet program r masks live [] count
-groups_alone program r masks live count index i at below =
-    (λ number slots j l is first second. absurd (no_number slots is), λ number slots is. absurd (no_number slots is))
-
 module _ (program : Program) (r : Routine) (masks live holders : List ℕ) (calls clauses barred saved : ℕ)
     (sound : IsSound program r masks live calls clauses barred) (are : AreMasks masks MOST_CHOSEN) where
   -- ---- the home of one slot

@@ -1,5 +1,5 @@
 -- A place that is jumped to asks for what is known on the ways there, and no more.
-use Rattle.std.proofs.Common.{◌≡◌, ℕ, ◌+◌, ◌<◌, Bool, true, List, [], ◌∷◌, ◌++◌, length, drop, Option, Some, None, refl, sym, subst, inl, inr}
+use Rattle.std.proofs.Common.{◌≡◌, ℕ, zero, suc, ◌+◌, ◌<◌, Bool, true, List, [], ◌∷◌, ◌++◌, length, drop, Option, Some, None, slice_get, refl, sym, subst, arith, inl, inr}
 use Rattle.std.specs.Prelude.{◌||◌, filter, set, if◌then◌else◌}
 use Rattle.std.proofs.lemmas.Bool.{and_from, cond_both, eq-eqb, false≢true, or_cases, or_left, or_right}
 use Rattle.cyc_plain.specs.declared.instruction.Instruction.{Instruction}
@@ -12,7 +12,6 @@ use Rattle.cyc_simplify.specs.declared.fact.Fact.TheVariants as facts_are
 use Rattle.cyc_simplify.specs.inside.Facts.{operator_number, comparison_number, is_same_operand, is_same_fact, is_known, is_unreached}
 use Rattle.cyc_simplify.specs.inside.Table.{is_more, is_known_with, resolved_fact, is_below, follows, are_known, may_jump, may_go_on}
 use Rattle.cyc_simplify.specs.inside.Entries.{entry_of, entry_in, jumps_well, goes_well}
-use Rattle.cyc_simplify.proofs.Narrowed.{get_same}
 
 -- ---- what is known follows
 
@@ -75,6 +74,11 @@ restricted_known (fact ∷ asked) facts more =
     (λ is. and_from _ _ is (restricted_known asked facts more)) (λ is. restricted_known asked facts more)
 
 -- ---- so the check holds
+
+get_same : (entries : List Entry) (place : ℕ) (x : Entry) → place < length entries → slice_get (set entries place x) place ≡ Some x
+get_same [] place x below = absurd (omega arith)
+get_same (entry ∷ entries) zero x below = refl
+get_same (entry ∷ entries) (suc place) x below = get_same entries place x (omega arith)
 
 pub known_where_set : (entries : List Entry) (place : ℕ) (x : Entry) (facts : List Fact) (more : Option Fact) → place < length entries → x.is_target ≡ true
     → are_known x.facts.items facts more ≡ true → may_jump (entry_in (set entries place x) place) facts more ≡ true

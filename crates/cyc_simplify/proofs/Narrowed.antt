@@ -33,34 +33,6 @@ narrowed_again index a b c first second = record {
   less = λ k facts more may. second.less k facts more (first.less k facts more may);
 }
 
--- ---- another entry
-
-get_other : (entries : List Entry) (place k : ℕ) (x : Entry) → (k ≡ place → ⊥) → slice_get (set entries place x) k ≡ slice_get entries k
-get_other [] place k x other = refl
-get_other (entry ∷ entries) zero zero x other = absurd (other refl)
-get_other (entry ∷ entries) zero (suc k) x other = refl
-get_other (entry ∷ entries) (suc place) zero x other = refl
-get_other (entry ∷ entries) (suc place) (suc k) x other = get_other entries place k x (λ same. other (ap suc same))
-
-pub get_same : (entries : List Entry) (place : ℕ) (x : Entry) → place < length entries → slice_get (set entries place x) place ≡ Some x
-get_same [] place x below = absurd (omega arith)
-get_same (entry ∷ entries) zero x below = refl
-get_same (entry ∷ entries) (suc place) x below = get_same entries place x (omega arith)
-
-pub set_narrowed : (entries : List Entry) (place : ℕ) (x : Entry) → place < length entries
-    → ((facts : List Fact) (more : Option Fact) → may_jump (entry_in entries place) facts more ≡ true → may_jump (entry_of (Some x)) facts more ≡ true)
-    → (index : ℕ) → index < place → AreNarrowed index (entry_in entries) (entry_in (set entries place x))
-set_narrowed entries place x inside less index before = record {
-  same = λ k below. ap entry_of (get_other entries place k x (λ same. omega (arith, below, before, same)));
-  less = λ k facts more may. elim (cases_eq k place) [
-    | inl same ↦
-        subst (λ (n : ℕ). may_jump (entry_in (set entries place x) n) facts more ≡ true) (sym same)
-        (subst (λ (o : Option Entry). may_jump (entry_of o) facts more ≡ true) (sym (get_same entries place x inside))
-        (less facts more (subst (λ (n : ℕ). may_jump (entry_in entries n) facts more ≡ true) same may)))
-    | inr other ↦ subst (λ (o : Option Entry). may_jump (entry_of o) facts more ≡ true) (sym (get_other entries place k x other)) may
-  ];
-}
-
 -- ---- the check
 
 module _ (program : Program) (pinned : List Bool) (a b : ℕ → Option (List Fact)) (index : ℕ) (narrowed : AreNarrowed index a b) where
