@@ -1,7 +1,7 @@
 -- What was checked stays so where places further on ask for less than before.
 use Rattle.std.proofs.Common.{◌≡◌, ℕ, zero, suc, ◌+◌, ◌<◌, ◌≤◌, Bool, true, List, [], ◌∷◌, length, Option, Some, None, slice_get, refl, sym, ap, subst, ◌∙◌, arith, inl, inr}
-use Rattle.std.specs.Prelude.{◌&&◌, ◌==◌, filter, set}
-use Rattle.std.proofs.lemmas.Bool.{and_from, and_parts, cases_eq, cond_both, or_cases, or_left, or_right}
+use Rattle.std.specs.Prelude.{◌&&◌, ◌==◌, filter}
+use Rattle.std.proofs.lemmas.Bool.{and_from, and_parts, cond_both, or_cases, or_left, or_right}
 use Rattle.cyc_plain.specs.declared.instruction.Instruction.{Instruction}
 use Rattle.cyc_plain.specs.declared.instruction.Instruction.TheVariants as instructions
 use Rattle.cyc_plain.specs.inside.Program.{Routine, Program}
@@ -10,7 +10,7 @@ use Rattle.cyc_simplify.specs.declared.fact.Fact.{Fact}
 use Rattle.cyc_simplify.specs.inside.Facts.{is_unreached, facts_behind, made}
 use Rattle.cyc_simplify.specs.inside.Replacement.{put_at}
 use Rattle.cyc_simplify.specs.inside.Table.{entered_or, facts_behind_place, facts_at, follows, are_known, may_jump, may_go_on, is_entry_suited, is_empty, leads_well, is_checked_at}
-use Rattle.cyc_simplify.specs.inside.Entries.{IsLess, AreNarrowed, entry_of, entry_in, jumps_well, AreWalked}
+use Rattle.cyc_simplify.specs.inside.Entries.{IsLess, AreNarrowed, entry_in, jumps_well, AreWalked}
 
 -- ---- less
 

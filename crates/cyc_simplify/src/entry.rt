@@ -156,7 +156,6 @@ pub(crate) fn come_to(
 }
 
 /// What was guessed to be known at a place is known there, if it is jumped to.
-#[tactic(auto, using(crate::proofs::Narrowed::none_narrowed))]
 fn adopt_at(guesses: &mut Vec<Entry>, entries: &mut Vec<Entry>, place: usize)
     ensures { (index : ℕ) → index < place → entries_of.AreNarrowed index (entries_of.entry_in entries.old.items) (entries_of.entry_in entries.new.items) }
 {
@@ -171,7 +170,6 @@ fn adopt_at(guesses: &mut Vec<Entry>, entries: &mut Vec<Entry>, place: usize)
 }
 
 /// So it is at the places from the first to the one at the end.
-#[tactic(auto, using(crate::proofs::Narrowed::none_narrowed))]
 pub(crate) fn adopt(guesses: &mut Vec<Entry>, entries: &mut Vec<Entry>, first: usize, end: usize)
     ensures { (index : ℕ) → index < first → entries_of.AreNarrowed index (entries_of.entry_in entries.old.items) (entries_of.entry_in entries.new.items) }
 {

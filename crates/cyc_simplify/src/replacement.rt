@@ -47,7 +47,6 @@ fn instead(fact: Fact, operand: Operand) -> Option<Operand>
 }
 
 /// What stands for the same word as an operand. For a word that is the word itself, whatever is known.
-#[tactic(auto, using(crate::proofs::Keeping::simplified_word))]
 pub(crate) fn operand_in(facts: &[Fact], operand: Operand) -> Operand
     ensures { result ≡ replacement.simplified_operand facts.now operand }
 {

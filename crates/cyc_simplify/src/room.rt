@@ -158,7 +158,6 @@ fn asks_for_room(code: &[Instruction]) -> bool {
 }
 
 /// The code with nothing where it asks for room that is known, if what is said of its places is right.
-#[tactic(auto, using(crate::proofs::Sparing::none_spared))]
 fn sparing(
     alloc: Global,
     plain: &Plain,
@@ -184,7 +183,6 @@ fn sparing(
 }
 
 /// The code with nothing where it asks for room that is known.
-#[tactic(auto, using(crate::proofs::Spared::code_unspared))]
 pub(crate) fn spare(
     alloc: Global,
     plain: &Plain,

@@ -32,7 +32,6 @@ fn simplified_code(
 }
 
 /// A function, simplified.
-#[tactic(auto, using(crate::proofs::Sparing::code_made))]
 fn simplified(alloc: Global, plain: &Plain, function: &Function) -> Result<Function, AllocError>
     ensures { IfOk result (λ made. IsMadeFunction plain.now (routine_of function.now) (routine_of made)) }
 {

@@ -31,7 +31,6 @@ fn last_behind(last: usize, instruction: Instruction, index: usize) -> usize
 }
 
 /// The last place that code leads to from its first one on.
-#[tactic(auto, using(crate::proofs::Tails::no_last, crate::proofs::Tails::last_found))]
 fn last_place(code: &[Instruction]) -> usize
     ensures { tails.IsLast code.now result }
 {
@@ -65,7 +64,6 @@ fn tailless_instruction(
 }
 
 /// The code with nothing in its tail.
-#[tactic(auto, using(crate::proofs::Tails::none_tailless, crate::proofs::Tails::all_tailless))]
 pub(crate) fn without_tail(
     alloc: Global,
     code: &[Instruction],

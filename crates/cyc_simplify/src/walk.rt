@@ -83,7 +83,6 @@ pub(crate) fn come_behind(
 
 /// An instruction leads by a jump to a place further on: of what was known there stays what is known here too. One to which no run comes
 /// leads nowhere, and in a region that was searched it was found, but where a run ends. Answers whether no more is asked for there.
-#[tactic(auto, using(crate::proofs::Narrowed::none_narrowed))]
 fn lead(
     entries: &mut Vec<Entry>,
     code: &[Instruction],
@@ -109,7 +108,7 @@ fn lead(
 }
 
 /// An instruction may lead by a jump to a place further on. Answers whether the entries are right where it jumps to.
-#[tactic(auto, using(crate::proofs::Narrowed::none_narrowed, crate::proofs::Entered::jumped_well))]
+#[tactic(auto, using(crate::proofs::Entered::jumped_well))]
 fn is_led(
     entries: &mut Vec<Entry>,
     code: &[Instruction],
@@ -167,7 +166,6 @@ fn is_led(
 }
 
 /// A region begins at a place, if it does.
-#[tactic(auto, using(crate::proofs::Narrowed::none_narrowed))]
 fn begin_at(
     plain: &Plain,
     function: &Function,
@@ -188,7 +186,7 @@ fn begin_at(
 
 /// What was known at a place that is jumped to stays, so far as it is known from the instruction before it. Answers whether no more is
 /// asked for there.
-#[tactic(auto, using(crate::proofs::Narrowed::none_narrowed, crate::proofs::Entered::jumped_on))]
+#[tactic(auto, using(crate::proofs::Entered::jumped_on))]
 fn join(
     entries: &mut Vec<Entry>,
     code: &[Instruction],
@@ -311,7 +309,6 @@ fn instruction_at(function: &Function, index: usize) -> Instruction
 }
 
 /// The code of a function, each instruction by what is known where it stands, if what the search found is right.
-#[tactic(auto, using(crate::proofs::Walks::none_walked))]
 pub(crate) fn walked(
     alloc: Global,
     plain: &Plain,

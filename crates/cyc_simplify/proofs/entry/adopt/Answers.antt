@@ -1,7 +1,10 @@
 -- cyc_simplify/proofs/entry/adopt/Answers.antt
 use Rattle.std.proofs.Common.{arith}
-use Rattle.cyc_simplify.proofs.Narrowed.{narrowed_again}
+use Rattle.cyc_simplify.proofs.Narrowed.{none_narrowed, narrowed_again}
 use Rattle.cyc_simplify.proofs.entry.adopt.Goals as goal
+
+pub loop-place-init : goal.loop-place-init
+loop-place-init c index below = none_narrowed index _
 
 pub loop-place-preserved : goal.loop-place-preserved
 loop-place-preserved c index below =

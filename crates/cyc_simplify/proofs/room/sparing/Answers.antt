@@ -2,8 +2,11 @@
 use Rattle.std.proofs.Common.{◌∙◌, sym, arith}
 use Rattle.std.proofs.lemmas.Option.{slice_get-get_or}
 use Rattle.cyc_simplify.specs.inside.Room.{slots_in}
-use Rattle.cyc_simplify.proofs.Sparing.{next_spared, code_spared}
+use Rattle.cyc_simplify.proofs.Sparing.{none_spared, next_spared, code_spared}
 use Rattle.cyc_simplify.proofs.room.sparing.Goals as goal
+
+pub loop-index-init : goal.loop-index-init
+loop-index-init c = grind (arith, none_spared)
 
 pub loop-index-preserved : goal.loop-index-preserved
 loop-index-preserved c =

@@ -4,8 +4,11 @@ use Rattle.std.specs.Prelude.{length}
 use Rattle.cyc_plain.specs.inside.Program.{routine_of}
 use Rattle.cyc_simplify.specs.inside.Replacement.{put_at}
 use Rattle.cyc_simplify.proofs.Narrowed.{walked_narrowed}
-use Rattle.cyc_simplify.proofs.Walks.{stepped}
+use Rattle.cyc_simplify.proofs.Walks.{none_walked, stepped}
 use Rattle.cyc_simplify.proofs.walk.walked.Goals as goal
+
+pub loop-index-init : goal.loop-index-init
+loop-index-init c = grind (arith, none_walked)
 
 pub loop-index-preserved : goal.loop-index-preserved
 loop-index-preserved c =
