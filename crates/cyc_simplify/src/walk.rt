@@ -124,19 +124,7 @@ fn is_led(
         → entries_of.jumps_well pinned.now (entries_of.entry_in entries.new.items) facts.now instruction index ≡ true) }
 {
     match instruction {
-        Instruction::Jump { target } => Ok(
-            lead(
-                entries,
-                code,
-                is_searched,
-                pinned,
-                facts,
-                instruction,
-                index,
-                target,
-            )? || jumps_well(pinned, entries, facts, instruction, index),
-        ),
-        Instruction::Branch { target, .. } => Ok(
+        Instruction::Jump { target } | Instruction::Branch { target, .. } => Ok(
             lead(
                 entries,
                 code,
