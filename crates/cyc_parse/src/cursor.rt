@@ -64,13 +64,13 @@ impl<'a> Parser<'a> {
         }
     }
 
-    /// The parser behind the next symbol.
-    pub(crate) fn behind(&self) -> Parser<'a>
-        ensures { result ≡ behind self.now }
+    /// The symbol behind the next one.
+    pub(crate) fn second(&self) -> Option<Terminal>
+        ensures { option_map view_terminal result ≡ next (behind self.now) }
     {
         match self.left {
-            [_, rest @ ..] => Parser::new(self.alloc, rest),
-            [] => Parser::new(self.alloc, self.left),
+            [_, second, ..] => Some(second.terminal),
+            _ => None,
         }
     }
 

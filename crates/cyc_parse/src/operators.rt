@@ -1,15 +1,14 @@
 //! Operators and their levels, and the parser of chains of binary operators, from the tightest level.
 #![tactic(auto, unfolding(crate::specs::inside::Parsing::bind, crate::specs::inside::Parsing::choose, crate::specs::inside::Parsing::if_sees, crate::specs::inside::Parsing::if_starts, crate::specs::inside::Parsing::if_is, crate::specs::inside::Parsing::refuse_item, crate::specs::inside::Expressions::nested), using(crate::proofs::Levels::levels))]
 
-ghost use Rattle.std.specs.Prelude.{◌≡◌, ◌<◌, ◌≤◌, ◌-◌, suc, ℕ, option_map, Ok, IfSome, IfNone};
+ghost use Rattle.std.specs.Prelude.{◌≡◌, ◌<◌, ◌≤◌, ◌-◌, ◌&&◌, suc, ℕ, nat_eq, nat_lt, nat_le, option_map, Some, None, if◌then◌else◌, Ok, IfSome, IfNone};
 ghost use Rattle.cyc_syntax.specs.inside.TreeView.{place_of_span, view_expression, operations_of};
 ghost use Rattle.cyc_parse.specs.inside.Boxes.{view_boxed};
 ghost use Rattle.cyc_parse.specs.inside.Code.{Gives};
 ghost use Rattle.cyc_parse.specs.inside.Parsing.{next, advance};
-ghost use Rattle.cyc_parse.specs.inside.Steps.{one_operation, then_operation, level_at, behind, is_continued, operand, climb_from, one_level};
-ghost use Rattle.cyc_syntax.specs.Grammar.{level};
+ghost use Rattle.cyc_parse.specs.inside.Steps.{one_operation, then_operation, level_within, level_at, behind, is_continued, operand, climb_from, one_level};
 ghost use Rattle.cyc_syntax.specs.Trees.{NoOperations};
-ghost use Rattle.cyc_parse.specs.inside.Expressions.{prefix_operator, binary_operator, binary_of, nested, operator_at, no_more_operations, operations, climb, unary, binary};
+ghost use Rattle.cyc_parse.specs.inside.Expressions.{prefix_operator, binary_operator, binary_of, nested, of_level, operator_at, no_more_operations, operations, climb, unary, binary};
 
 use crate::cursor::Parser;
 use crate::growth::append;
@@ -40,12 +39,10 @@ impl<'a> Parser<'a> {
         let Some(Terminal::Mark(sign)) = self.next() else {
             return None;
         };
-        let operator = binary_operator(sign)?;
-        if level(operator) == u64::from(below) + 1 {
-            Some(operator)
-        } else {
-            None
+        if u64::from(level_of(sign)) != u64::from(below) + 1 {
+            return None;
         }
+        binary_operator(sign)
     }
 
     /// The level of the next symbol, if it is a binary operator of one of the levels above one, up to another.
@@ -56,12 +53,7 @@ impl<'a> Parser<'a> {
         let Some(Terminal::Mark(sign)) = self.next() else {
             return None;
         };
-        let operator = binary_operator(sign)?;
-        if u64::from(below) < level(operator) && level(operator) <= u64::from(most) {
-            Some(level(operator) as u32)
-        } else {
-            None
-        }
+        level_between(sign, below, most)
     }
 
     /// Whether an operand of the operators of the level above this one goes on behind its first symbol: by arguments, by a
@@ -69,10 +61,13 @@ impl<'a> Parser<'a> {
     fn is_continued(&self, below: u32) -> bool
         ensures { result ≡ is_continued below (behind self.now) }
     {
-        let behind = self.behind();
-        behind.sees(Sign::LeftParen)
-            || behind.begins_postfix()
-            || behind.next_level(0, below).is_some()
+        let Some(Terminal::Mark(sign)) = self.second() else {
+            return false;
+        };
+        sign == Sign::LeftParen
+            || sign == Sign::LeftBracket
+            || sign == Sign::Arrow
+            || level_between(sign, 0, below).is_some()
     }
 
     /// An operand of the operators of the level above this one, if it is one number or one name: most are, and need no box.
@@ -266,24 +261,35 @@ fn binary_operator(sign: Sign) -> Option<BinaryOperator>
     }
 }
 
-/// The level of an operator, from the tightest.
-fn level(operator: BinaryOperator) -> u64
-    ensures value { result ≡ level operator }
-    ensures some { 0 < result }
+/// The level of the operator that a sign is between two operands, from the tightest; with none 0.
+fn level_of(sign: Sign) -> u32
+    ensures within { (below most : ℕ) → level_within below most (binary_operator sign) ≡ (if nat_lt below result && nat_le result most then Some result else None) }
+    ensures one { (below : ℕ) → of_level (suc below) (binary_operator sign) ≡ (if nat_eq result (suc below) then binary_operator sign else None) }
 {
-    match operator {
-        BinaryOperator::Multiply | BinaryOperator::Divide | BinaryOperator::Remainder => 1,
-        BinaryOperator::Add | BinaryOperator::Subtract => 2,
-        BinaryOperator::ShiftLeft | BinaryOperator::ShiftRight => 3,
-        BinaryOperator::Less
-        | BinaryOperator::LessOrEqual
-        | BinaryOperator::Greater
-        | BinaryOperator::GreaterOrEqual => 4,
-        BinaryOperator::Equal | BinaryOperator::NotEqual => 5,
-        BinaryOperator::And => 6,
-        BinaryOperator::Xor => 7,
-        BinaryOperator::Or => 8,
-        BinaryOperator::AndThen => 9,
-        BinaryOperator::OrElse => 10,
+    match sign {
+        Sign::Star | Sign::Slash | Sign::Percent => 1,
+        Sign::Plus | Sign::Minus => 2,
+        Sign::ShiftLeft | Sign::ShiftRight => 3,
+        Sign::Less | Sign::LessOrEqual | Sign::Greater | Sign::GreaterOrEqual => 4,
+        Sign::Equal | Sign::NotEqual => 5,
+        Sign::And => 6,
+        Sign::Xor => 7,
+        Sign::Or => 8,
+        Sign::AndAnd => 9,
+        Sign::OrOr => 10,
+        _ => 0,
+    }
+}
+
+/// The level of the operator that a sign is between two operands, if it is one of those above one, up to another.
+fn level_between(sign: Sign, below: u32, most: u32) -> Option<u32>
+    ensures value { result ≡ level_within below most (binary_operator sign) }
+    ensures within { IfSome result (λ k. (below < k) × (k ≤ most)) }
+{
+    let level = level_of(sign);
+    if below < level && level <= most {
+        Some(level)
+    } else {
+        None
     }
 }
