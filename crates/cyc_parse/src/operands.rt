@@ -7,7 +7,7 @@ ghost use Rattle.cyc_syntax.specs.inside.TreeView.{place_of_span, view_name, vie
 ghost use Rattle.cyc_parse.specs.inside.Boxes.{view_boxed};
 ghost use Rattle.cyc_parse.specs.inside.Code.{Gives};
 ghost use Rattle.cyc_parse.specs.inside.Parsing.{next, sees, separated, no_more_items};
-ghost use Rattle.cyc_parse.specs.inside.Steps.{after_comma, one_postfix, one_field, prefixed, created, created_in, freed_key, bracketed, lone, end_of_group, end_of_bracketed, end_of_call, end_of_index, with_chain};
+ghost use Rattle.cyc_parse.specs.inside.Steps.{after_comma, one_postfix, one_field, prefixed, created, created_in, freed_key, bracketed, lone, end_of_group, end_of_bracketed, end_of_call, end_of_index, with_chain, is_plain};
 ghost use Rattle.cyc_syntax.specs.Trees.{Expression, NoPostfixes, Call};
 ghost use Rattle.cyc_parse.specs.inside.Expressions.{chained, nested, begins_expression, group, arguments, from_name, primary, no_more_postfixes, postfixes, with_postfixes, prefixed_by, unary};
 
@@ -362,10 +362,56 @@ impl<'a> Parser<'a> {
         }
     }
 
+    /// Whether an operand comes next that is one number or one name: neither arguments nor a postfix comes behind it.
+    fn is_plain(&self) -> bool
+        ensures { result ≡ is_plain self.now }
+    {
+        let Some(Terminal::Number(_) | Terminal::Identifier(_)) = self.next() else {
+            return false;
+        };
+        match self.second() {
+            Some(Terminal::Mark(sign)) => {
+                sign != Sign::LeftParen && sign != Sign::LeftBracket && sign != Sign::Arrow
+            }
+            _ => true,
+        }
+    }
+
+    /// An operand that is one number or one name: most are.
+    fn parse_plain_operand(&mut self) -> Result<Box<Expr>, Stop>
+        requires { is_plain self.old ≡ true }
+        ensures { (room : ℕ) → Gives view_boxed result (unary room (nested room) self.old) self.new }
+    {
+        match self.next() {
+            Some(Terminal::Number(value)) => {
+                let span = self.take_next();
+                self.node(Expr::Number { span, value })
+            }
+            Some(Terminal::Identifier(name)) => {
+                let span = self.take_next();
+                self.node(Expr::Variable {
+                    name: Ident { name, span },
+                })
+            }
+            _ => unreachable!(),
+        }
+    }
+
     /// An operand with its prefixes and postfixes.
     #[cycle(expression)]
-    #[tactic(auto, unfolding(crate::specs::inside::Expressions::unary, crate::specs::inside::Parsing::choose, crate::specs::inside::Parsing::bind))]
     pub(crate) fn parse_unary_here(&mut self, room: u32) -> Result<Box<Expr>, Stop>
+        ensures { Gives view_boxed result (unary room (nested room) self.old) self.new }
+    {
+        if self.is_plain() {
+            return self.parse_plain_operand();
+        }
+        self.parse_long_operand(room)
+    }
+
+    /// An operand with its prefixes and postfixes, part by part.
+    #[cycle(expression)]
+    #[tactic(auto, unfolding(crate::specs::inside::Expressions::unary, crate::specs::inside::Parsing::choose, crate::specs::inside::Parsing::bind))]
+    fn parse_long_operand(&mut self, room: u32) -> Result<Box<Expr>, Stop>
         ensures { Gives view_boxed result (unary room (nested room) self.old) self.new }
     {
         match self.next() {

@@ -1,6 +1,6 @@
 -- Parts of the parser that are functions of their own in the code, and one step of each list that the code reads in a
 -- loop: the next item, if the list goes on.
-use Rattle.std.specs.Prelude.{ℕ, zero, suc, ◌+◌, ◌-◌, Bool, false, ◌&&◌, ◌||◌, nat_lt, nat_le, if◌then◌else◌, List, [], ◌∷◌, Option, Some, None, is_some}
+use Rattle.std.specs.Prelude.{ℕ, zero, suc, ◌+◌, ◌-◌, Bool, false, not, ◌&&◌, ◌||◌, nat_lt, nat_le, if◌then◌else◌, List, [], ◌∷◌, Option, Some, None, is_some}
 use Rattle.cyc_syntax.specs.declared.tokens.Keyword.TheVariants as words
 use Rattle.cyc_syntax.specs.declared.tokens.Sign.TheVariants as signs
 use Rattle.cyc_syntax.specs.declared.tree.BinaryOperator.{BinaryOperator}
@@ -111,6 +111,19 @@ level_at below most _ = None
 abbrev pub behind : List Symbol → List Symbol
 behind [] = []
 behind (t ∷ ts) = ts
+
+-- whether an operand goes on with these symbols: by arguments or by a postfix
+abbrev pub has_more : List Symbol → Bool
+has_more ts = sees signs.LeftParen ts || (sees signs.LeftBracket ts || sees signs.Arrow ts)
+
+abbrev pub is_plain_before : List Symbol → Option Terminal → Bool
+is_plain_before ts (Some (terminals.Number n)) = not (has_more ts)
+is_plain_before ts (Some (terminals.Identifier x)) = not (has_more ts)
+is_plain_before ts _ = false
+
+-- whether an operand comes next that is one number or one name
+abbrev pub is_plain : List Symbol → Bool
+is_plain ts = is_plain_before (behind ts) (next ts)
 
 -- Whether an operand of the operators of the level above this one goes on with these symbols: by arguments, by a postfix, or by an
 -- operator of a level up to this one.

@@ -68,7 +68,10 @@ abbrev pub decreases-parse_region_new : goal.decreases-parse_region_new
 decreases-parse_region_new l = 256 * l.room + 1
 
 abbrev pub decreases-parse_unary_here : goal.decreases-parse_unary_here
-decreases-parse_unary_here l = 256 * l.room + 8
+decreases-parse_unary_here l = 256 * l.room + 9
+
+abbrev pub decreases-parse_long_operand : goal.decreases-parse_long_operand
+decreases-parse_long_operand l = 256 * l.room + 8
 
 abbrev pub decreases-parse_binary_here : goal.decreases-parse_binary_here
 decreases-parse_binary_here l = 256 * l.room + 250
@@ -92,7 +95,7 @@ abbrev pub decreases-parse_initial_from_name : goal.decreases-parse_initial_from
 decreases-parse_initial_from_name l = 256 * l.room + 5
 
 abbrev pub decreases-parse_initial_here : goal.decreases-parse_initial_here
-decreases-parse_initial_here l = 256 * l.room + 9
+decreases-parse_initial_here l = 256 * l.room + 10
 
 abbrev pub decreases-climb : goal.decreases-climb
 decreases-climb l = 256 * l.room + 24 * l.level + 9
