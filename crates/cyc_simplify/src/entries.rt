@@ -113,22 +113,22 @@ fn has_head(instruction: Instruction, index: usize) -> bool {
     }
 }
 
-fn has_heads(code: &[Instruction]) -> bool {
+/// How many places there are up to the last instruction that leads to a head.
+fn count_to_heads(code: &[Instruction]) -> usize {
+    let mut count = 0;
     for index in 0..code.len() {
         if has_head(code[index], index) {
-            return true;
+            count = index + 1;
         }
     }
-    false
+    count
 }
 
-/// Each place, with whether it is a head, if there are heads.
+/// Each place up to the last one from which the code jumps back, with whether it is a head.
 fn heads_of(alloc: Global, code: &[Instruction]) -> Result<Vec<Head>, AllocError> {
-    if !has_heads(code) {
-        return Ok(Vec::new(alloc));
-    }
-    let mut heads = Vec::with_capacity(alloc, code.len())?;
-    for index in 0..code.len() {
+    let count = count_to_heads(code);
+    let mut heads = Vec::with_capacity(alloc, count)?;
+    for index in 0..count.min(code.len()) {
         heads.push(Head {
             is_head: false,
             jumped_from: index,
@@ -145,6 +145,21 @@ fn heads_of(alloc: Global, code: &[Instruction]) -> Result<Vec<Head>, AllocError
         }
     }
     Ok(heads)
+}
+
+/// How many places there are up to where the last region with a head ends, at most.
+fn count_to_end(heads: &[Head], code: &[Instruction]) -> usize {
+    let mut count = heads.len();
+    for index in 0..code.len() {
+        if count <= index {
+            return count;
+        }
+        let place = furthest(heads, code, code[index], index);
+        if count <= place && place < code.len() {
+            count = place + 1;
+        }
+    }
+    count
 }
 
 /// A place where a handler is opened: exceptions come to it, and nothing is known.
@@ -168,7 +183,7 @@ fn unknown(alloc: Global, code: &[Instruction], count: usize) -> Result<Vec<Entr
 impl Search {
     pub(crate) fn new(alloc: Global, code: &[Instruction]) -> Result<Search, AllocError> {
         let heads = heads_of(alloc, code)?;
-        let guesses = unknown(alloc, code, heads.len())?;
+        let guesses = unknown(alloc, code, count_to_end(&heads, code))?;
         Ok(Search {
             heads,
             guesses,
@@ -305,13 +320,8 @@ impl Search {
         place >= self.region.end && !self.heads.is_empty()
     }
 
-    /// Whether the search came to a place to which no run comes: behind the head of a loop that nothing leads to.
-    fn is_alone(&self, facts: &[Fact]) -> bool {
-        self.region.is_searched && is_unreached(facts) && !is_unreached(self.facts.all())
-    }
-
-    /// A region begins at a place, to which the code comes with so much known, but where a function begins. Where the search is alone it
-    /// goes on.
+    /// A region begins at a place, to which the code comes with so much known, but where a function begins. Behind the last one with a
+    /// head all is one region.
     pub(crate) fn begin(
         &mut self,
         plain: &Plain,
@@ -320,15 +330,19 @@ impl Search {
         facts: &[Fact],
         first: usize,
     ) -> Result<(), AllocError> {
-        let is_alone = self.is_alone(facts);
-        self.region = region_at(&self.heads, &function.code, first);
-        if !self.region.is_searched && !is_alone {
+        if first >= self.guesses.len() {
+            self.region = Region {
+                first,
+                end: function.code.len(),
+                is_searched: false,
+            };
             return Ok(());
         }
-        self.region.is_searched = true;
-        if !is_alone {
-            self.facts.replace(facts)?;
+        self.region = region_at(&self.heads, &function.code, first);
+        if !self.region.is_searched {
+            return Ok(());
         }
+        self.facts.replace(facts)?;
         if first > 0 {
             self.come_next(&function.code, first)?;
         }
