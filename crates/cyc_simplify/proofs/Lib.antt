@@ -30,6 +30,7 @@ pub mod Marked
 pub mod About
 pub mod Ranges
 pub mod Narrowed
+pub mod Straight
 pub mod Entered
 pub mod Walks
 pub mod Tails

@@ -28,16 +28,18 @@ pub(crate) struct Entry {
 pub(crate) fn no_entries(alloc: Global, count: usize) -> Result<Vec<Entry>, AllocError> {
     let mut entries = Vec::with_capacity(alloc, count)?;
     for _ in 0..count {
-        entries.push(Entry {
+        entries.push_reserved(Entry {
             is_target: false,
             facts: Vec::new(alloc),
-        })?;
+        });
     }
     Ok(entries)
 }
 
 /// Whether a place is jumped to.
-pub(crate) fn is_target(entries: &[Entry], place: usize) -> bool {
+pub(crate) fn is_target(entries: &[Entry], place: usize) -> bool
+    ensures { result ≡ entries_of.is_entered (entries_of.entry_in entries.now place) }
+{
     match entries.get(place) {
         Some(entry) => entry.is_target,
         None => false,

@@ -239,8 +239,20 @@ fn is_come_behind(
     Ok(goes_well(entries, behind, instruction, index))
 }
 
-/// One instruction: the facts become those at the next one. Answers whether the entries are right there.
-fn is_passed(
+/// Whether an instruction leads nowhere by a jump, and nothing leads by one to the place behind it, where no region begins either.
+fn is_straight(search: &Search, entries: &[Entry], instruction: Instruction, index: usize) -> bool
+    requires { index + 1 < 2 ^ 64 }
+    ensures { result ≡ true → entries_of.is_straight (entries_of.entry_in entries.now) instruction index ≡ true }
+{
+    match instruction {
+        Instruction::Jump { .. } | Instruction::Branch { .. } | Instruction::Try { .. } => false,
+        _ => !search.begins_at(index + 1) && !is_target(entries, index + 1),
+    }
+}
+
+/// An instruction that leads by a jump, or to a place that is jumped to, or where a region begins. The facts become those at the next one.
+/// Answers whether the entries are right there.
+fn is_passed_otherwise(
     plain: &Plain,
     function: &Function,
     pinned: &[bool],
@@ -289,6 +301,41 @@ fn is_passed(
     Ok(true)
 }
 
+/// One instruction: the facts become those at the next one. Answers whether the entries are right there.
+fn is_passed(
+    plain: &Plain,
+    function: &Function,
+    pinned: &[bool],
+    search: &mut Search,
+    entries: &mut Vec<Entry>,
+    facts: &mut Facts,
+    instruction: Instruction,
+    index: usize,
+) -> Result<bool, AllocError>
+    requires { index + 1 < 2 ^ 64 }
+    ensures narrowed { IfOk result (λ is_right. is_right ≡ true → entries_of.AreNarrowed index (entries_of.entry_in entries.old.items) (entries_of.entry_in entries.new.items)) }
+    ensures checked { IfOk result (λ is_right. is_right ≡ true
+        → table.is_checked_at plain.now pinned.now (entries_of.entry_in entries.new.items) facts.old instruction index ≡ true) }
+    ensures facts { IfOk result (λ is_right. is_right ≡ true
+        → facts.new ≡ table.entered_or (entries_of.entry_in entries.new.items (index + 1))
+        (table.behind_put plain.now pinned.now facts.old instruction index)) }
+{
+    if is_straight(search, entries, instruction, index) {
+        come_behind(plain, pinned, facts, instruction, index)?;
+        return Ok(true);
+    }
+    is_passed_otherwise(
+        plain,
+        function,
+        pinned,
+        search,
+        entries,
+        facts,
+        instruction,
+        index,
+    )
+}
+
 fn instruction_at(function: &Function, index: usize) -> Instruction
     requires { index < length function.now.code.items }
     ensures { At (routine_of function.now) index result }
@@ -322,7 +369,7 @@ pub(crate) fn walked(
     for index in 0..function.code.len() {
         let given = instruction_at(function, index);
         let instruction = put_at(&facts, index, function.code.len(), given);
-        code.push(instruction)?;
+        code.push_reserved(instruction);
         if !is_passed(
             plain,
             function,

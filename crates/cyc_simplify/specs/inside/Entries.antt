@@ -1,5 +1,5 @@
 -- What is known at the places that are jumped to, as the code holds it, and the two halves of the check.
-use Rattle.std.specs.Prelude.{◌≡◌, ℕ, ◌+◌, ◌<◌, ◌≤◌, Bool, true, false, ◌==◌, ◌&&◌, ◌||◌, if◌then◌else◌, List, length, Option, Some, None, slice_get, slice_index_or}
+use Rattle.std.specs.Prelude.{◌≡◌, ℕ, ◌+◌, ◌<◌, ◌≤◌, Bool, true, false, not, ◌==◌, ◌&&◌, ◌||◌, if◌then◌else◌, List, length, Option, Some, None, slice_get, slice_index_or}
 use Rattle.cyc_plain.specs.declared.instruction.Instruction.{Instruction}
 use Rattle.cyc_plain.specs.declared.instruction.Instruction.TheVariants as instructions
 use Rattle.cyc_plain.specs.inside.Uses.{At}
@@ -47,6 +47,18 @@ goes_well entry behind (instructions.Uncaught tag value) index = true
 goes_well entry behind i index = may_go_on (entry (index + 1)) behind None
 
 -- the first instructions of a function, so many of them, were checked and simplified; behind them these facts are known
+-- a place is jumped to
+abbrev pub is_entered : Option (List Fact) → Bool
+is_entered (Some facts) = true
+is_entered None = false
+
+-- an instruction leads nowhere by a jump, and nothing leads by one to the place behind it
+abbrev pub is_straight : (entry : ℕ → Option (List Fact)) → Instruction → (index : ℕ) → Bool
+is_straight entry (instructions.Jump target) index = false
+is_straight entry (instructions.Branch comparison left right target) index = false
+is_straight entry (instructions.Try first handler) index = false
+is_straight entry i index = not (is_entered (entry (index + 1)))
+
 pub record AreWalked (program : Program) (r : Routine) (pinned : List Bool) (entries : List Entry) (count : ℕ) (code : List Instruction) (facts : List Fact) : Type 0 where
   pub as_many : length code ≡ count
   pub known : facts ≡ facts_at program pinned (entry_in entries) r.code count

@@ -16,10 +16,13 @@ loop-index-preserved c =
     let old = c.loop-index in
     let i = c.instruction_at-given.result in
     let entries = c.is_passed.new.entries.items in
-    let long : c.len-in-loop-index.result ≡ length (routine_of a.function.now).code = omega (arith, c.len-in-loop-index.ensures, a.function.now.code.ok.0) in
-    stepped a.plain.now (routine_of a.function.now) a.pinned.now entries old.index old.code.items old.facts c.is_passed.new.facts
-    i (walked_narrowed a.plain.now (routine_of a.function.now) a.pinned.now old.entries.items entries old.index old.code.items old.facts (c.in_ok-is_passed.ensures.narrowed c.if-not-branch.false) old.invariant)
-    c.instruction_at-given.ensures c.put_at-instruction.result c.push.new.self.items
-    (c.put_at-instruction.ensures ∙ ap (λ (count : ℕ). put_at old.facts old.index count i) long)
-    c.in_ok-push.ensures.items
-    (c.in_ok-is_passed.ensures.checked c.if-not-branch.false) (c.in_ok-is_passed.ensures.facts c.if-not-branch.false)
+    let long : c.len-in-loop-index.result ≡ length (routine_of a.function.now).code = omega (arith, c.len-in-loop-index.ensures, a.function.now.code.ok.0) in (
+      stepped a.plain.now (routine_of a.function.now) a.pinned.now entries old.index old.code.items old.facts c.is_passed.new.facts
+          i (walked_narrowed a.plain.now (routine_of a.function.now) a.pinned.now old.entries.items entries old.index old.code.items old.facts (c.in_ok-is_passed.ensures.narrowed c.if-not-branch.false) old.invariant.0)
+          c.instruction_at-given.ensures c.put_at-instruction.result c.push_reserved.new.self.items
+          (c.put_at-instruction.ensures ∙ ap (λ (count : ℕ). put_at old.facts old.index count i) long)
+          c.push_reserved.ensures.items
+          (c.in_ok-is_passed.ensures.checked c.if-not-branch.false) (c.in_ok-is_passed.ensures.facts c.if-not-branch.false),
+      omega (arith, c.push_reserved.ensures.len, old.invariant.1),
+      omega (arith, c.push_reserved.ensures.capacity, old.invariant.2),
+    )

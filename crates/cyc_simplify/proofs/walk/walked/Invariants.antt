@@ -1,9 +1,12 @@
 -- cyc_simplify/proofs/walk/walked/Invariants.antt
+use Rattle.std.proofs.Common.{◌≡◌, ◌≤◌, length}
+use Rattle.std.specs.Vec.{vec_len, vec_capacity}
 use Rattle.cyc_plain.specs.inside.Program.{routine_of}
 use Rattle.cyc_simplify.specs.inside.Entries.{AreWalked}
 use Rattle.cyc_simplify.proofs.walk.walked.Given as goal
 
--- the instructions so far
+-- the instructions so far, and there is room for all
 abbrev pub invariant-loop-index : goal.invariant-loop-index
 invariant-loop-index l =
     AreWalked l.plain (routine_of l.function) l.pinned l.entries.items l.index l.code.items l.facts
+    × (vec_len l.code ≡ l.index) × (length l.function.code.items ≤ vec_capacity l.code)
