@@ -1,7 +1,7 @@
 -- A place that is jumped to asks for what is known on the ways there, and no more.
 use Rattle.std.proofs.Common.{◌≡◌, ℕ, zero, suc, ◌+◌, ◌<◌, Bool, true, List, [], ◌∷◌, ◌++◌, length, drop, Option, Some, None, slice_get, refl, sym, subst, arith, inl, inr}
-use Rattle.std.specs.Prelude.{◌||◌, filter, set, if◌then◌else◌}
-use Rattle.std.proofs.lemmas.Bool.{and_from, cond_both, eq-eqb, false≢true, or_cases, or_left, or_right}
+use Rattle.std.specs.Prelude.{◌||◌, remove, set, take, if◌then◌else◌}
+use Rattle.std.proofs.lemmas.Bool.{and_from, and_parts, eq-eqb, false≢true, or_cases, or_left, or_right}
 use Rattle.cyc_plain.specs.declared.instruction.Instruction.{Instruction}
 use Rattle.cyc_plain.specs.declared.instruction.Instruction.TheVariants as instructions
 use Rattle.cyc_plain.specs.declared.instruction.Operand.{Operand}
@@ -66,12 +66,24 @@ known_without_first [] one = known_with_one [] one
 known_without_first (first ∷ facts) one =
     all_asked_known (facts ++ one ∷ []) (first ∷ facts) (Some one) (λ fact known. with_first facts first one fact (known_at_end facts one fact known))
 
-pub restricted_known : (asked facts : List Fact) (more : Option Fact) → are_known (filter (follows facts more) asked) facts more ≡ true
-restricted_known [] facts more = refl
-restricted_known (fact ∷ asked) facts more =
-    cond_both (follows facts more fact) (fact ∷ filter (follows facts more) asked) (filter (follows facts more) asked)
-    (λ (less : List Fact). are_known less facts more ≡ true)
-    (λ is. and_from _ _ is (restricted_known asked facts more)) (λ is. restricted_known asked facts more)
+pub known_up_to : (facts : List Fact) (more : Option Fact) (asked : List Fact) (k : ℕ) (fact : Fact) → slice_get asked k ≡ Some fact
+    → are_known (take k asked) facts more ≡ true → follows facts more fact ≡ true → are_known (take (suc k) asked) facts more ≡ true
+known_up_to facts more [] k fact at are known = absurd (let e : None ≡ Some fact = at in cc)
+known_up_to facts more (first ∷ asked) zero fact at are known =
+    let here : first ≡ fact = (let e : Some first ≡ Some fact = at in cc) in
+    and_from _ _ (subst (λ (x : Fact). follows facts more x ≡ true) (sym here) known) refl
+known_up_to facts more (first ∷ asked) (suc k) fact at are known =
+    let (one, rest) = and_parts (follows facts more first) (are_known (take k asked) facts more) are in
+    and_from _ _ one (known_up_to facts more asked k fact at rest known)
+
+pub known_without : (facts : List Fact) (more : Option Fact) (asked : List Fact) (k : ℕ) → are_known (take k asked) facts more ≡ true
+    → are_known (take k (remove asked k)) facts more ≡ true
+known_without facts more [] zero are = refl
+known_without facts more [] (suc k) are = refl
+known_without facts more (first ∷ asked) zero are = refl
+known_without facts more (first ∷ asked) (suc k) are =
+    let (one, rest) = and_parts (follows facts more first) (are_known (take k asked) facts more) are in
+    and_from _ _ one (known_without facts more asked k rest)
 
 -- ---- so the check holds
 

@@ -1,7 +1,7 @@
 -- What was checked stays so where places further on ask for less than before.
 use Rattle.std.proofs.Common.{◌≡◌, ℕ, zero, suc, ◌+◌, ◌<◌, ◌≤◌, Bool, true, List, [], ◌∷◌, length, Option, Some, None, slice_get, refl, sym, ap, subst, ◌∙◌, arith, inl, inr}
-use Rattle.std.specs.Prelude.{◌&&◌, ◌==◌, filter}
-use Rattle.std.proofs.lemmas.Bool.{and_from, and_parts, cond_both, or_cases, or_left, or_right}
+use Rattle.std.specs.Prelude.{◌&&◌, ◌==◌, remove}
+use Rattle.std.proofs.lemmas.Bool.{and_from, and_parts, or_cases, or_left, or_right}
 use Rattle.cyc_plain.specs.declared.instruction.Instruction.{Instruction}
 use Rattle.cyc_plain.specs.declared.instruction.Instruction.TheVariants as instructions
 use Rattle.cyc_plain.specs.inside.Program.{Routine, Program}
@@ -14,12 +14,13 @@ use Rattle.cyc_simplify.specs.inside.Entries.{IsLess, AreNarrowed, entry_in, jum
 
 -- ---- less
 
-pub fewer_asked : (keep : Fact → Bool) (asked : List Fact) → IsLess asked (filter keep asked)
-fewer_asked keep [] facts more are = refl
-fewer_asked keep (fact ∷ asked) facts more are =
+pub less_without : (asked : List Fact) (k : ℕ) → IsLess asked (remove asked k)
+less_without [] zero facts more are = refl
+less_without [] (suc k) facts more are = refl
+less_without (fact ∷ asked) zero facts more are = (and_parts (follows facts more fact) (are_known asked facts more) are).1
+less_without (fact ∷ asked) (suc k) facts more are =
     let (first, rest) = and_parts (follows facts more fact) (are_known asked facts more) are in
-    cond_both (keep fact) (fact ∷ filter keep asked) (filter keep asked) (λ (less : List Fact). are_known less facts more ≡ true)
-    (λ is. and_from _ _ first (fewer_asked keep asked facts more rest)) (λ is. fewer_asked keep asked facts more rest)
+    and_from _ _ first (less_without asked k facts more rest)
 
 pub none_narrowed : (index : ℕ) (entry : ℕ → Option (List Fact)) → AreNarrowed index entry entry
 none_narrowed index entry = record {

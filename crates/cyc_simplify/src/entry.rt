@@ -7,7 +7,7 @@ ghost use Rattle.cyc_simplify.specs.inside.Table as table;
 use crate::fact::{Fact, MOST_FACTS};
 use crate::facts::Facts;
 use crate::jumps::is_end;
-use crate::known::{are_known, follows};
+use crate::known::{are_known, follows_found, found_from, next_place};
 use crate::pins::are_suited;
 use cyc_plain::Instruction;
 use std::alloc::{AllocError, Global};
@@ -88,17 +88,25 @@ pub(crate) fn enter(entries: &[Entry], place: usize, facts: &mut Facts) -> Resul
     Ok(())
 }
 
-/// What does not follow from what is known is taken away. Answers whether nothing was.
+/// What does not follow from what is known is taken away. Answers whether nothing was. What is known mostly stands in the same order.
 fn restrict(asked: &mut Vec<Fact>, facts: &[Fact], more: Option<Fact>) -> bool
     ensures less { entries_of.IsLess asked.old.items asked.new.items }
     ensures known { table.are_known asked.new.items facts.now more ≡ true }
 {
-    if are_known(asked, facts, more) {
-        return true;
-    }
     let count = asked.len();
-    asked.retain(|fact| follows(facts, more, *fact));
-    asked.len() == count
+    let mut kept = 0;
+    let mut next = 0;
+    for _ in 0..count {
+        let fact = asked[kept];
+        let place = found_from(facts, next, &fact);
+        next = next_place(facts, place, next);
+        if follows_found(facts, more, fact, place) {
+            kept += 1;
+        } else {
+            asked.remove(kept);
+        }
+    }
+    kept == count
 }
 
 /// One more is known, if there is: the oldest of so many is forgotten for it.
@@ -130,6 +138,7 @@ fn come_first(
     if is_end {
         return Ok(());
     }
+    entry.facts.reserve(facts.len() + 1)?;
     entry.facts.extend_from_slice(facts)?;
     remember_more(&mut entry.facts, more)
 }

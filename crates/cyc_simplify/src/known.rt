@@ -120,10 +120,10 @@ pub(crate) fn is_same_word(
 }
 
 /// Whether a fact says that this slot holds the same as this operand.
-fn says_equal(fact: Fact, slot: usize, operand: Operand) -> bool
-    ensures { result ≡ facts_of.is_same_fact fact (facts_are.Equal slot operand) }
+fn says_equal(fact: &Fact, slot: usize, operand: Operand) -> bool
+    ensures { result ≡ facts_of.is_same_fact fact.now (facts_are.Equal slot operand) }
 {
-    match fact {
+    match *fact {
         Fact::Equal {
             slot: other,
             operand: other_operand,
@@ -134,15 +134,15 @@ fn says_equal(fact: Fact, slot: usize, operand: Operand) -> bool
 
 /// Whether a fact says that this slot holds this result.
 fn says_computed(
-    fact: Fact,
+    fact: &Fact,
     slot: usize,
     operator: BinaryOperator,
     left: Operand,
     right: Operand,
 ) -> bool
-    ensures { result ≡ facts_of.is_same_fact fact (facts_are.Computed slot operator left right) }
+    ensures { result ≡ facts_of.is_same_fact fact.now (facts_are.Computed slot operator left right) }
 {
-    match fact {
+    match *fact {
         Fact::Computed {
             slot: other,
             operator: other_operator,
@@ -158,10 +158,10 @@ fn says_computed(
 }
 
 /// Whether a fact says that this comparison holds.
-fn says_holds(fact: Fact, comparison: Comparison, left: Operand, right: Operand) -> bool
-    ensures { result ≡ facts_of.is_same_fact fact (facts_are.Holds comparison left right) }
+fn says_holds(fact: &Fact, comparison: Comparison, left: Operand, right: Operand) -> bool
+    ensures { result ≡ facts_of.is_same_fact fact.now (facts_are.Holds comparison left right) }
 {
-    match fact {
+    match *fact {
         Fact::Holds {
             comparison: other,
             left: other_left,
@@ -175,10 +175,10 @@ fn says_holds(fact: Fact, comparison: Comparison, left: Operand, right: Operand)
 }
 
 /// Whether a fact says that memory has this word.
-fn says_held(fact: Fact, address: Operand, offset: u32, value: Operand) -> bool
-    ensures { result ≡ facts_of.is_same_fact fact (facts_are.Held address offset value) }
+fn says_held(fact: &Fact, address: Operand, offset: u32, value: Operand) -> bool
+    ensures { result ≡ facts_of.is_same_fact fact.now (facts_are.Held address offset value) }
 {
-    match fact {
+    match *fact {
         Fact::Held {
             address: other,
             offset: other_offset,
@@ -191,10 +191,10 @@ fn says_held(fact: Fact, address: Operand, offset: u32, value: Operand) -> bool
     }
 }
 
-fn is_same_fact(one: Fact, other: Fact) -> bool
-    ensures { result ≡ facts_of.is_same_fact one other }
+fn is_same_fact(one: &Fact, other: &Fact) -> bool
+    ensures { result ≡ facts_of.is_same_fact one.now other.now }
 {
-    match other {
+    match *other {
         Fact::Equal { slot, operand } => says_equal(one, slot, operand),
         Fact::Computed {
             slot,
@@ -226,17 +226,29 @@ pub(crate) fn never() -> Fact
     }
 }
 
+fn is_never(fact: &Fact) -> bool
+    ensures { result ≡ facts_of.is_same_fact fact.now facts_of.never }
+{
+    match *fact {
+        Fact::Holds {
+            comparison,
+            left,
+            right,
+        } => {
+            is_same_comparison(comparison, Comparison::NotEqual)
+                && (is_same_operand(left, Operand::Word { word: 0 })
+                    && is_same_operand(right, Operand::Word { word: 0 }))
+        }
+        _ => false,
+    }
+}
+
 /// Whether it is the first of these: no run comes to the place.
 pub(crate) fn is_unreached(facts: &[Fact]) -> bool
     ensures { result ≡ facts_of.is_unreached facts.now }
 {
     match facts.get(0) {
-        Some(fact) => says_holds(
-            *fact,
-            Comparison::NotEqual,
-            Operand::Word { word: 0 },
-            Operand::Word { word: 0 },
-        ),
+        Some(fact) => is_never(fact),
         None => false,
     }
 }
@@ -246,7 +258,7 @@ pub(crate) fn is_known_equal(facts: &[Fact], slot: usize, operand: Operand) -> b
     ensures { result ≡ facts_of.is_known facts.now (facts_are.Equal slot operand) }
 {
     for other in facts {
-        if says_equal(*other, slot, operand) {
+        if says_equal(other, slot, operand) {
             return true;
         }
     }
@@ -263,7 +275,7 @@ fn is_known_computed(
     ensures { result ≡ facts_of.is_known facts.now (facts_are.Computed slot operator left right) }
 {
     for other in facts {
-        if says_computed(*other, slot, operator, left, right) {
+        if says_computed(other, slot, operator, left, right) {
             return true;
         }
     }
@@ -274,7 +286,7 @@ fn is_known_holding(facts: &[Fact], comparison: Comparison, left: Operand, right
     ensures { result ≡ facts_of.is_known facts.now (facts_are.Holds comparison left right) }
 {
     for other in facts {
-        if says_holds(*other, comparison, left, right) {
+        if says_holds(other, comparison, left, right) {
             return true;
         }
     }
@@ -285,7 +297,7 @@ fn is_known_held(facts: &[Fact], address: Operand, offset: u32, value: Operand) 
     ensures { result ≡ facts_of.is_known facts.now (facts_are.Held address offset value) }
 {
     for other in facts {
-        if says_held(*other, address, offset, value) {
+        if says_held(other, address, offset, value) {
             return true;
         }
     }
@@ -321,7 +333,7 @@ fn is_more(more: Option<Fact>, fact: Fact) -> bool
     ensures { result ≡ table.is_more more fact }
 {
     match more {
-        Some(other) => is_same_fact(other, fact),
+        Some(other) => is_same_fact(&other, &fact),
         None => false,
     }
 }
@@ -400,11 +412,11 @@ pub(crate) fn follows(facts: &[Fact], more: Option<Fact>, fact: Fact) -> bool
 }
 
 /// Where a fact stands among these, from a place on, or how many there are if it does not.
-fn found_from(facts: &[Fact], place: usize, fact: Fact) -> usize
-    ensures { result < length facts.now → facts_of.is_known facts.now fact ≡ true }
+pub(crate) fn found_from(facts: &[Fact], place: usize, fact: &Fact) -> usize
+    ensures { result < length facts.now → facts_of.is_known facts.now fact.now ≡ true }
 {
     for index in place..facts.len() {
-        if is_same_fact(facts[index], fact) {
+        if is_same_fact(&facts[index], fact) {
             return index;
         }
     }
@@ -413,11 +425,16 @@ fn found_from(facts: &[Fact], place: usize, fact: Fact) -> usize
 
 /// Whether a fact follows that was found at a place, if there is one. The one more is asked for last, and stands nowhere.
 #[tactic(auto, using(crate::proofs::Found::known_follows, crate::proofs::Found::more_follows))]
-fn follows_found(facts: &[Fact], more: Option<Fact>, fact: Fact, place: usize) -> bool
+pub(crate) fn follows_found(facts: &[Fact], more: Option<Fact>, fact: Fact, place: usize) -> bool
     requires { place < length facts.now → facts_of.is_known facts.now fact ≡ true }
     ensures { result ≡ table.follows facts.now more fact }
 {
     place < facts.len() || (is_more(more, fact) || follows(facts, more, fact))
+}
+
+/// Where what is asked for next is looked for first: behind the place where a fact was found, if it was.
+pub(crate) fn next_place(facts: &[Fact], place: usize, next: usize) -> usize {
+    if place < facts.len() { place + 1 } else { next }
 }
 
 /// Whether all that is asked for is known. What is known there mostly stands in the same order.
@@ -426,13 +443,11 @@ pub(crate) fn are_known(asked: &[Fact], facts: &[Fact], more: Option<Fact>) -> b
 {
     let mut next = 0;
     for fact in asked {
-        let place = found_from(facts, next, *fact);
+        let place = found_from(facts, next, fact);
         if !follows_found(facts, more, *fact, place) {
             return false;
         }
-        if place < facts.len() {
-            next = place + 1;
-        }
+        next = next_place(facts, place, next);
     }
     true
 }

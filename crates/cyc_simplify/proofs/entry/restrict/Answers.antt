@@ -1,23 +1,33 @@
 -- cyc_simplify/proofs/entry/restrict/Answers.antt
-use Rattle.std.proofs.Common.{◌≡◌, true, List, rules, subst, sym}
-use Rattle.std.specs.Prelude.{filter}
-use Rattle.std.proofs.lemmas.Fn.{filter_same}
+use Rattle.std.proofs.Common.{◌≡◌, ℕ, ◌+◌, ◌<◌, ◌∙◌, true, suc, List, length, take, Some, ap, sym, subst, arith}
+use Rattle.std.proofs.lemmas.Option.{slice_get-get_or}
 use Rattle.cyc_simplify.specs.declared.fact.Fact.{Fact}
-use Rattle.cyc_simplify.specs.inside.Table.{follows, are_known}
-use Rattle.cyc_simplify.proofs.Entered.{restricted_known}
-use Rattle.cyc_simplify.proofs.Narrowed.{fewer_asked}
+use Rattle.cyc_simplify.specs.inside.Table.{are_known}
+use Rattle.cyc_simplify.proofs.Entered.{known_up_to, known_without}
+use Rattle.cyc_simplify.proofs.Narrowed.{less_without}
 use Rattle.cyc_simplify.proofs.entry.restrict.Goals as goal
+use Rattle.cyc_simplify.proofs.entry.restrict.Goals.{then-follows_found, else-follows_found}
 
-pub returns-clause-less : goal.returns-clause-less
-returns-clause-less c facts more are =
+pub loop-preserved : goal.loop-preserved
+loop-preserved c =
     let a = c.args in
-    let same : c.retain.new.self.items ≡ filter (λ (fact : Fact). follows a.facts.now a.more fact) a.asked.now.items =
-    filter_same _ _ _ (λ x b f' k. search rules) _ _ c.retain.ensures.filtered in
-    subst (λ (less : List Fact). are_known less facts more ≡ true) (sym same) (fewer_asked (λ (fact : Fact). follows a.facts.now a.more fact) a.asked.now.items facts more are)
-
-pub returns-clause-known : goal.returns-clause-known
-returns-clause-known c =
-    let a = c.args in
-    let same : c.retain.new.self.items ≡ filter (follows a.facts.now a.more) a.asked.now.items =
-    filter_same _ _ _ (λ x b f' k. search rules) _ _ c.retain.ensures.filtered in
-    subst (λ (less : List Fact). are_known less a.facts.now a.more ≡ true) (sym same) (restricted_known a.asked.now.items a.facts.now a.more)
+    let old = c.loop in
+    let asked = old.asked.items in
+    let below : old.kept < length asked = omega (arith, c.loop-test.true, old.invariant.2, old.asked.ok.0) in
+    let at = slice_get-get_or asked old.kept _ below ∙ ap Some (sym c.index.ensures) in
+    let one : suc old.kept ≡ old.kept + 1 = omega arith in
+    elim c.if-follows_found.branch [
+      | then-follows_found w ↦ rw w.asked-is (rw w.kept-is (
+        old.invariant.0,
+        subst (λ (k : ℕ). are_known (take k asked) a.facts.now a.more ≡ true) one
+            (known_up_to a.facts.now a.more asked old.kept _ at old.invariant.1 (sym c.follows_found.ensures ∙ w.if-follows_found.true)),
+        omega (arith, old.invariant.2),
+      ))
+      | else-follows_found w ↦ rw w.asked-is (rw w.kept-is (
+        λ facts more are.
+            subst (λ (less : List Fact). are_known less facts more ≡ true) (sym w.remove.ensures.items) (less_without asked old.kept facts more (old.invariant.0 facts more are)),
+        subst (λ (less : List Fact). are_known (take old.kept less) a.facts.now a.more ≡ true) (sym w.remove.ensures.items)
+            (known_without a.facts.now a.more asked old.kept old.invariant.1),
+        omega (arith, old.invariant.2, w.remove.ensures.len, w.remove.new.self.ok.0, old.asked.ok.0),
+      ))
+    ]

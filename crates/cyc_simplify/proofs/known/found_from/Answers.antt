@@ -7,4 +7,4 @@ use Rattle.cyc_simplify.proofs.known.found_from.Goals as goal
 pub returns-then-is_same_fact : goal.returns-then-is_same_fact
 returns-then-is_same_fact c below =
     let at = slice_get-get_or c.args.facts.now c.loop-index.index _ below in
-    found_is_known c.args.facts.now c.loop-index.index _ c.args.fact at (sym c.is_same_fact.ensures ∙ c.if-is_same_fact.true)
+    found_is_known c.args.facts.now c.loop-index.index _ c.args.fact.now at (sym c.is_same_fact.ensures ∙ c.if-is_same_fact.true)
