@@ -448,19 +448,67 @@ fn simplified_request(facts: &Facts, request: Request) -> Request
     }
 }
 
-/// An instruction that does exactly the same wherever the facts are true. Where there are none that is the instruction itself.
-#[tactic(auto, using(crate::proofs::Tables::unaltered_without))]
-pub(crate) fn simplified_instruction(facts: &Facts, instruction: Instruction) -> Instruction
-    ensures { result ≡ replacement.simplified_instruction facts.now instruction }
+/// A move, of what stands for the same word.
+fn moved_in(facts: &Facts, destination: usize, source: Operand) -> Instruction
+    ensures { result ≡ replacement.simplified_instruction facts.now (instructions.Move destination source) }
 {
-    if facts.all().is_empty() {
-        return instruction;
+    simplified_move(facts, destination, simplified_operand(facts, source))
+}
+
+/// An operator, of what stands for the same words.
+fn computed_in(
+    facts: &Facts,
+    operator: BinaryOperator,
+    destination: usize,
+    left: Operand,
+    right: Operand,
+) -> Instruction
+    ensures { result ≡ replacement.simplified_instruction facts.now (instructions.Binary operator destination left right) }
+{
+    let left = simplified_operand(facts, left);
+    let right = right_operand(facts.all(), operator, simplified_operand(facts, right));
+    simplified_binary(facts.all(), operator, destination, left, right)
+}
+
+/// A branch, by what stands for the same words.
+fn branched_in(
+    facts: &Facts,
+    comparison: Comparison,
+    left: Operand,
+    right: Operand,
+    target: usize,
+) -> Instruction
+    ensures { result ≡ replacement.simplified_instruction facts.now (instructions.Branch comparison left right target) }
+{
+    let left = simplified_operand(facts, left);
+    let right = simplified_operand(facts, right);
+    simplified_branch(facts.all(), comparison, left, right, target)
+}
+
+/// A load, by what stands for the same address.
+fn loaded_in(facts: &Facts, destination: usize, address: Operand, offset: u32) -> Instruction
+    ensures { result ≡ replacement.simplified_instruction facts.now (instructions.Load destination address offset) }
+{
+    let address = simplified_operand(facts, address);
+    simplified_load(facts.all(), destination, address, offset)
+}
+
+/// A store, by what stands for the same words.
+fn stored_in(facts: &Facts, address: Operand, offset: u32, source: Operand) -> Instruction
+    ensures { result ≡ replacement.simplified_instruction facts.now (instructions.Store address offset source) }
+{
+    Instruction::Store {
+        address: simplified_operand(facts, address),
+        offset,
+        source: simplified_operand(facts, source),
     }
+}
+
+/// The same of instructions that code has less of.
+fn simplified_otherwise(facts: &Facts, instruction: Instruction) -> Instruction
+    ensures { result ≡ replacement.simplified_otherwise facts.now instruction }
+{
     match instruction {
-        Instruction::Move {
-            destination,
-            source,
-        } => simplified_move(facts, destination, simplified_operand(facts, source)),
         Instruction::Unary {
             operator,
             destination,
@@ -471,30 +519,6 @@ pub(crate) fn simplified_instruction(facts: &Facts, instruction: Instruction) ->
             destination,
             simplified_operand(facts, operand),
         ),
-        Instruction::Binary {
-            operator,
-            destination,
-            left,
-            right,
-        } => simplified_binary(
-            facts.all(),
-            operator,
-            destination,
-            simplified_operand(facts, left),
-            right_operand(facts.all(), operator, simplified_operand(facts, right)),
-        ),
-        Instruction::Branch {
-            comparison,
-            left,
-            right,
-            target,
-        } => simplified_branch(
-            facts.all(),
-            comparison,
-            simplified_operand(facts, left),
-            simplified_operand(facts, right),
-            target,
-        ),
         Instruction::WriteByte { source } => Instruction::WriteByte {
             source: simplified_operand(facts, source),
         },
@@ -504,25 +528,6 @@ pub(crate) fn simplified_instruction(facts: &Facts, instruction: Instruction) ->
         } => simplified_global(facts.all(), destination, global),
         Instruction::StoreGlobal { global, source } => Instruction::StoreGlobal {
             global,
-            source: simplified_operand(facts, source),
-        },
-        Instruction::Load {
-            destination,
-            address,
-            offset,
-        } => simplified_load(
-            facts.all(),
-            destination,
-            simplified_operand(facts, address),
-            offset,
-        ),
-        Instruction::Store {
-            address,
-            offset,
-            source,
-        } => Instruction::Store {
-            address: simplified_operand(facts, address),
-            offset,
             source: simplified_operand(facts, source),
         },
         Instruction::LoadByte {
@@ -555,6 +560,46 @@ pub(crate) fn simplified_instruction(facts: &Facts, instruction: Instruction) ->
             value: simplified_operand(facts, value),
         },
         _ => instruction,
+    }
+}
+
+/// An instruction that does exactly the same wherever the facts are true. Where there are none that is the instruction itself.
+#[tactic(auto, using(crate::proofs::Tables::unaltered_without))]
+pub(crate) fn simplified_instruction(facts: &Facts, instruction: Instruction) -> Instruction
+    ensures { result ≡ replacement.simplified_instruction facts.now instruction }
+{
+    if facts.all().is_empty() {
+        return instruction;
+    }
+    match instruction {
+        Instruction::Move {
+            destination,
+            source,
+        } => moved_in(facts, destination, source),
+        Instruction::Binary {
+            operator,
+            destination,
+            left,
+            right,
+        } => computed_in(facts, operator, destination, left, right),
+        Instruction::Branch {
+            comparison,
+            left,
+            right,
+            target,
+        } => branched_in(facts, comparison, left, right, target),
+        Instruction::Load {
+            destination,
+            address,
+            offset,
+        } => loaded_in(facts, destination, address, offset),
+        Instruction::Store {
+            address,
+            offset,
+            source,
+        } => stored_in(facts, address, offset, source),
+        Instruction::Jump { .. } => instruction,
+        _ => simplified_otherwise(facts, instruction),
     }
 }
 

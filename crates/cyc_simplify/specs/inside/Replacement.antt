@@ -237,33 +237,37 @@ simplified_request facts (requests.Allocate destination handle words) =
 simplified_request facts (requests.Free address) = requests.Free (simplified_operand facts address)
 simplified_request facts request = request
 
+abbrev pub simplified_otherwise : List Fact → Instruction → Instruction
+simplified_otherwise facts (instructions.Unary operator destination operand) =
+    simplified_unary (folded_unary facts operator (simplified_operand facts operand)) operator destination (simplified_operand facts operand)
+simplified_otherwise facts (instructions.WriteByte source) = instructions.WriteByte (simplified_operand facts source)
+simplified_otherwise facts (instructions.LoadGlobal destination global) =
+    simplified_global (global_value facts (global_offset global)) destination global
+simplified_otherwise facts (instructions.StoreGlobal global source) = instructions.StoreGlobal global (simplified_operand facts source)
+simplified_otherwise facts (instructions.LoadByte destination address offset) =
+    instructions.LoadByte destination (simplified_operand facts address) offset
+simplified_otherwise facts (instructions.StoreByte address offset source) =
+    instructions.StoreByte (simplified_operand facts address) offset (simplified_operand facts source)
+simplified_otherwise facts (instructions.Ask request) = instructions.Ask (simplified_request facts request)
+simplified_otherwise facts (instructions.Throw tag value) =
+    instructions.Throw (simplified_operand facts tag) (simplified_operand facts value)
+simplified_otherwise facts (instructions.Uncaught tag value) = instructions.Uncaught tag (simplified_operand facts value)
+simplified_otherwise facts instruction = instruction
+
+-- those that code has most of, and the others
 abbrev pub simplified_instruction : List Fact → Instruction → Instruction
 simplified_instruction facts (instructions.Move destination source) =
     simplified_move (is_known facts (facts_are.Equal destination (simplified_operand facts source))) destination (simplified_operand facts source)
-simplified_instruction facts (instructions.Unary operator destination operand) =
-    simplified_unary (folded_unary facts operator (simplified_operand facts operand)) operator destination (simplified_operand facts operand)
 simplified_instruction facts (instructions.Binary operator destination left right) =
     simplified_of facts operator destination (simplified_operand facts left) (right_operand facts operator (simplified_operand facts right))
 simplified_instruction facts (instructions.Branch comparison left right target) =
     simplified_branch (decision_in facts comparison (simplified_operand facts left) (simplified_operand facts right))
     comparison (simplified_operand facts left) (simplified_operand facts right) target
-simplified_instruction facts (instructions.WriteByte source) = instructions.WriteByte (simplified_operand facts source)
-simplified_instruction facts (instructions.LoadGlobal destination global) =
-    simplified_global (global_value facts (global_offset global)) destination global
-simplified_instruction facts (instructions.StoreGlobal global source) = instructions.StoreGlobal global (simplified_operand facts source)
 simplified_instruction facts (instructions.Load destination address offset) =
     simplified_load (value_in facts (simplified_operand facts address) offset) destination (simplified_operand facts address) offset
 simplified_instruction facts (instructions.Store address offset source) =
     instructions.Store (simplified_operand facts address) offset (simplified_operand facts source)
-simplified_instruction facts (instructions.LoadByte destination address offset) =
-    instructions.LoadByte destination (simplified_operand facts address) offset
-simplified_instruction facts (instructions.StoreByte address offset source) =
-    instructions.StoreByte (simplified_operand facts address) offset (simplified_operand facts source)
-simplified_instruction facts (instructions.Ask request) = instructions.Ask (simplified_request facts request)
-simplified_instruction facts (instructions.Throw tag value) =
-    instructions.Throw (simplified_operand facts tag) (simplified_operand facts value)
-simplified_instruction facts (instructions.Uncaught tag value) = instructions.Uncaught tag (simplified_operand facts value)
-simplified_instruction facts instruction = instruction
+simplified_instruction facts instruction = simplified_otherwise facts instruction
 
 -- ---- what is not reached
 
