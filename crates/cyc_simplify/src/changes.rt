@@ -1,5 +1,5 @@
 //! What an instruction writes and changes, and which facts it keeps.
-ghost use Rattle.std.specs.Prelude.{◌≡◌};
+ghost use Rattle.std.specs.Prelude.{◌≡◌, true};
 ghost use Rattle.cyc_plain.specs.inside.Program.{routine_at};
 ghost use Rattle.cyc_plain.specs.inside.Requests as requests_of;
 ghost use Rattle.cyc_simplify.specs.inside.Entries as keeping;
@@ -35,7 +35,7 @@ fn written_by(request: Request) -> Written
     }
 }
 
-fn one(slot: usize) -> Written
+pub(crate) fn one(slot: usize) -> Written
     ensures { result ≡ record { first = slot; count = 1 } }
 {
     Written {
@@ -117,7 +117,7 @@ fn leaves_operand(slots: Written, operand: Operand) -> bool
 }
 
 /// What the word that an instruction gives to a slot changes in memory.
-fn touched_by(pinned: &[bool], slot: usize) -> Touched
+pub(crate) fn touched_by(pinned: &[bool], slot: usize) -> Touched
     ensures { result ≡ facts_of.touched_by pinned.now slot }
 {
     if is_free(pinned, slot) {
@@ -223,10 +223,10 @@ fn is_untouched(touched: Touched, address: Operand, offset: u32) -> bool
 }
 
 /// Whether none of the slots that a fact is about is written, nor a word of memory changed that it is about.
-fn keeps(slots: Written, touched: Touched, fact: Fact) -> bool
-    ensures { result ≡ facts_of.keeps slots touched fact }
+fn keeps(slots: Written, touched: Touched, fact: &Fact) -> bool
+    ensures { result ≡ facts_of.keeps slots touched fact.now }
 {
-    match fact {
+    match *fact {
         Fact::Equal { slot, operand } => {
             leaves_slot(slots, slot) && leaves_operand(slots, operand)
         }
@@ -254,7 +254,7 @@ fn keeps(slots: Written, touched: Touched, fact: Fact) -> bool
 }
 
 /// Whether nothing is written or changed.
-fn changes_nothing(slots: Written, touched: Touched) -> bool
+pub(crate) fn changes_nothing(slots: Written, touched: Touched) -> bool
     ensures { result ≡ keeping.changes_nothing slots touched }
 {
     match touched {
@@ -263,11 +263,75 @@ fn changes_nothing(slots: Written, touched: Touched) -> bool
     }
 }
 
+/// Whether a fact is about other slots than this one.
+fn leaves_out(slot: usize, fact: &Fact) -> bool
+    ensures { result ≡ keeping.leaves_out slot fact.now }
+{
+    match *fact {
+        Fact::Equal {
+            slot: other,
+            operand,
+        } => other != slot && !is_slot(operand, slot),
+        Fact::Computed {
+            slot: other,
+            left,
+            right,
+            ..
+        } => other != slot && (!is_slot(left, slot) && !is_slot(right, slot)),
+        Fact::Holds { left, right, .. } => !is_slot(left, slot) && !is_slot(right, slot),
+        Fact::Held { address, value, .. } => !is_slot(address, slot) && !is_slot(value, slot),
+    }
+}
+
+/// Whether one slot is written, and nothing of memory is changed.
+fn changes_one(slots: Written, touched: Touched) -> bool
+    ensures { result ≡ keeping.changes_one slots touched }
+{
+    match touched {
+        Touched::Nothing => slots.count == 1,
+        _ => false,
+    }
+}
+
+/// Whether a fact is not about a word of memory that may be changed.
+fn leaves_memory(touched: Touched, fact: &Fact) -> bool
+    ensures { result ≡ keeping.leaves_memory touched fact.now }
+{
+    match *fact {
+        Fact::Held {
+            address,
+            offset,
+            ..
+        } => is_untouched(touched, address, offset),
+        _ => true,
+    }
+}
+
+/// What is known of one slot that is written is forgotten.
+fn keep_others(facts: &mut Vec<Fact>, slots: Written, touched: Touched)
+    requires { keeping.changes_one slots touched ≡ true }
+    ensures { facts.new.items ≡ facts_of.kept slots touched facts.old.items }
+{
+    facts.retain(|fact| leaves_out(slots.first, fact));
+}
+
+/// What is known of memory that may be changed is forgotten, where no slot is written.
+fn keep_memory(facts: &mut Vec<Fact>, slots: Written, touched: Touched)
+    requires { slots.count ≡ 0 }
+    ensures { facts.new.items ≡ facts_of.kept slots touched facts.old.items }
+{
+    facts.retain(|fact| leaves_memory(touched, fact));
+}
+
 /// What is known of slots that are written, and of what may be changed, is forgotten.
 pub(crate) fn keep(facts: &mut Vec<Fact>, slots: Written, touched: Touched)
     ensures { facts.new.items ≡ facts_of.kept slots touched facts.old.items }
 {
-    if !changes_nothing(slots, touched) {
-        facts.retain(|fact| keeps(slots, touched, *fact));
+    if changes_one(slots, touched) {
+        keep_others(facts, slots, touched);
+    } else if slots.count == 0 {
+        keep_memory(facts, slots, touched);
+    } else {
+        facts.retain(|fact| keeps(slots, touched, fact));
     }
 }

@@ -2,11 +2,12 @@
 ghost use Rattle.std.specs.Prelude.{◌≡◌, ◌+◌, ◌<◌, ◌^◌, OnOk, Some};
 ghost use Rattle.cyc_simplify.specs.inside.Facts as facts_of;
 
-use crate::changes::{touched, written};
+use crate::changes::{one, touched, touched_by, written};
 use crate::fact::{Fact, MOST_FACTS};
 use crate::facts::Facts;
-use crate::outcomes::{copied, is_not, is_test, made, tested};
-use cyc_plain::{Instruction, Plain};
+use crate::known::is_slot;
+use crate::outcomes::{copied, is_not, is_test, made, suited, suits, tested, truth_in};
+use cyc_plain::{BinaryOperator, Instruction, Operand, Plain};
 use std::alloc::AllocError;
 
 /// A fact more, in place of the oldest where there are as many as there may be.
@@ -16,7 +17,11 @@ pub(crate) fn remember(facts: &mut Vec<Fact>, fact: Fact) -> Result<(), AllocErr
     if facts.len() >= MOST_FACTS {
         facts.remove(0);
     }
-    facts.push(fact)?;
+    if facts.len() < facts.capacity() {
+        facts.push_reserved(fact);
+    } else {
+        facts.push(fact)?;
+    }
     Ok(())
 }
 
@@ -65,8 +70,63 @@ fn remember_test(
     }
 }
 
-/// The facts become those that are known behind an instruction, where the run goes on to the next one.
-pub(crate) fn go_on(
+/// What an operator has computed, if that can be said.
+fn remember_result(
+    pinned: &[bool],
+    facts: &mut Facts,
+    operator: BinaryOperator,
+    destination: usize,
+    left: Operand,
+    right: Operand,
+) -> Result<(), AllocError>
+    ensures { OnOk result (facts.new ≡ facts_of.remembered facts.old (facts_of.computed pinned.now operator destination left right)) }
+{
+    let fact = Fact::Computed {
+        slot: destination,
+        operator,
+        left,
+        right,
+    };
+    if (is_slot(left, destination) || is_slot(right, destination)) || !suits(pinned, &fact) {
+        return Ok(());
+    }
+    facts.add(fact)
+}
+
+/// That what an operator gives is 1 or 0, where it computes whether something is so.
+fn remember_truth(
+    pinned: &[bool],
+    facts: &mut Facts,
+    operator: BinaryOperator,
+    destination: usize,
+) -> Result<(), AllocError>
+    ensures { OnOk result (facts.new ≡ facts_of.remembered facts.old (facts_of.truth_of pinned.now operator destination)) }
+{
+    if is_test(operator) {
+        facts.remember(suited(pinned, truth_in(destination)))
+    } else {
+        Ok(())
+    }
+}
+
+/// What is known behind an operator.
+fn compute(
+    pinned: &[bool],
+    facts: &mut Facts,
+    operator: BinaryOperator,
+    destination: usize,
+    left: Operand,
+    right: Operand,
+) -> Result<(), AllocError>
+    ensures { OnOk result (facts.new ≡ facts_of.facts_behind_operator pinned.now facts.old operator destination left right) }
+{
+    facts.keep(one(destination), touched_by(pinned, destination));
+    remember_truth(pinned, facts, operator, destination)?;
+    remember_result(pinned, facts, operator, destination, left, right)
+}
+
+/// What is known behind any other instruction.
+fn go_on_otherwise(
     plain: &Plain,
     pinned: &[bool],
     facts: &mut Facts,
@@ -80,4 +140,26 @@ pub(crate) fn go_on(
     remember_copies(pinned, facts, instruction)?;
     remember_test(pinned, facts, instruction)?;
     facts.remember(made(pinned, instruction, index, index + 1))
+}
+
+/// The facts become those that are known behind an instruction, where the run goes on to the next one.
+pub(crate) fn go_on(
+    plain: &Plain,
+    pinned: &[bool],
+    facts: &mut Facts,
+    instruction: Instruction,
+    index: usize,
+) -> Result<(), AllocError>
+    requires { index + 1 < 2 ^ 64 }
+    ensures { OnOk result (facts.new ≡ facts_of.facts_behind plain.now pinned.now facts.old instruction index (index + 1)) }
+{
+    match instruction {
+        Instruction::Binary {
+            operator,
+            destination,
+            left,
+            right,
+        } => compute(pinned, facts, operator, destination, left, right),
+        _ => go_on_otherwise(plain, pinned, facts, instruction, index),
+    }
 }

@@ -5,7 +5,7 @@ ghost use Rattle.cyc_simplify.specs.declared.fact.Fact.{Fact};
 ghost use Rattle.cyc_simplify.specs.declared.fact.Touched.TheVariants as touches;
 ghost use Rattle.cyc_simplify.specs.inside.Copies.{IsMarked, AreMarked, IsAboutOperand, IsAbout, AreAbout};
 
-use crate::changes::keep;
+use crate::changes::{changes_nothing, keep};
 use crate::effects::remember;
 use crate::fact::{Fact, Touched, Written};
 use cyc_plain::Operand;
@@ -45,11 +45,11 @@ fn bit_of(slot: usize) -> u64
 }
 
 /// These bits and that of the slot which a fact says to hold the same as another.
-fn with_copy(copies: u64, fact: Fact) -> u64
+fn with_copy(copies: u64, fact: &Fact) -> u64
     ensures more { (other : Fact) → IsMarked copies other → IsMarked result other }
-    ensures has { IsMarked result fact }
+    ensures has { IsMarked result fact.now }
 {
-    match fact {
+    match *fact {
         Fact::Equal { slot, operand } => match operand {
             Operand::Slot { .. } => copies | bit_of(slot),
             Operand::Word { .. } => copies,
@@ -63,7 +63,7 @@ fn copies_in(facts: &[Fact]) -> u64
 {
     let mut copies = 0;
     for fact in facts {
-        copies = with_copy(copies, *fact);
+        copies = with_copy(copies, fact);
     }
     copies
 }
@@ -79,10 +79,10 @@ fn bits_of(operand: Operand) -> u64
 }
 
 /// The bits of the slots that a fact is about.
-fn slots_of(fact: Fact) -> u64
-    ensures { IsAbout result fact }
+fn slots_of(fact: &Fact) -> u64
+    ensures { IsAbout result fact.now }
 {
-    match fact {
+    match *fact {
         Fact::Equal { slot, operand } => bit_of(slot) | bits_of(operand),
         Fact::Computed {
             slot,
@@ -96,9 +96,9 @@ fn slots_of(fact: Fact) -> u64
 }
 
 /// These bits and those of the slots that a fact is about.
-fn with_slots(slots: u64, fact: Fact) -> u64
+fn with_slots(slots: u64, fact: &Fact) -> u64
     ensures more { (other : Fact) → IsAbout slots other → IsAbout result other }
-    ensures has { IsAbout result fact }
+    ensures has { IsAbout result fact.now }
 {
     slots | slots_of(fact)
 }
@@ -108,7 +108,7 @@ fn slots_in(facts: &[Fact]) -> u64
 {
     let mut slots = 0;
     for fact in facts {
-        slots = with_slots(slots, *fact);
+        slots = with_slots(slots, fact);
     }
     slots
 }
@@ -125,7 +125,7 @@ fn slots_behind(slots: u64, facts: &[Fact], written: Written) -> u64
 }
 
 impl Facts {
-    ghost use Rattle.std.specs.Prelude.{◌≡◌, [], false, true, OnOk};
+    ghost use Rattle.std.specs.Prelude.{◌≡◌, [], false, true, OnOk, Some};
     ghost use Rattle.cyc_plain.specs.declared.instruction.Operand.{Operand};
     ghost use Rattle.cyc_simplify.specs.declared.fact.Fact.TheVariants as facts_are;
     ghost use Rattle.cyc_simplify.specs.inside.Facts as facts_of;
@@ -201,6 +201,9 @@ impl Facts {
     pub(crate) fn keep(&mut self, slots: Written, touched: Touched)
         ensures { self.new ≡ facts_of.kept slots touched self.old }
     {
+        if changes_nothing(slots, touched) {
+            return;
+        }
         if self.leaves_all(slots, touched) {
             return;
         }
@@ -209,18 +212,26 @@ impl Facts {
     }
 
     /// A fact more, in place of the oldest where there are as many as there may be.
+    pub(crate) fn add(&mut self, fact: Fact) -> Result<(), AllocError>
+        ensures { OnOk result (self.new ≡ facts_of.remembered self.old (Some fact)) }
+    {
+        let copies = with_copy(self.copies, &fact);
+        let slots = with_slots(self.slots, &fact);
+        self.copies = ANY_SLOT;
+        self.slots = ANY_SLOT;
+        remember(&mut self.facts, fact)?;
+        self.copies = copies;
+        self.slots = slots;
+        Ok(())
+    }
+
+    /// The same, if there is one.
     pub(crate) fn remember(&mut self, made: Option<Fact>) -> Result<(), AllocError>
         ensures { OnOk result (self.new ≡ facts_of.remembered self.old made) }
     {
-        if let Some(fact) = made {
-            let copies = with_copy(self.copies, fact);
-            let slots = with_slots(self.slots, fact);
-            self.copies = ANY_SLOT;
-            self.slots = ANY_SLOT;
-            remember(&mut self.facts, fact)?;
-            self.copies = copies;
-            self.slots = slots;
+        match made {
+            Some(fact) => self.add(fact),
+            None => Ok(()),
         }
-        Ok(())
     }
 }

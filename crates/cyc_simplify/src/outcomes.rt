@@ -25,10 +25,10 @@ pub(crate) fn negated(comparison: Comparison) -> Comparison
 }
 
 /// Whether a fact is about free slots and words.
-pub(crate) fn suits(pinned: &[bool], fact: Fact) -> bool
-    ensures { result ≡ facts_of.suits pinned.now fact }
+pub(crate) fn suits(pinned: &[bool], fact: &Fact) -> bool
+    ensures { result ≡ facts_of.suits pinned.now fact.now }
 {
-    match fact {
+    match *fact {
         Fact::Equal { slot, operand } => is_free(pinned, slot) && suits_operand(pinned, operand),
         Fact::Computed {
             slot,
@@ -47,10 +47,10 @@ pub(crate) fn suits(pinned: &[bool], fact: Fact) -> bool
     }
 }
 
-fn suited(pinned: &[bool], fact: Fact) -> Option<Fact>
+pub(crate) fn suited(pinned: &[bool], fact: Fact) -> Option<Fact>
     ensures { result ≡ facts_of.suited pinned.now fact }
 {
-    if suits(pinned, fact) {
+    if suits(pinned, &fact) {
         Some(fact)
     } else {
         None
@@ -129,6 +129,46 @@ fn held_global(pinned: &[bool], global: usize, value: Operand) -> Option<Fact>
     }
 }
 
+/// What is true behind a move, which may be of a slot's own word.
+fn moved(pinned: &[bool], destination: usize, source: Operand) -> Option<Fact>
+    ensures { result ≡ facts_of.moved pinned.now destination source }
+{
+    if is_slot(source, destination) {
+        return None;
+    }
+    suited(
+        pinned,
+        Fact::Equal {
+            slot: destination,
+            operand: source,
+        },
+    )
+}
+
+/// What is true behind an operator, whose result may come to the slot of an operand.
+fn computed(
+    pinned: &[bool],
+    operator: BinaryOperator,
+    destination: usize,
+    left: Operand,
+    right: Operand,
+) -> Option<Fact>
+    ensures { result ≡ facts_of.computed pinned.now operator destination left right }
+{
+    if is_slot(left, destination) || is_slot(right, destination) {
+        return None;
+    }
+    suited(
+        pinned,
+        Fact::Computed {
+            slot: destination,
+            operator,
+            left,
+            right,
+        },
+    )
+}
+
 /// What is true behind the instruction at this index where the run goes on at `next`, whatever was true before.
 pub(crate) fn made(
     pinned: &[bool],
@@ -143,39 +183,13 @@ pub(crate) fn made(
         Instruction::Move {
             destination,
             source,
-        } => {
-            if is_slot(source, destination) {
-                None
-            } else {
-                suited(
-                    pinned,
-                    Fact::Equal {
-                        slot: destination,
-                        operand: source,
-                    },
-                )
-            }
-        }
+        } => moved(pinned, destination, source),
         Instruction::Binary {
             operator,
             destination,
             left,
             right,
-        } => {
-            if is_slot(left, destination) || is_slot(right, destination) {
-                None
-            } else {
-                suited(
-                    pinned,
-                    Fact::Computed {
-                        slot: destination,
-                        operator,
-                        left,
-                        right,
-                    },
-                )
-            }
-        }
+        } => computed(pinned, operator, destination, left, right),
         Instruction::Branch {
             comparison,
             left,
@@ -232,7 +246,7 @@ pub(crate) fn is_not(operator: UnaryOperator) -> bool
 }
 
 /// The slot holds 1 or 0.
-fn truth_in(slot: usize) -> Fact
+pub(crate) fn truth_in(slot: usize) -> Fact
     ensures { result ≡ facts_of.truth_in slot }
 {
     Fact::Holds {

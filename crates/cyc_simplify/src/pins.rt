@@ -49,7 +49,7 @@ pub(crate) fn are_suited(pinned: &[bool], facts: &[Fact]) -> bool
     ensures { result ≡ facts_of.are_suited pinned.now facts.now }
 {
     for fact in facts {
-        if !suits(pinned, *fact) {
+        if !suits(pinned, fact) {
             return false;
         }
     }

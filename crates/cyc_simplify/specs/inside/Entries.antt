@@ -2,14 +2,15 @@
 use Rattle.std.specs.Prelude.{◌≡◌, ℕ, ◌+◌, ◌<◌, ◌≤◌, Bool, true, false, not, ◌==◌, ◌&&◌, ◌||◌, if◌then◌else◌, List, length, Option, Some, None, slice_get, slice_index_or}
 use Rattle.cyc_plain.specs.declared.instruction.Instruction.{Instruction}
 use Rattle.cyc_plain.specs.declared.instruction.Instruction.TheVariants as instructions
-use Rattle.cyc_plain.specs.inside.Uses.{At}
+use Rattle.cyc_plain.specs.inside.Uses.{At, is_slot}
 use Rattle.cyc_simplify.specs.declared.entry.Entry.{Entry}
 use Rattle.cyc_simplify.specs.declared.fact.Fact.{Fact}
+use Rattle.cyc_simplify.specs.declared.fact.Fact.TheVariants as facts_are
 use Rattle.cyc_plain.specs.inside.Program.{Program, Routine, no_routine, routine_at}
 use Rattle.cyc_simplify.specs.declared.fact.Touched.{Touched}
 use Rattle.cyc_simplify.specs.declared.fact.Touched.TheVariants as touches
 use Rattle.cyc_simplify.specs.declared.fact.Written.{Written}
-use Rattle.cyc_simplify.specs.inside.Facts.{is_unreached, made}
+use Rattle.cyc_simplify.specs.inside.Facts.{is_unreached, is_untouched, made}
 use Rattle.cyc_simplify.specs.inside.Replacement.{put_at}
 use Rattle.cyc_simplify.specs.inside.Table.{facts_at, are_known, may_jump, may_go_on, is_checked_at, IsReplaced}
 
@@ -46,7 +47,6 @@ goes_well entry behind (instructions.Finish value) index = true
 goes_well entry behind (instructions.Uncaught tag value) index = true
 goes_well entry behind i index = may_go_on (entry (index + 1)) behind None
 
--- the first instructions of a function, so many of them, were checked and simplified; behind them these facts are known
 -- a place is jumped to
 abbrev pub is_entered : Option (List Fact) → Bool
 is_entered (Some facts) = true
@@ -59,6 +59,7 @@ is_straight entry (instructions.Branch comparison left right target) index = fal
 is_straight entry (instructions.Try first handler) index = false
 is_straight entry i index = not (is_entered (entry (index + 1)))
 
+-- the first instructions of a function, so many of them, were checked and simplified; behind them these facts are known
 pub record AreWalked (program : Program) (r : Routine) (pinned : List Bool) (entries : List Entry) (count : ℕ) (code : List Instruction) (facts : List Fact) : Type 0 where
   pub as_many : length code ≡ count
   pub known : facts ≡ facts_at program pinned (entry_in entries) r.code count
@@ -85,6 +86,23 @@ with_code r code = record r { code = code }
 pub record AreFirstReplaced (program : Program) (count : ℕ) (routines : List Routine) : Type 0 where
   pub as_many : length routines ≡ count
   pub each : (k : ℕ) → k < count → IsReplaced program (routine_at program k) (slice_index_or routines k no_routine)
+
+-- a fact is about other slots than this one
+abbrev pub leaves_out : (slot : ℕ) → Fact → Bool
+leaves_out slot (facts_are.Equal other operand) = not (other == slot) && not (is_slot operand slot)
+leaves_out slot (facts_are.Computed other operator left right) = not (other == slot) && (not (is_slot left slot) && not (is_slot right slot))
+leaves_out slot (facts_are.Holds comparison left right) = not (is_slot left slot) && not (is_slot right slot)
+leaves_out slot (facts_are.Held address offset value) = not (is_slot address slot) && not (is_slot value slot)
+
+-- a fact is not about a word of memory that may be changed
+abbrev pub leaves_memory : Touched → Fact → Bool
+leaves_memory touched (facts_are.Held address offset value) = is_untouched touched address offset
+leaves_memory touched fact = true
+
+-- one slot is written, and nothing of memory is changed
+abbrev pub changes_one : Written → Touched → Bool
+changes_one slots touches.Nothing = slots.count == 1
+changes_one slots touched = false
 
 -- nothing is written or changed
 abbrev pub changes_nothing : Written → Touched → Bool

@@ -290,12 +290,19 @@ abbrev pub held_global : List Bool → (offset : Option ℕ) → (value : Operan
 held_global pinned (Some offset) value = held pinned first_global offset value
 held_global pinned None value = None
 
+-- what is true behind a move, which may be of a slot's own word
+abbrev pub moved : List Bool → (destination : ℕ) → (source : Operand) → Option Fact
+moved pinned destination source = if is_slot source destination then None else suited pinned (facts_are.Equal destination source)
+
+-- what is true behind an operator, whose result may come to the slot of an operand
+abbrev pub computed : List Bool → BinaryOperator → (destination : ℕ) → (left right : Operand) → Option Fact
+computed pinned operator destination left right =
+    if is_slot left destination || is_slot right destination then None else suited pinned (facts_are.Computed destination operator left right)
+
 -- what is true behind the instruction at this index where the run goes on at `next`, whatever was true before
 abbrev pub made : List Bool → Instruction → (index next : ℕ) → Option Fact
-made pinned (instructions.Move destination source) index next =
-    if is_slot source destination then None else suited pinned (facts_are.Equal destination source)
-made pinned (instructions.Binary operator destination left right) index next =
-    if is_slot left destination || is_slot right destination then None else suited pinned (facts_are.Computed destination operator left right)
+made pinned (instructions.Move destination source) index next = moved pinned destination source
+made pinned (instructions.Binary operator destination left right) index next = computed pinned operator destination left right
 made pinned (instructions.Branch comparison left right target) index next = shown pinned comparison left right target index next
 made pinned (instructions.LoadGlobal destination global) index next = held_global pinned (global_offset global) (operands.Slot destination)
 made pinned (instructions.StoreGlobal global source) index next = held_global pinned (global_offset global) source
@@ -321,10 +328,13 @@ is_not operator = false
 abbrev pub truth_in : (slot : ℕ) → Fact
 truth_in slot = facts_are.Holds comparisons.LessUnsigned (operands.Slot slot) (operands.Word 2)
 
+abbrev pub truth_of : List Bool → BinaryOperator → (destination : ℕ) → Option Fact
+truth_of pinned operator destination = if is_test operator then suited pinned (truth_in destination) else None
+
 -- so it does behind such an operator, also where it is one of the operands
 abbrev pub tested : List Bool → Instruction → Option Fact
 tested pinned (instructions.Unary operator destination operand) = if is_not operator then suited pinned (truth_in destination) else None
-tested pinned (instructions.Binary operator destination left right) = if is_test operator then suited pinned (truth_in destination) else None
+tested pinned (instructions.Binary operator destination left right) = truth_of pinned operator destination
 tested pinned instruction = None
 
 -- a fact more, in place of the oldest where there are as many as there may be
@@ -363,6 +373,14 @@ IsMade scene pinned (instructions.Binary operator destination left right) index 
     IsTrueIfAny scene (tested pinned (instructions.Binary operator destination left right))
     × IsTrueIfAny scene (made pinned (instructions.Binary operator destination left right) index next)
 IsMade scene pinned instruction index next = IsTrueIfAny scene (made pinned instruction index next)
+
+-- what is known behind an operator
+abbrev pub facts_behind_operator : List Bool → List Fact → BinaryOperator → (destination : ℕ) → (left right : Operand) → List Fact
+facts_behind_operator pinned facts operator destination left right =
+    remembered
+    (remembered (kept (record { first = destination; count = 1 }) (touched_by pinned destination) facts)
+    (truth_of pinned operator destination))
+    (computed pinned operator destination left right)
 
 -- what is known behind an instruction
 abbrev pub facts_behind : Program → List Bool → List Fact → Instruction → (index next : ℕ) → List Fact

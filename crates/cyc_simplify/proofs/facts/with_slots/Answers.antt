@@ -6,4 +6,4 @@ pub returns-clause-more : goal.returns-clause-more
 returns-clause-more c other is = fact_left c.args.slots c.slots_of.result other is
 
 pub returns-clause-has : goal.returns-clause-has
-returns-clause-has c = fact_right c.args.slots c.slots_of.result c.args.fact c.slots_of.ensures
+returns-clause-has c = fact_right c.args.slots c.slots_of.result c.args.fact.now c.slots_of.ensures

@@ -3,6 +3,7 @@ use Rattle.std.proofs.Common.{◌∙◌, List, subst, sym}
 use Rattle.cyc_simplify.specs.declared.fact.Fact.{Fact}
 use Rattle.cyc_simplify.specs.inside.Copies.{AreAbout}
 use Rattle.cyc_simplify.proofs.About.{kept_about}
+use Rattle.cyc_simplify.proofs.Keeping.{nothing_changed}
 use Rattle.cyc_simplify.proofs.Marked.{kept_marked}
 use Rattle.cyc_simplify.proofs.facts.Facts.keep.Goals as goal
 
@@ -15,3 +16,6 @@ invariant_of-self c =
           (subst (λ (facts : List Fact). AreAbout old.slots facts) (sym (c.deref.ensures.value ∙ c.keep.ensures))
           (kept_about old.slots c.args.slots c.args.touched old.facts.items c.self.invariant.1))),
     )
+
+pub returns-then-changes_nothing : goal.returns-then-changes_nothing
+returns-then-changes_nothing c = sym (nothing_changed c.args.slots c.args.touched _ (sym c.changes_nothing.ensures ∙ c.if-changes_nothing.true))
