@@ -1,9 +1,9 @@
 -- The record of the slots that facts are about has each of them: where a slot that it does not have is written, all facts stay.
-use Rattle.std.proofs.Common.{◌≡◌, ℕ, ◌-◌, ◌^◌, ◌%◌, ◌<◌, ◌≤◌, true, false, List, [], ◌∷◌, drop, length, Some, refl, ap, sym, ◌∙◌, arith, inl, inr}
+use Rattle.std.proofs.Common.{◌≡◌, ℕ, ◌-◌, ◌^◌, ◌%◌, ◌<◌, true, false, List, [], ◌∷◌, drop, length, Some, refl, ap, sym, ◌∙◌, arith, inl, inr}
 use Rattle.std.specs.Prelude.{◌==◌, ◌&&◌, bit_and, bit_or, if◌then◌else◌, nat_lt}
 use Rattle.std.specs.Int.{bit_at}
 use Rattle.std.proofs.lemmas.Nat.Bits.{bit_at_ones}
-use Rattle.std.proofs.lemmas.Bool.{and_from, and_left, cases_lt, cases_eq, cond_both, cond-true, ne_eqb, or_from}
+use Rattle.std.proofs.lemmas.Bool.{and_from, and_left, cases_lt, cond_both, cond-true, ne_eqb, or_from}
 use Rattle.cyc_words.proofs.Lists.{all_append}
 use Rattle.cyc_words.proofs.Bits.{apart_bits, bit_left, bit_right}
 use Rattle.cyc_plain.specs.declared.instruction.Operand.{Operand}
