@@ -1,3 +1,5 @@
+-- sets of numbers
+pub mod Sets
 -- what is known of each local
 pub mod Tables
 pub mod States

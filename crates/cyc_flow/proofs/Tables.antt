@@ -1,14 +1,18 @@
 -- What words of bits tell of locals.
-use Rattle.std.proofs.Common.{◌≡◌, ◌≢◌, ℕ, zero, suc, ◌+◌, ◌*◌, ◌/◌, ◌%◌, ◌<◌, ◌≤◌, min, Bool, true, false, ◌==◌, ◌&&◌, List, [], ◌∷◌, ◌++◌, length, take, drop, replicate, get_or, set, refl, sym, ap, subst, ◌∙◌, arith, inl, inr}
-use Rattle.std.specs.Prelude.{bit_and}
+use Rattle.std.proofs.Common.{◌≡◌, ◌≢◌, ℕ, zero, suc, ◌+◌, ◌*◌, ◌/◌, ◌%◌, ◌<◌, ◌≤◌, min, Bool, true, false, ◌==◌, ◌&&◌, ◌||◌, if◌then◌else◌, List, [], ◌∷◌, ◌++◌, length, take, drop, replicate, get_or, set, refl, sym, ap, subst, ◌∙◌, arith, inl, inr}
+use Rattle.std.specs.Prelude.{bit_and, bit_or, bit_xor}
 use Rattle.std.specs.Int.{bit_at}
-use Rattle.std.proofs.lemmas.Nat.Bits.{bit_at_and, bit_at-lt, bit_at-zero}
+use Rattle.std.proofs.lemmas.Nat.Bits.{bit_at_and, bit_at_or, bit_at_xor, bit_at-lt, bit_at-zero}
 use Rattle.std.proofs.lemmas.List.{length-set, length-replicate, get_or_read, get_or_past, get_or-set_same, get_or-set_other, length-drop}
 use Rattle.std.proofs.lemmas.Bool.{cases_eq}
-use Rattle.cyc_types.specs.flow.States.{Fullness, Vacant, lower, lower_each, is_as_full, are_as_full}
+use Rattle.cyc_types.specs.flow.States.{Fullness, Vacant, Locked, Full, Reached, lower, lower_each, is_as_full, are_as_full, is_locked, emptied}
 use Rattle.cyc_flow.specs.declared.table.Marks.{Marks}
 use Rattle.cyc_flow.specs.declared.table.Table.{Table}
-use Rattle.cyc_flow.specs.inside.Tables.{told, has_bit, marked, no_marks, marks_at, known_at, each_below, table_length, view_table, Covers, met, met_each}
+use Rattle.cyc_flow.specs.inside.Bits.{has_bit}
+use Rattle.cyc_flow.specs.inside.Tables.{told, marked, no_marks, marks_at, known_at, each_below, table_length, view_table, missing, Covers, met, met_each, emptied_marks}
+use Rattle.cyc_flow.specs.inside.Numbers.{is_among, Stand, with_words}
+use Rattle.cyc_flow.proofs.Sets.{length-with_words}
+use Rattle.cyc_words.proofs.Numbers.{eqb_itself, eqb_other}
 
 -- ---- lists by their places
 
@@ -28,14 +32,14 @@ same_each (suc n) f g each =
     ∙ ap (λ as'. g 0 ∷ as') (same_each n (λ i. f (suc i)) (λ i. g (suc i)) (λ i below. each (suc i) (omega (arith, below))))
 
 -- one of them is another
-pub set_each : (n : ℕ) (f g : ℕ → Fullness) (i : ℕ) (a : Fullness) → ((j : ℕ) → j ≢ i → g j ≡ f j) → g i ≡ a → each_below n g ≡ set (each_below n f) i a
+pub set_each : (n : ℕ) (f g : ℕ → Fullness) (i : ℕ) (a : Fullness) → ((j : ℕ) → j < n → j ≢ i → g j ≡ f j) → (i < n → g i ≡ a) → each_below n g ≡ set (each_below n f) i a
 set_each zero f g i a other same = refl
 set_each (suc n) f g zero a other same =
-    ap (λ b. b ∷ each_below n (λ j. g (suc j))) same
-    ∙ ap (λ as'. a ∷ as') (same_each n (λ j. g (suc j)) (λ j. f (suc j)) (λ j below. other (suc j) (λ e. omega (arith, e))))
+    ap (λ b. b ∷ each_below n (λ j. g (suc j))) (same (omega arith))
+    ∙ ap (λ as'. a ∷ as') (same_each n (λ j. g (suc j)) (λ j. f (suc j)) (λ j below. other (suc j) (omega (arith, below)) (λ e. omega (arith, e))))
 set_each (suc n) f g (suc i) a other same =
-    ap (λ b. b ∷ each_below n (λ j. g (suc j))) (other 0 (λ e. omega (arith, e)))
-    ∙ ap (λ as'. f 0 ∷ as') (set_each n (λ j. f (suc j)) (λ j. g (suc j)) i a (λ j apart. other (suc j) (λ e. apart (omega (arith, e)))) same)
+    ap (λ b. b ∷ each_below n (λ j. g (suc j))) (other 0 (omega arith) (λ e. omega (arith, e)))
+    ∙ ap (λ as'. f 0 ∷ as') (set_each n (λ j. f (suc j)) (λ j. g (suc j)) i a (λ j below apart. other (suc j) (omega (arith, below)) (λ e. apart (omega (arith, e)))) (λ below. same (omega (arith, below))))
 
 pub lower_each_below : (k n m : ℕ) (f g h : ℕ → Fullness) → k ≡ min n m → ((i : ℕ) → i < k → h i ≡ lower (f i) (g i))
     → each_below k h ≡ lower_each (each_below n f) (each_below m g)
@@ -144,11 +148,26 @@ as_full_told true false true false h k = refl
 as_full_told true false true true h k = absurd (let e : false ≡ true = k in cc)
 as_full_told true true c d h k = refl
 
+covered_bit : (x z : ℕ) → x < 2 → z < 2 → (min x z + z) % 2 ≡ 0 → ((x == 1) && (z == 1)) ≡ (z == 1)
+covered_bit zero zero small less h = refl
+covered_bit zero (suc zero) small less h = absurd (omega (arith, h))
+covered_bit zero (suc (suc z)) small less h = absurd (omega (arith, less))
+covered_bit (suc zero) z small less h = refl
+covered_bit (suc (suc x)) z small less h = absurd (omega (arith, small))
+
+-- what is missing of one kind of bits
+lacking : (a b i : ℕ) → bit_at (bit_xor (bit_and a b) b) i ≡ (min (bit_at a i) (bit_at b i) + bit_at b i) % 2
+lacking a b i = bit_at_xor (bit_and a b) b i ∙ ap (λ (x : ℕ). (x + bit_at b i) % 2) (bit_at_and a b i)
+
+covered : (a b i : ℕ) → bit_at (bit_xor (bit_and a b) b) i ≡ 0 → (has_bit a i && has_bit b i) ≡ has_bit b i
+covered a b i h = covered_bit (bit_at a i) (bit_at b i) (bit_at-lt a i) (bit_at-lt b i) (sym (lacking a b i) ∙ h)
+
 pub covers_marked : (m o : Marks) (i : ℕ) → Covers m o → is_as_full (marked m i) (marked o i) ≡ true
 covers_marked m o i h =
+    let each = bit_at_or (bit_xor (bit_and m.held o.held) o.held) (bit_xor (bit_and m.free o.free) o.free) i in
     as_full_told (has_bit m.held i) (has_bit m.free i) (has_bit o.held i) (has_bit o.free i)
-    (sym (has_both m.held o.held i) ∙ ap (λ (n : ℕ). has_bit n i) h.0)
-    (sym (has_both m.free o.free i) ∙ ap (λ (n : ℕ). has_bit n i) h.1)
+    (covered m.held o.held i (omega (arith, each, h i)))
+    (covered m.free o.free i (omega (arith, each, h i)))
 
 -- ---- tables
 
@@ -182,8 +201,8 @@ module _ (ms : List Marks) (n : ℕ) (m o : Marks) (a : Fullness) (within : n / 
   pub set_known : (count : ℕ) → each_below (min count (64 * length (set ms (n / 64) o))) (known_at (set ms (n / 64) o)) ≡ set (each_below (min count (64 * length ms)) (known_at ms)) n a
   set_known count =
       ap (λ (l : ℕ). each_below (min count (64 * l)) (known_at (set ms (n / 64) o))) (length-set ms (n / 64) o)
-      ∙ set_each (min count (64 * length ms)) (known_at ms) (known_at (set ms (n / 64) o)) n a other_known
-      (ap (λ (k : Marks). marked k (n % 64)) at_place ∙ same)
+      ∙ set_each (min count (64 * length ms)) (known_at ms) (known_at (set ms (n / 64) o)) n a (λ j below. other_known j)
+      (λ below. ap (λ (k : Marks). marked k (n % 64)) at_place ∙ same)
 
 set_past : (as' : List Fullness) (n : ℕ) (a : Fullness) → length as' ≤ n → as' ≡ set as' n a
 set_past [] n a past = refl
@@ -257,6 +276,23 @@ met_all ms os whole i n d e k =
 abbrev CoverEach : List Marks → List Marks → Type 0
 CoverEach ms os = (p : ℕ) → p < length ms → p < length os → Covers (marks_at ms p) (marks_at os p)
 
+-- nothing is missing in so many
+abbrev pub LacksBelow : List Marks → List Marks → (word : ℕ) → ℕ → Type 0
+LacksBelow ms os w n = (i : ℕ) → bit_at w i ≡ 0 → (p : ℕ) → p < n → bit_at (missing (marks_at ms p) (marks_at os p)) i ≡ 0
+
+pub lacks_more : (ms os : List Marks) (w n r : ℕ) → r ≡ missing (marks_at ms n) (marks_at os n) → LacksBelow ms os w n → LacksBelow ms os (bit_or w r) (n + 1)
+lacks_more ms os w n r is h i none p under = elim (cases_eq p n) [
+  | inl here ↦
+      ap (λ (q : ℕ). bit_at (missing (marks_at ms q) (marks_at os q)) i) here
+      ∙ ap (λ (v : ℕ). bit_at v i) (sym is)
+      ∙ omega (arith, bit_at_or w r i, none)
+  | inr apart ↦ h i (omega (arith, bit_at_or w r i, none)) p (omega (arith, under, apart))
+]
+
+-- nothing is missing anywhere
+pub lacks_none : (ms os : List Marks) (w n : ℕ) → w ≡ 0 → min (length ms) (length os) ≤ n → LacksBelow ms os w n → CoverEach ms os
+lacks_none ms os w n none past h p below less i = h i (ap (λ (v : ℕ). bit_at v i) none ∙ bit_at-zero i) p (omega (arith, below, less, past))
+
 pub cover_known : (t u : Table) (ms os : List Marks) → table_length t ≡ table_length u → ms ≡ t.marks.items → os ≡ u.marks.items → CoverEach ms os
     → true ≡ are_as_full (view_table t) (view_table u)
 cover_known t u ms os same d e all =
@@ -272,3 +308,99 @@ unequal_known t u apart =
 
 pub length_known : (t : Table) (n : ℕ) → n ≡ table_length t → length (view_table t) ≡ n
 length_known t n e = length-each_below (table_length t) (known_at t.marks.items) ∙ sym e
+
+-- ---- where locals are emptied
+
+-- a local holds nothing, unless it is lent out, if this is so
+abbrev emptied_if : Bool → Fullness → Fullness
+emptied_if true a = if is_locked a then a else Vacant
+emptied_if false a = a
+
+told_emptied : (x y z : ℕ) → x < 2 → y < 2 → z < 2 → told (((x + min (min x y) z) % 2) == 1) (y == 1) ≡ emptied_if (z == 1) (told (x == 1) (y == 1))
+told_emptied zero zero zero a b c = refl
+told_emptied zero zero (suc zero) a b c = refl
+told_emptied zero (suc zero) zero a b c = refl
+told_emptied zero (suc zero) (suc zero) a b c = refl
+told_emptied (suc zero) zero zero a b c = refl
+told_emptied (suc zero) zero (suc zero) a b c = refl
+told_emptied (suc zero) (suc zero) zero a b c = refl
+told_emptied (suc zero) (suc zero) (suc zero) a b c = refl
+told_emptied (suc (suc x)) y z a b c = absurd (omega (arith, a))
+told_emptied x (suc (suc y)) z a b c = absurd (omega (arith, b))
+told_emptied x y (suc (suc z)) a b c = absurd (omega (arith, c))
+
+marked_emptied : (m : Marks) (w i : ℕ) → marked (emptied_marks m w) i ≡ emptied_if (has_bit w i) (marked m i)
+marked_emptied m w i =
+    let both = bit_at_and (bit_and m.held m.free) w i ∙ ap (λ (x : ℕ). min x (bit_at w i)) (bit_at_and m.held m.free i) in
+    ap (λ (x : ℕ). told (x == 1) (has_bit m.free i)) (bit_at_xor m.held (bit_and (bit_and m.held m.free) w) i ∙ ap (λ (x : ℕ). (bit_at m.held i + x) % 2) both)
+    ∙ told_emptied (bit_at m.held i) (bit_at m.free i) (bit_at w i) (bit_at-lt m.held i) (bit_at-lt m.free i) (bit_at-lt w i)
+
+none_marked : (i : ℕ) → marked no_marks i ≡ Vacant
+none_marked i = ap (λ (b : ℕ). told (b == 1) (b == 1)) (bit_at-zero i)
+
+still_vacant : (b : Bool) (a : Fullness) → a ≡ Vacant → a ≡ emptied_if b a
+still_vacant true a e = e ∙ ap (emptied_if true) (sym e)
+still_vacant false a e = refl
+
+marks_emptied_at : (ms : List Marks) (ws : List ℕ) (p i : ℕ) → marked (marks_at (with_words emptied_marks ms ws) p) i ≡ emptied_if (has_bit (get_or ws p 0) i) (marked (marks_at ms p) i)
+marks_emptied_at [] ws p i = still_vacant (has_bit (get_or ws p 0) i) (marked no_marks i) (none_marked i)
+marks_emptied_at (m ∷ ms) [] p i = sym (ap (λ (b : ℕ). emptied_if (b == 1) (marked (marks_at (m ∷ ms) p) i)) (bit_at-zero i))
+marks_emptied_at (m ∷ ms) (w ∷ ws) zero i = marked_emptied m w i
+marks_emptied_at (m ∷ ms) (w ∷ ws) (suc p) i = marks_emptied_at ms ws p i
+
+lent_stays : (a : Fullness) → is_locked a ≡ true → emptied_if true a ≡ a
+lent_stays a e = ap (λ (b : Bool). if b then a else Vacant) e
+
+others_empty : (a : Fullness) → is_locked a ≡ false → emptied_if true a ≡ Vacant
+others_empty a e = ap (λ (b : Bool). if b then a else Vacant) e
+
+module _ (c n : ℕ) (f : ℕ → Fullness) where
+  abbrev one_less : ℕ → Fullness
+  one_less i = emptied_if (i == n) (f i)
+
+  abbrev all_known : List Fullness
+  all_known = each_below c f
+
+  at_number : (i : ℕ) → i < c → i ≡ n → (b : Bool) → is_locked (get_or all_known n Vacant) ≡ b → is_locked (f i) ≡ b
+  at_number i below e b h = ap is_locked (sym (get_or-each_below c i f Vacant below) ∙ ap (λ (j : ℕ). get_or all_known j Vacant) e) ∙ h
+
+  other_number : (i : ℕ) → i ≢ n → one_less i ≡ f i
+  other_number i apart = ap (λ (b : Bool). emptied_if b (f i)) (eqb_other i n (λ e. apart (sym e)))
+
+  same_number : (i : ℕ) → i ≡ n → one_less i ≡ emptied_if true (f i)
+  same_number i e = ap (λ (b : Bool). emptied_if b (f i)) (ap (λ (j : ℕ). i == j) (sym e) ∙ eqb_itself i)
+
+  one_empty : (b : Bool) → is_locked (get_or all_known n Vacant) ≡ b → (if b then Reached all_known else Reached (set all_known n Vacant)) ≡ Reached (each_below c one_less)
+  one_empty true h = ap Reached (same_each c f one_less (λ i below. elim (cases_eq i n) [
+    | inl e ↦ sym (same_number i e ∙ lent_stays (f i) (at_number i below e true h))
+    | inr apart ↦ sym (other_number i apart)
+  ]))
+  one_empty false h = sym (ap Reached (set_each c f one_less n Vacant (λ i below. other_number i) (λ below. same_number n refl ∙ others_empty (f n) (at_number n below refl false h))))
+
+  one_emptied : emptied (n ∷ []) (Reached all_known) ≡ Reached (each_below c one_less)
+  one_emptied = ap (λ (b : Bool). if b then Reached all_known else Reached (set all_known n Vacant)) {x = is_locked (get_or all_known n Vacant)} refl ∙ one_empty (is_locked (get_or all_known n Vacant)) refl
+
+emptied_twice : (a b : Bool) (x : Fullness) → emptied_if b (emptied_if a x) ≡ emptied_if (a || b) x
+emptied_twice true true Vacant = refl
+emptied_twice true true Locked = refl
+emptied_twice true true Full = refl
+emptied_twice true false x = refl
+emptied_twice false b x = refl
+
+-- each of these is emptied, at once
+emptied_below : (ns : List ℕ) (c : ℕ) (f : ℕ → Fullness) → emptied ns (Reached (each_below c f)) ≡ Reached (each_below c (λ i. emptied_if (is_among i ns) (f i)))
+emptied_below [] c f = refl
+emptied_below (n ∷ ns) c f =
+    ap (emptied ns) (one_emptied c n f)
+    ∙ emptied_below ns c (one_less c n f)
+    ∙ ap Reached (same_each c (λ i. emptied_if (is_among i ns) (one_less c n f i)) (λ i. emptied_if (is_among i (n ∷ ns)) (f i)) (λ i below. emptied_twice (i == n) (is_among i ns) (f i)))
+
+pub emptied_known : (t : Table) (ws ns : List ℕ) (ms : List Marks) → ms ≡ with_words emptied_marks t.marks.items ws → Stand ws ns
+    → Reached (each_below (min t.count (64 * length ms)) (known_at ms)) ≡ emptied ns (Reached (view_table t))
+emptied_known t ws ns ms are stands =
+    let own = t.marks.items in
+    ap (λ (os : List Marks). Reached (each_below (min t.count (64 * length os)) (known_at os))) are
+    ∙ ap (λ (l : ℕ). Reached (each_below (min t.count (64 * l)) (known_at (with_words emptied_marks own ws)))) (length-with_words emptied_marks own ws)
+    ∙ ap Reached (same_each (table_length t) (known_at (with_words emptied_marks own ws)) (λ i. emptied_if (is_among i ns) (known_at own i))
+    (λ i below. marks_emptied_at own ws (i / 64) (i % 64) ∙ ap (λ (b : Bool). emptied_if b (known_at own i)) (stands i)))
+    ∙ sym (emptied_below ns (table_length t) (known_at own))

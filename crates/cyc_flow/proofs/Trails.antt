@@ -21,14 +21,6 @@ restored : (f : State) (n : ℕ) (a : Fullness) → with_fullness (fullness f n)
 restored Unreached n a = refl
 restored (Reached as') n a = ap Reached (set_twice as' n a (get_or as' n Vacant) ∙ set-get_or as' n Vacant)
 
--- what is known of a local is known of it once more
-pub known_again : (f : State) (n : ℕ) (a : Fullness) → a ≡ fullness f n → with_fullness a f n ≡ f
-known_again f n a e = ap (λ (b : Fullness). with_fullness b f n) e ∙ same f
-  where
-    same : (f : State) → with_fullness (fullness f n) f n ≡ f
-    same Unreached = refl
-    same (Reached as') = ap Reached (set-get_or as' n Vacant)
-
 -- a local is changed, and what was known of it is noted
 pub noted_begun : (cs : List Change) (c : Change) (f : State) (a : Fullness) → view_fullness c.before ≡ fullness f c.number → undone (cs ++ c ∷ []) (with_fullness a f c.number) ≡ undone cs f
 noted_begun cs c f a e =

@@ -16,6 +16,7 @@ use crate::state::State;
 use crate::statements::Walk;
 use crate::stop::Stop;
 use crate::table::Table;
+use crate::touched::Touched;
 use cyc_types::TypedTree;
 use cyc_types::typed::Function;
 use cyc_words::{Code, Fault};
@@ -79,7 +80,7 @@ fn check_function(alloc: Global, function: &Function) -> Result<(), Stop>
 {
     let start = Tracked {
         state: start_of(alloc, function)?,
-        touched: Vec::new(alloc),
+        touched: Touched::none(alloc),
     };
     let mut walk = Walk::new(alloc);
     let end = walk.check_items(None, &function.body, start)?;

@@ -6,13 +6,14 @@ ghost use Rattle.cyc_flow.specs.inside.Code.{view_fullness, view_state, undone, 
 
 use crate::expressions::Tracked;
 use crate::state::{Change, Fullness, State};
+use crate::touched::Touched;
 use std::alloc::{AllocError, Global};
 
 /// What is known at a place of an expression, and which locals were touched before it.
 #[derive(Drop)]
 pub(crate) struct Evaluation {
     pub(crate) state: State,
-    pub(crate) touched: Vec<usize>,
+    pub(crate) touched: Touched,
     /// What was changed since the expression began, or else the operand of the innermost `&&` or `||` around, in order.
     pub(crate) trail: Vec<Change>,
 }
@@ -48,7 +49,7 @@ fn are_emptied(state: &State, trail: &[Change]) -> bool
 impl Evaluation {
     pub(crate) fn new(alloc: Global, tracked: Tracked) -> Evaluation
         ensures state { view_state result.state ≡ view_state tracked.state }
-        ensures touched { result.touched.items ≡ tracked.touched.items }
+        ensures touched { result.touched.numbers.list ≡ tracked.touched.numbers.list }
     {
         Evaluation {
             state: tracked.state,
@@ -59,7 +60,7 @@ impl Evaluation {
 
     pub(crate) fn end(self) -> Tracked
         ensures state { view_state result.state ≡ view_state self.state }
-        ensures touched { result.touched.items ≡ self.touched.items }
+        ensures touched { result.touched.numbers.list ≡ self.touched.numbers.list }
     {
         Tracked {
             state: self.state,
@@ -71,7 +72,7 @@ impl Evaluation {
     /// change.
     pub(crate) fn set(&mut self, number: usize, fullness: Fullness) -> Result<(), AllocError>
         ensures state { IfOk result (λ _. view_state self.new.state ≡ with_fullness (view_fullness fullness) (view_state self.old.state) number) }
-        ensures touched { IfOk result (λ _. self.new.touched.items ≡ self.old.touched.items) }
+        ensures touched { IfOk result (λ _. self.new.touched.numbers.list ≡ self.old.touched.numbers.list) }
         ensures begun { IfOk result (λ _. begun self.new ≡ begun self.old) }
     {
         let before = self.state.fullness(number);
@@ -86,17 +87,17 @@ impl Evaluation {
     /// A local is consumed or assigned.
     pub(crate) fn touch(&mut self, number: usize) -> Result<(), AllocError>
         ensures state { IfOk result (λ _. view_state self.new.state ≡ view_state self.old.state) }
-        ensures touched { IfOk result (λ _. self.new.touched.items ≡ and_local number self.old.touched.items) }
+        ensures touched { IfOk result (λ _. self.new.touched.numbers.list ≡ and_local number self.old.touched.numbers.list) }
         ensures begun { IfOk result (λ _. begun self.new ≡ begun self.old) }
     {
-        self.touched.push(number)?;
+        self.touched.add(number)?;
         Ok(())
     }
 
     /// Back to what was known at the start.
     fn undo(&mut self)
         ensures state { view_state self.new.state ≡ begun self.old }
-        ensures touched { self.new.touched.items ≡ self.old.touched.items }
+        ensures touched { self.new.touched.numbers.list ≡ self.old.touched.numbers.list }
         ensures trail { self.new.trail.items ≡ [] }
     {
         while let Some(change) = self.trail.pop() {
@@ -108,7 +109,7 @@ impl Evaluation {
     #[tactic(auto, using(std::proofs::lemmas::List::drop_more))]
     fn lower(&mut self, changes: &[Change]) -> Result<(), AllocError>
         ensures state { IfOk result (λ _. view_state self.new.state ≡ lowered changes.now (view_state self.old.state)) }
-        ensures touched { IfOk result (λ _. self.new.touched.items ≡ self.old.touched.items) }
+        ensures touched { IfOk result (λ _. self.new.touched.numbers.list ≡ self.old.touched.numbers.list) }
         ensures begun { IfOk result (λ _. begun self.new ≡ begun self.old) }
     {
         for change in changes {
@@ -123,7 +124,7 @@ impl Evaluation {
     #[tactic(auto, using(crate::proofs::Trails::meet_undone, crate::proofs::Trails::meet_emptied))]
     pub(crate) fn meet_start(&mut self, alloc: Global) -> Result<(), AllocError>
         ensures state { IfOk result (λ _. view_state self.new.state ≡ meet (begun self.old) (view_state self.old.state)) }
-        ensures touched { IfOk result (λ _. self.new.touched.items ≡ self.old.touched.items) }
+        ensures touched { IfOk result (λ _. self.new.touched.numbers.list ≡ self.old.touched.numbers.list) }
         ensures begun { IfOk result (λ _. begun self.new ≡ begun self.old) }
     {
         if are_emptied(&self.state, &self.trail) {
@@ -138,7 +139,7 @@ impl Evaluation {
     #[tactic(auto, using(crate::proofs::Trails::undone_append))]
     pub(crate) fn resume(&mut self, outer: Vec<Change>) -> Result<(), AllocError>
         ensures state { IfOk result (λ _. view_state self.new.state ≡ view_state self.old.state) }
-        ensures touched { IfOk result (λ _. self.new.touched.items ≡ self.old.touched.items) }
+        ensures touched { IfOk result (λ _. self.new.touched.numbers.list ≡ self.old.touched.numbers.list) }
         ensures begun { IfOk result (λ _. begun self.new ≡ undone outer.items (begun self.old)) }
     {
         if outer.is_empty() {

@@ -17,6 +17,7 @@ use crate::evaluation::Evaluation;
 use crate::settled::{Settled, check_head};
 use crate::state::{Fullness, State};
 use crate::stop::Stop;
+use crate::touched::Touched;
 use cyc_types::typed::{
     Converted, Dereference, Expr, Initial, Lvalue, Operation, Placement, ValueType,
 };
@@ -28,7 +29,7 @@ use std::mem;
 #[derive(Drop)]
 pub(crate) struct Tracked {
     pub(crate) state: State,
-    pub(crate) touched: Vec<usize>,
+    pub(crate) touched: Touched,
 }
 
 /// The local that an operand is a peek of.
@@ -71,7 +72,7 @@ impl Tracked {
     /// The same but for one local, of which this is known.
     pub(crate) fn with_fullness(mut self, number: usize, fullness: Fullness) -> Tracked
         ensures state { view_state result.state ≡ with_fullness (view_fullness fullness) (view_state self.state) number }
-        ensures touched { result.touched.items ≡ self.touched.items }
+        ensures touched { result.touched.numbers.list ≡ self.touched.numbers.list }
     {
         self.state.set(number, fullness);
         self
@@ -80,32 +81,28 @@ impl Tracked {
     /// A local is consumed, assigned or locked.
     pub(crate) fn touch(&mut self, number: usize) -> Result<(), AllocError>
         ensures state { IfOk result (λ _. view_state self.new.state ≡ view_state self.old.state) }
-        ensures touched { IfOk result (λ _. self.new.touched.items ≡ and_local number self.old.touched.items) }
+        ensures touched { IfOk result (λ _. self.new.touched.numbers.list ≡ and_local number self.old.touched.numbers.list) }
     {
-        self.touched.push(number)?;
+        self.touched.add(number)?;
         Ok(())
     }
 
     /// Behind the body of a `try`, before which these were touched.
-    pub(crate) fn behind_body(self, touched: Vec<usize>) -> Result<Tracked, AllocError>
-        ensures { IfOk result (λ t. (view_state t.state ≡ view_state self.state) × (t.touched.items ≡ touched.items ++ self.touched.items)) }
+    pub(crate) fn behind_body(self, touched: Touched) -> Tracked
+        ensures state { view_state result.state ≡ view_state self.state }
+        ensures touched { result.touched.numbers.list ≡ touched.numbers.list ++ self.touched.numbers.list }
     {
-        if touched.is_empty() {
-            return Ok(self);
-        }
-        let mut all = touched;
-        all.extend_from_slice(&self.touched)?;
-        Ok(Tracked {
+        Tracked {
             state: self.state,
-            touched: all,
-        })
+            touched: touched.joined(self.touched),
+        }
     }
 }
 
 impl Evaluation {
     /// A peek of a local.
     fn look(&self, span: Span, number: usize) -> Result<(), Stop>
-        ensures { Leads result self.now (run (looked (place_of_span span) number (view_state self.now.state))) self.now.touched.items (begun self.now) }
+        ensures { Leads result self.now (run (looked (place_of_span span) number (view_state self.now.state))) self.now.touched.numbers.list (begun self.now) }
     {
         let mut settled = Settled::new();
         settled.look(&self.state, span, number);
@@ -114,7 +111,7 @@ impl Evaluation {
 
     /// A use of a variable that leaves its value there.
     fn use_variable(&self, waiting: &[usize], variable: Lvalue) -> Result<(), Stop>
-        ensures { Leads result self.now (run (used waiting.now (view_lvalue variable) (view_state self.now.state))) self.now.touched.items (begun self.now) }
+        ensures { Leads result self.now (run (used waiting.now (view_lvalue variable) (view_state self.now.state))) self.now.touched.numbers.list (begun self.now) }
     {
         let Lvalue::Local { span, number } = variable else {
             return Ok(());
@@ -126,7 +123,7 @@ impl Evaluation {
 
     /// A use of a local's value, which leaves it empty.
     fn consume(&mut self, waiting: &[usize], span: Span, number: usize) -> Result<(), Stop>
-        ensures { Leads result self.new (run (moved waiting.now (place_of_span span) number (view_state self.old.state))) (and_local number self.old.touched.items) (begun self.old) }
+        ensures { Leads result self.new (run (moved waiting.now (place_of_span span) number (view_state self.old.state))) (and_local number self.old.touched.numbers.list) (begun self.old) }
     {
         let mut settled = Settled::new();
         settled.use_local(waiting, &self.state, span, number);
@@ -143,7 +140,7 @@ impl Evaluation {
         variable: Lvalue,
         result_type: &ValueType,
     ) -> Result<(), Stop>
-        ensures { Leads result self.new (run (stored waiting.now (view_lvalue variable) (view_state self.old.state))) (and_assigned (view_lvalue variable) (view_value_type result_type.now) self.old.touched.items) (begun self.old) }
+        ensures { Leads result self.new (run (stored waiting.now (view_lvalue variable) (view_state self.old.state))) (and_assigned (view_lvalue variable) (view_value_type result_type.now) self.old.touched.numbers.list) (begun self.old) }
     {
         let Lvalue::Local { span, number } = variable else {
             return Ok(());
@@ -166,7 +163,7 @@ impl Evaluation {
         waiting: &[usize],
         value: &Expr,
     ) -> Result<(), Stop>
-        ensures { Leads result self.new (run (rule waiting.now (view_expression value.now) (view_state self.old.state))) (touched (view_expression value.now) self.old.touched.items) (begun self.old) }
+        ensures { Leads result self.new (run (rule waiting.now (view_expression value.now) (view_state self.old.state))) (touched (view_expression value.now) self.old.touched.numbers.list) (begun self.old) }
     {
         match value {
             Expr::Number { .. } | Expr::NullPointer | Expr::HeapRegion | Expr::Counter { .. } => {
@@ -219,7 +216,7 @@ impl Evaluation {
         waiting: &[usize],
         place: &Dereference,
     ) -> Result<(), Stop>
-        ensures { Leads result self.new (run (rule_place waiting.now (view_dereference place.now) (view_state self.old.state))) (touched_place (view_dereference place.now) self.old.touched.items) (begun self.old) }
+        ensures { Leads result self.new (run (rule_place waiting.now (view_dereference place.now) (view_state self.old.state))) (touched_place (view_dereference place.now) self.old.touched.numbers.list) (begun self.old) }
     {
         match place {
             Dereference::Target { pointer, .. } => self.evaluate(alloc, waiting, pointer),
@@ -235,7 +232,7 @@ impl Evaluation {
     /// Goes through the handle of the region that an object is made in, if it has one.
     #[cycle(expression)]
     fn place(&mut self, alloc: Global, waiting: &[usize], placement: &Placement) -> Result<(), Stop>
-        ensures { Leads result self.new (run (rule_placement waiting.now (view_placement placement.now) (view_state self.old.state))) (touched_placement (view_placement placement.now) self.old.touched.items) (begun self.old) }
+        ensures { Leads result self.new (run (rule_placement waiting.now (view_placement placement.now) (view_state self.old.state))) (touched_placement (view_placement placement.now) self.old.touched.numbers.list) (begun self.old) }
     {
         match placement {
             Placement::OnHeap => Ok(()),
@@ -253,7 +250,7 @@ impl Evaluation {
         waiting: &[usize],
         initial: &Initial,
     ) -> Result<(), Stop>
-        ensures { Leads result self.new (run (rule_initial waiting.now (view_initial initial.now) (view_state self.old.state))) (touched_initial (view_initial initial.now) self.old.touched.items) (begun self.old) }
+        ensures { Leads result self.new (run (rule_initial waiting.now (view_initial initial.now) (view_state self.old.state))) (touched_initial (view_initial initial.now) self.old.touched.numbers.list) (begun self.old) }
     {
         match initial {
             Initial::Plain { value, .. } => self.evaluate(alloc, waiting, value),
@@ -284,7 +281,7 @@ impl Evaluation {
         waiting: &[usize],
         converted: &Converted,
     ) -> Result<(), Stop>
-        ensures { Leads result self.new (run (rule_converted waiting.now (view_converted converted.now) (view_state self.old.state))) (touched_converted (view_converted converted.now) self.old.touched.items) (begun self.old) }
+        ensures { Leads result self.new (run (rule_converted waiting.now (view_converted converted.now) (view_state self.old.state))) (touched_converted (view_converted converted.now) self.old.touched.numbers.list) (begun self.old) }
     {
         self.evaluate(alloc, waiting, &converted.value)
     }
@@ -298,7 +295,7 @@ impl Evaluation {
         waiting: &[usize],
         arguments: &[Converted],
     ) -> Result<(), Stop>
-        ensures { Leads result self.new (run (rule_arguments waiting.now (arguments_of arguments.now) (view_state self.old.state))) (touched_arguments (arguments_of arguments.now) self.old.touched.items) (begun self.old) }
+        ensures { Leads result self.new (run (rule_arguments waiting.now (arguments_of arguments.now) (view_state self.old.state))) (touched_arguments (arguments_of arguments.now) self.old.touched.numbers.list) (begun self.old) }
     {
         for argument in arguments {
             self.convert(alloc, waiting, argument)?;
@@ -314,7 +311,7 @@ impl Evaluation {
         waiting: &[usize],
         operation: &Operation,
     ) -> Result<(), Stop>
-        ensures { Leads result self.new (run (rule_operation waiting.now operation.now (view_state self.old.state))) (touched_operation operation.now self.old.touched.items) (begun self.old) }
+        ensures { Leads result self.new (run (rule_operation waiting.now operation.now (view_state self.old.state))) (touched_operation operation.now self.old.touched.numbers.list) (begun self.old) }
     {
         match operation {
             Operation::Compute { operand, .. } => self.evaluate(alloc, waiting, operand),
@@ -346,7 +343,7 @@ impl Evaluation {
         waiting: &[usize],
         operations: &[Operation],
     ) -> Result<(), Stop>
-        ensures { Leads result self.new (run (rule_operations waiting.now (operations_of operations.now) (view_state self.old.state))) (touched_operations (operations_of operations.now) self.old.touched.items) (begun self.old) }
+        ensures { Leads result self.new (run (rule_operations waiting.now (operations_of operations.now) (view_state self.old.state))) (touched_operations (operations_of operations.now) self.old.touched.numbers.list) (begun self.old) }
     {
         for operation in operations {
             self.apply_operation(alloc, waiting, operation)?;

@@ -6,6 +6,7 @@ ghost use Rattle.cyc_flow.specs.inside.Code.{view_fullness, view_state};
 ghost use Rattle.cyc_flow.specs.inside.Tables.{view_table};
 
 use crate::table::Table;
+use crate::touched::Touched;
 use std::alloc::{AllocError, Global};
 
 /// What is known of a local, in rising order.
@@ -84,29 +85,26 @@ impl State {
         }
     }
 
-    /// The same but for these locals, of each of which this is known.
+    /// Each of these locals holds a value.
     #[tactic(auto, using(std::proofs::lemmas::List::drop_more))]
-    pub(crate) fn with_each(self, numbers: &[usize], fullness: Fullness) -> State
-        ensures { view_state result ≡ with_each (view_fullness fullness) numbers.now (view_state self) }
+    pub(crate) fn filled(self, numbers: &[usize]) -> State
+        ensures { view_state result ≡ with_each Full numbers.now (view_state self) }
     {
         let mut state = self;
         for number in numbers {
-            state.set(*number, fullness);
+            state.set(*number, Fullness::Full);
         }
         state
     }
 
     /// Each of these locals may hold nothing, unless it is lent out.
     #[tactic(auto, using(crate::proofs::States::emptied_unreached))]
-    pub(crate) fn emptied(self, numbers: &[usize]) -> State
-        ensures { view_state result ≡ emptied numbers.now (view_state self) }
+    pub(crate) fn emptied(self, touched: &Touched) -> State
+        ensures { view_state result ≡ emptied touched.now.numbers.list (view_state self) }
     {
         match self {
             State::Unreached => State::Unreached,
-            State::Reached(mut locals) => {
-                empty_each(&mut locals, numbers);
-                State::Reached(locals)
-            }
+            State::Reached(locals) => State::Reached(locals.emptied(touched.words())),
         }
     }
 
@@ -157,33 +155,6 @@ impl State {
         match self {
             State::Unreached => Ok(State::Unreached),
             State::Reached(locals) => Ok(State::Reached(locals.copy(alloc)?)),
-        }
-    }
-}
-
-/// This local may hold nothing, unless it is lent out. Tries in each other come to the same local once for each of them, so that nothing is
-/// written where it holds nothing.
-#[tactic(auto, using(crate::proofs::Trails::known_again))]
-fn empty(locals: &mut Table, number: usize)
-    ensures { Reached (view_table locals.new) ≡ (if is_locked (fullness (Reached (view_table locals.old)) number) then Reached (view_table locals.old) else with_fullness Vacant (Reached (view_table locals.old)) number) }
-{
-    match locals.fullness(number) {
-        Fullness::Full => locals.set(number, Fullness::Vacant),
-        Fullness::Locked | Fullness::Vacant => {}
-    }
-}
-
-/// The same of each of these locals. One that is moved and assigned again and again stands there in a row: it is come to once.
-#[tactic(auto, using(crate::proofs::States::none_empties, crate::proofs::States::empty_again, crate::proofs::States::one_more_emptied))]
-fn empty_each(locals: &mut Table, numbers: &[usize])
-    ensures { Reached (view_table locals.new) ≡ emptied numbers.now (Reached (view_table locals.old)) }
-{
-    // So far none: no local has this number.
-    let mut last = locals.len();
-    for number in numbers {
-        if *number != last {
-            empty(locals, *number);
-            last = *number;
         }
     }
 }

@@ -17,6 +17,7 @@ use crate::expressions::{Tracked, and_peeked, peek_behind};
 use crate::settled::{Settled, check_head};
 use crate::state::{Fullness, State, meet};
 use crate::stop::Stop;
+use crate::touched::Touched;
 use cyc_types::typed::{Clause, Converted, Expr, Item, Lvalue, Side, Stmt};
 use cyc_words::Span;
 use std::alloc::Global;
@@ -26,7 +27,7 @@ use std::mem;
 
 /// Behind an expression that stands in no other.
 fn evaluate(alloc: Global, value: &Expr, tracked: Tracked) -> Result<Tracked, Stop>
-    ensures { Gives result (run (rule [] (view_expression value.now) (view_state tracked.state))) (touched (view_expression value.now) tracked.touched.items) }
+    ensures { Gives result (run (rule [] (view_expression value.now) (view_state tracked.state))) (touched (view_expression value.now) tracked.touched.numbers.list) }
 {
     let mut evaluation = Evaluation::new(alloc, tracked);
     evaluation.evaluate(alloc, &[], value)?;
@@ -35,7 +36,7 @@ fn evaluate(alloc: Global, value: &Expr, tracked: Tracked) -> Result<Tracked, St
 
 /// The same of one whose value is converted.
 fn convert(alloc: Global, value: &Converted, tracked: Tracked) -> Result<Tracked, Stop>
-    ensures { Gives result (run (rule_converted [] (view_converted value.now) (view_state tracked.state))) (touched_converted (view_converted value.now) tracked.touched.items) }
+    ensures { Gives result (run (rule_converted [] (view_converted value.now) (view_state tracked.state))) (touched_converted (view_converted value.now) tracked.touched.numbers.list) }
 {
     let mut evaluation = Evaluation::new(alloc, tracked);
     evaluation.convert(alloc, &[], value)?;
@@ -44,7 +45,7 @@ fn convert(alloc: Global, value: &Converted, tracked: Tracked) -> Result<Tracked
 
 /// Behind the value that is returned, if one is.
 fn return_value(alloc: Global, value: &Option<Converted>, tracked: Tracked) -> Result<Tracked, Stop>
-    ensures { Gives result (run (rule_value (option_map view_converted value.now) (view_state tracked.state))) (touched_value (option_map view_converted value.now) tracked.touched.items) }
+    ensures { Gives result (run (rule_value (option_map view_converted value.now) (view_state tracked.state))) (touched_value (option_map view_converted value.now) tracked.touched.numbers.list) }
 {
     match value {
         None => Ok(tracked),
@@ -54,7 +55,7 @@ fn return_value(alloc: Global, value: &Option<Converted>, tracked: Tracked) -> R
 
 /// Behind the int that is thrown, if one is.
 fn throw_value(alloc: Global, value: &Option<Expr>, tracked: Tracked) -> Result<Tracked, Stop>
-    ensures { Gives result (run (rule_thrown (option_map view_expression value.now) (view_state tracked.state))) (touched_thrown (option_map view_expression value.now) tracked.touched.items) }
+    ensures { Gives result (run (rule_thrown (option_map view_expression value.now) (view_state tracked.state))) (touched_thrown (option_map view_expression value.now) tracked.touched.numbers.list) }
 {
     match value {
         None => Ok(tracked),
@@ -69,7 +70,7 @@ fn declare(
     value: &Option<Converted>,
     tracked: Tracked,
 ) -> Result<Tracked, Stop>
-    ensures { Gives result (run (rule_declared number (option_map view_converted value.now) (view_state tracked.state))) (touched_declaration number (option_map view_converted value.now) tracked.touched.items) }
+    ensures { Gives result (run (rule_declared number (option_map view_converted value.now) (view_state tracked.state))) (touched_declaration number (option_map view_converted value.now) tracked.touched.numbers.list) }
 {
     match value {
         None => {
@@ -87,7 +88,7 @@ fn declare(
 /// Behind a statement that is left for good.
 fn left(tracked: Tracked) -> Tracked
     ensures state { view_state result.state ≡ Unreached }
-    ensures touched { result.touched.items ≡ tracked.touched.items }
+    ensures touched { result.touched.numbers.list ≡ tracked.touched.numbers.list }
 {
     Tracked {
         state: State::Unreached,
@@ -114,7 +115,7 @@ fn find_side(
     side: &Side,
     tracked: Tracked,
 ) -> Result<Tracked, Stop>
-    ensures { Gives result (run (rule_side waiting.now (view_side side.now) (view_state tracked.state))) (touched_side (view_side side.now) tracked.touched.items) }
+    ensures { Gives result (run (rule_side waiting.now (view_side side.now) (view_state tracked.state))) (touched_side (view_side side.now) tracked.touched.numbers.list) }
 {
     match side {
         Side::Variable { .. } => Ok(tracked),
@@ -140,7 +141,7 @@ fn use_side(asked: &mut Settled, waiting: &[usize], side: &Side, state: &State)
 /// Behind a swap.
 #[tactic(auto, using(cyc_types::proofs::RuleLaws::settled_append))]
 fn swap(alloc: Global, left: &Side, right: &Side, tracked: Tracked) -> Result<Tracked, Stop>
-    ensures { Gives result (run (rule_swapped (view_side left.now) (view_side right.now) (view_state tracked.state))) (touched_side (view_side right.now) (touched_side (view_side left.now) tracked.touched.items)) }
+    ensures { Gives result (run (rule_swapped (view_side left.now) (view_side right.now) (view_state tracked.state))) (touched_side (view_side right.now) (touched_side (view_side left.now) tracked.touched.numbers.list)) }
 {
     let tracked = find_side(alloc, &[], left, tracked)?;
     let waiting = and_peeked(alloc, &[], peeked_side(left))?;
@@ -186,12 +187,12 @@ impl Walk {
     /// Behind a `break`, where the loop around is left.
     fn break_loop(&mut self, tracked: Tracked) -> Tracked
         ensures state { view_state result.state ≡ Unreached }
-        ensures touched { result.touched.items ≡ tracked.touched.items }
+        ensures touched { result.touched.numbers.list ≡ tracked.touched.numbers.list }
         ensures breaks { view_state self.new.breaks ≡ meet (view_state self.old.breaks) (with_each Full self.old.locks.items (view_state tracked.state)) }
         ensures locks { self.new.locks.items ≡ self.old.locks.items }
     {
         let before = mem::replace(&mut self.breaks, State::Unreached);
-        let at_exit = tracked.state.with_each(&self.locks, Fullness::Full);
+        let at_exit = tracked.state.filled(&self.locks);
         self.breaks = meet(before, at_exit);
         Tracked {
             state: State::Unreached,
@@ -206,7 +207,7 @@ impl Walk {
         let Some(around) = around else {
             return Ok(());
         };
-        let at_exit = state.with_each(&self.locks, Fullness::Full);
+        let at_exit = state.filled(&self.locks);
         check_head(&at_exit, &around.head, around.span)
     }
 
@@ -218,7 +219,7 @@ impl Walk {
         locked: usize,
         tracked: Tracked,
     ) -> Result<Tracked, Stop>
-        ensures gives { Gives result (run (rule_locked number (place_of_span span) locked (view_state tracked.state))) (and_local locked tracked.touched.items) }
+        ensures gives { Gives result (run (rule_locked number (place_of_span span) locked (view_state tracked.state))) (and_local locked tracked.touched.numbers.list) }
         ensures breaks { IfOk result (λ _. view_state self.new.breaks ≡ view_state self.old.breaks) }
         ensures locks { IfOk result (λ _. self.new.locks.items ≡ and_local locked self.old.locks.items) }
     {
@@ -240,7 +241,7 @@ impl Walk {
         statement: &Stmt,
         tracked: Tracked,
     ) -> Result<Tracked, Stop>
-        ensures known { GivesKnown result (run (rule_statement (stands (option_map (λ l. view_loop l.now) around.entry) self.old.locks.items) (view_statement statement.now) (known (view_state tracked.state) (view_state self.old.breaks)))) (touched_statement (view_statement statement.now) tracked.touched.items) (view_state self.new.breaks) }
+        ensures known { GivesKnown result (run (rule_statement (stands (option_map (λ l. view_loop l.now) around.entry) self.old.locks.items) (view_statement statement.now) (known (view_state tracked.state) (view_state self.old.breaks)))) (touched_statement (view_statement statement.now) tracked.touched.numbers.list) (view_state self.new.breaks) }
         ensures locks { IfOk result (λ _. self.new.locks.items ≡ self.old.locks.items) }
     {
         match statement {
@@ -291,11 +292,11 @@ impl Walk {
                 let before = tracked.state.copy(self.alloc)?;
                 let inside = Tracked {
                     state: tracked.state,
-                    touched: Vec::new(self.alloc),
+                    touched: Touched::none(self.alloc),
                 };
                 let end = self.check_statement(around, body, inside)?;
                 let start = before.emptied(&end.touched);
-                let behind = end.behind_body(tracked.touched)?;
+                let behind = end.behind_body(tracked.touched);
                 let behind = self.check_clauses(around, &start, clauses, behind)?;
                 match default {
                     None => Ok(behind),
@@ -314,7 +315,7 @@ impl Walk {
         span: Span,
         tracked: Tracked,
     ) -> Result<Tracked, Stop>
-        ensures known { GivesKnown result (run (rule_statement in_function (While (place_of_span span) (view_expression condition.now) (view_statement body.now)) (known (view_state tracked.state) (view_state self.old.breaks)))) (touched_statement (view_statement body.now) (touched (view_expression condition.now) tracked.touched.items)) (view_state self.new.breaks) }
+        ensures known { GivesKnown result (run (rule_statement in_function (While (place_of_span span) (view_expression condition.now) (view_statement body.now)) (known (view_state tracked.state) (view_state self.old.breaks)))) (touched_statement (view_statement body.now) (touched (view_expression condition.now) tracked.touched.numbers.list)) (view_state self.new.breaks) }
         ensures locks { IfOk result (λ _. self.new.locks.items ≡ self.old.locks.items) }
     {
         let head = tracked.state.copy(self.alloc)?;
@@ -343,7 +344,7 @@ impl Walk {
         clauses: &[Clause],
         tracked: Tracked,
     ) -> Result<Tracked, Stop>
-        ensures known { GivesClauses (stands (option_map (λ l. view_loop l.now) around.entry) self.old.locks.items) (view_state start.now) result (clauses_of clauses.now) (known (view_state tracked.state) (view_state self.old.breaks)) tracked.touched.items (view_state self.new.breaks) }
+        ensures known { GivesClauses (stands (option_map (λ l. view_loop l.now) around.entry) self.old.locks.items) (view_state start.now) result (clauses_of clauses.now) (known (view_state tracked.state) (view_state self.old.breaks)) tracked.touched.numbers.list (view_state self.new.breaks) }
         ensures locks { IfOk result (λ _. self.new.locks.items ≡ self.old.locks.items) }
     {
         let mut behind = tracked;
@@ -363,7 +364,7 @@ impl Walk {
         items: &[Item],
         before: Tracked,
     ) -> Result<Tracked, Stop>
-        ensures known { GivesKnown result (and_then (run (rule_items (stands (option_map (λ l. view_loop l.now) around.entry) self.old.locks.items) (items_of items.now) (known (with_caught number (view_state start.now)) (view_state self.old.breaks)))) (λ k. Ok (or_clause (view_state before.state) (items_of items.now) k))) (touched_items (items_of items.now) before.touched.items) (view_state self.new.breaks) }
+        ensures known { GivesKnown result (and_then (run (rule_items (stands (option_map (λ l. view_loop l.now) around.entry) self.old.locks.items) (items_of items.now) (known (with_caught number (view_state start.now)) (view_state self.old.breaks)))) (λ k. Ok (or_clause (view_state before.state) (items_of items.now) k))) (touched_items (items_of items.now) before.touched.numbers.list) (view_state self.new.breaks) }
         ensures locks { IfOk result (λ _. self.new.locks.items ≡ self.old.locks.items) }
     {
         let mut caught = start.copy(self.alloc)?;
@@ -389,12 +390,12 @@ impl Walk {
         items: &[Item],
         tracked: Tracked,
     ) -> Result<Tracked, Stop>
-        ensures known { GivesKnown result (and_then (run (rule_items (stands (option_map (λ l. view_loop l.now) around.entry) self.old.locks.items) (items_of items.now) (known (view_state tracked.state) (view_state self.old.breaks)))) (λ k. Ok (at_end (items_of items.now) k))) (touched_items (items_of items.now) tracked.touched.items) (view_state self.new.breaks) }
+        ensures known { GivesKnown result (and_then (run (rule_items (stands (option_map (λ l. view_loop l.now) around.entry) self.old.locks.items) (items_of items.now) (known (view_state tracked.state) (view_state self.old.breaks)))) (λ k. Ok (at_end (items_of items.now) k))) (touched_items (items_of items.now) tracked.touched.numbers.list) (view_state self.new.breaks) }
         ensures locks { IfOk result (λ _. self.new.locks.items ≡ self.old.locks.items) }
     {
         let mark = self.locks.len();
         let end = self.check_items(around, items, tracked)?;
-        let state = end.state.with_each(&self.locks[mark..], Fullness::Full);
+        let state = end.state.filled(&self.locks[mark..]);
         self.locks.truncate(mark);
         Ok(Tracked {
             state,
@@ -411,7 +412,7 @@ impl Walk {
         items: &[Item],
         tracked: Tracked,
     ) -> Result<Tracked, Stop>
-        ensures known { GivesKnown result (run (rule_items (stands (option_map (λ l. view_loop l.now) around.entry) self.old.locks.items) (items_of items.now) (known (view_state tracked.state) (view_state self.old.breaks)))) (touched_items (items_of items.now) tracked.touched.items) (view_state self.new.breaks) }
+        ensures known { GivesKnown result (run (rule_items (stands (option_map (λ l. view_loop l.now) around.entry) self.old.locks.items) (items_of items.now) (known (view_state tracked.state) (view_state self.old.breaks)))) (touched_items (items_of items.now) tracked.touched.numbers.list) (view_state self.new.breaks) }
         ensures locks { IfOk result (λ _. self.new.locks.items ≡ self.old.locks.items ++ locks_of (items_of items.now)) }
     {
         let mut behind = tracked;
@@ -429,7 +430,7 @@ impl Walk {
         item: &Item,
         tracked: Tracked,
     ) -> Result<Tracked, Stop>
-        ensures known { GivesKnown result (run (rule_item (stands (option_map (λ l. view_loop l.now) around.entry) self.old.locks.items) (view_item item.now) (known (view_state tracked.state) (view_state self.old.breaks)))) (touched_item (view_item item.now) tracked.touched.items) (view_state self.new.breaks) }
+        ensures known { GivesKnown result (run (rule_item (stands (option_map (λ l. view_loop l.now) around.entry) self.old.locks.items) (view_item item.now) (known (view_state tracked.state) (view_state self.old.breaks)))) (touched_item (view_item item.now) tracked.touched.numbers.list) (view_state self.new.breaks) }
         ensures locks { IfOk result (λ _. self.new.locks.items ≡ self.old.locks.items ++ locked_by (view_item item.now)) }
     {
         match item {

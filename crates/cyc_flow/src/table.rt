@@ -1,9 +1,11 @@
 //! What is known of each local of a function, in bits of words: where two branches meet, 64 locals are met at once.
-ghost use Rattle.std.specs.Prelude.{◌≡◌, ◌≢◌, ◌<◌, ◌≤◌, ◌++◌, IfOk, ℕ, true, length, replicate, drop, get_or, slice_set};
+ghost use Rattle.std.specs.Prelude.{◌≡◌, ◌≢◌, ◌<◌, ◌≤◌, ◌++◌, IfOk, ℕ, List, true, length, replicate, drop, get_or, slice_set};
 ghost use Rattle.std.specs.Int.{bit_at};
-ghost use Rattle.cyc_types.specs.flow.States.{Vacant, Full, lower_each, are_as_full};
+ghost use Rattle.cyc_types.specs.flow.States.{Vacant, Full, Reached, lower_each, are_as_full, emptied};
 ghost use Rattle.cyc_flow.specs.inside.Code.{view_fullness};
-ghost use Rattle.cyc_flow.specs.inside.Tables.{marked, marks_at, table_length, view_table, Covers, met, met_each, has_bit};
+ghost use Rattle.cyc_flow.specs.inside.Bits.{has_bit};
+ghost use Rattle.cyc_flow.specs.inside.Numbers.{Stand, with_words};
+ghost use Rattle.cyc_flow.specs.inside.Tables.{marked, marks_at, table_length, view_table, Covers, met, met_each, emptied_marks, missing};
 
 use crate::state::Fullness;
 use std::alloc::{AllocError, Global};
@@ -17,7 +19,7 @@ struct Marks {
 }
 
 /// A word with one of its bits set or cleared.
-fn with_bit(word: u64, place: usize, value: bool) -> u64
+pub(crate) fn with_bit(word: u64, place: usize, value: bool) -> u64
     requires { place < 64 }
     ensures same { has_bit result place ≡ value }
     ensures other { (i : ℕ) → i < 64 → i ≢ place → bit_at result i ≡ bit_at word i }
@@ -63,10 +65,21 @@ impl Marks {
         }
     }
 
-    fn covers(self, other: Marks) -> bool
-        ensures { result ≡ true → Covers self other }
+    /// The bits that are missing here and not there.
+    fn missing(self, other: Marks) -> u64
+        ensures { result ≡ missing self other }
     {
-        self.held & other.held == other.held && self.free & other.free == other.free
+        (self.held & other.held ^ other.held) | (self.free & other.free ^ other.free)
+    }
+
+    /// Each local that has a bit in this word may hold nothing, unless it is lent out.
+    fn emptied(self, word: u64) -> Marks
+        ensures { result ≡ emptied_marks self word }
+    {
+        Marks {
+            held: self.held ^ (self.held & self.free & word),
+            free: self.free,
+        }
     }
 }
 
@@ -151,6 +164,14 @@ impl Table {
         self
     }
 
+    /// Each local that has a bit in these words may hold nothing, unless it is lent out.
+    pub(crate) fn emptied(mut self, words: &[u64]) -> Table
+        ensures { (ns : List ℕ) → Stand words.now ns → Reached (view_table result) ≡ emptied ns (Reached (view_table self)) }
+    {
+        self.marks = empty_each(self.marks, words);
+        self
+    }
+
     /// Whether nothing is emptier here than there. Where a bit is missing here, each local is compared by itself, which is once at most: it is a
     /// fault then.
     pub(crate) fn is_as_full(&self, other: &Table) -> bool
@@ -188,14 +209,26 @@ fn meet_each(mut one: Vec<Marks>, other: &[Marks]) -> Vec<Marks>
     one
 }
 
-/// Whether no bit is missing here that is there.
+/// Each local that has a bit in these words may hold nothing, unless it is lent out.
+#[tactic(auto, using(crate::proofs::Sets::changed_more))]
+fn empty_each(mut marks: Vec<Marks>, words: &[u64]) -> Vec<Marks>
+    ensures { result.items ≡ with_words emptied_marks marks.items words.now }
+{
+    let count = marks.len().min(words.len());
+    for i in 0..count {
+        marks[i] = marks[i].emptied(words[i]);
+    }
+    marks
+}
+
+/// Whether no bit is missing here that is there. All are looked at, since a loop with one end goes through several at once.
+#[tactic(auto, using(crate::proofs::Tables::lacks_none))]
 fn cover_each(one: &[Marks], other: &[Marks]) -> bool
     ensures { result ≡ true → (p : ℕ) → p < length one.now → p < length other.now → Covers (marks_at one.now p) (marks_at other.now p) }
 {
+    let mut missing = 0;
     for i in 0..one.len().min(other.len()) {
-        if !one[i].covers(other[i]) {
-            return false;
-        }
+        missing = missing | one[i].missing(other[i]);
     }
-    true
+    missing == 0
 }

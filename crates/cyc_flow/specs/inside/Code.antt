@@ -78,12 +78,12 @@ Allows (Err e) checked = Stops e checked
 
 -- What is known behind an expression is what the rule says is known there, these locals are touched, and it has begun with this known.
 abbrev pub Leads : Result (Unit {0}) Stop → (behind : Evaluation) → Checked State → List ℕ → (start : State) → Type 0
-Leads (Ok u) v checked ns start = (checked ≡ Ok (view_state v.state)) × (v.touched.items ≡ ns) × (begun v ≡ start)
+Leads (Ok u) v checked ns start = (checked ≡ Ok (view_state v.state)) × (v.touched.numbers.list ≡ ns) × (begun v ≡ start)
 Leads (Err e) v checked ns start = Stops e checked
 
 -- The same of a whole expression, where what is known is handed on.
 abbrev pub Gives : Result Tracked Stop → Checked State → List ℕ → Type 0
-Gives (Ok t) checked ns = (checked ≡ Ok (view_state t.state)) × (t.touched.items ≡ ns)
+Gives (Ok t) checked ns = (checked ≡ Ok (view_state t.state)) × (t.touched.numbers.list ≡ ns)
 Gives (Err e) checked ns = Stops e checked
 
 abbrev pub known : State → State → Known
@@ -91,11 +91,11 @@ known f breaks = record { now = f; breaks = breaks }
 
 -- The same behind a statement, where what is known at the breaks so far is then this.
 abbrev pub GivesKnown : Result Tracked Stop → Checked Known → List ℕ → State → Type 0
-GivesKnown (Ok t) checked ns breaks = (checked ≡ Ok (known (view_state t.state) breaks)) × (t.touched.items ≡ ns)
+GivesKnown (Ok t) checked ns breaks = (checked ≡ Ok (known (view_state t.state) breaks)) × (t.touched.numbers.list ≡ ns)
 GivesKnown (Err e) checked ns breaks = Stops e checked
 
 -- The same behind clauses, whatever clauses stand behind them.
 abbrev pub GivesClauses : Around → State → Result Tracked Stop → (clauses : Clauses → Clauses) → Known → List ℕ → State → Type 0
 GivesClauses c start (Ok t) clauses k ns breaks =
-    (rest : Clauses) → (run (rule_clauses c start (clauses rest) k) ≡ run (rule_clauses c start rest (known (view_state t.state) breaks))) × (touched_clauses (clauses rest) ns ≡ touched_clauses rest t.touched.items)
+    (rest : Clauses) → (run (rule_clauses c start (clauses rest) k) ≡ run (rule_clauses c start rest (known (view_state t.state) breaks))) × (touched_clauses (clauses rest) ns ≡ touched_clauses rest t.touched.numbers.list)
 GivesClauses c start (Err e) clauses k ns breaks = (rest : Clauses) → Stops e (run (rule_clauses c start (clauses rest) k))

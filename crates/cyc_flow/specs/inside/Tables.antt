@@ -1,18 +1,16 @@
 -- What is known of each local by the bits of a table.
-use Rattle.std.specs.Prelude.{◌≡◌, ℕ, ◌*◌, ◌/◌, ◌%◌, zero, suc, min, Bool, true, false, ◌==◌, List, [], ◌∷◌, length, get_or, bit_and}
+use Rattle.std.specs.Prelude.{◌≡◌, ℕ, ◌*◌, ◌/◌, ◌%◌, zero, suc, min, Bool, true, false, List, [], ◌∷◌, length, get_or, bit_and, bit_or, bit_xor}
 use Rattle.std.specs.Int.{bit_at}
 use Rattle.cyc_types.specs.flow.States.{Fullness, Vacant, Locked, Full}
 use Rattle.cyc_flow.specs.declared.table.Marks.{Marks}
 use Rattle.cyc_flow.specs.declared.table.Table.{Table}
+use Rattle.cyc_flow.specs.inside.Bits.{has_bit}
 
 -- what two bits tell of a local: whether it holds a value, and whether this is not lent out
 abbrev pub told : (held free : Bool) → Fullness
 told false free = Vacant
 told true false = Locked
 told true true = Full
-
-abbrev pub has_bit : (word place : ℕ) → Bool
-has_bit word place = bit_at word place == 1
 
 abbrev pub marked : Marks → (place : ℕ) → Fullness
 marked m place = told (has_bit m.held place) (has_bit m.free place)
@@ -40,9 +38,13 @@ table_length t = min t.count (64 * length t.marks.items)
 abbrev pub view_table : Table → List Fullness
 view_table t = each_below (table_length t) (known_at t.marks.items)
 
+-- the bits that the second has and the first has not
+abbrev pub missing : Marks → Marks → ℕ
+missing m o = bit_or (bit_xor (bit_and m.held o.held) o.held) (bit_xor (bit_and m.free o.free) o.free)
+
 -- where the second tells of a local that it holds a value, and that this is not lent out, the first does so too
 abbrev pub Covers : Marks → Marks → Type 0
-Covers m o = (bit_and m.held o.held ≡ o.held) × (bit_and m.free o.free ≡ o.free)
+Covers m o = (i : ℕ) → bit_at (missing m o) i ≡ 0
 
 abbrev pub met : Marks → Marks → Marks
 met m o = record { held = bit_and m.held o.held; free = bit_and m.free o.free }
@@ -51,3 +53,7 @@ abbrev pub met_each : List Marks → List Marks → List Marks
 met_each [] os = []
 met_each (m ∷ ms) [] = []
 met_each (m ∷ ms) (o ∷ os) = met m o ∷ met_each ms os
+
+-- where a word has a bit of a local that holds a value which is not lent out, the local may hold nothing now
+abbrev pub emptied_marks : Marks → (word : ℕ) → Marks
+emptied_marks m w = record { held = bit_xor m.held (bit_and (bit_and m.held m.free) w); free = m.free }

@@ -1,0 +1,6 @@
+-- Whether a word has a bit.
+use Rattle.std.specs.Prelude.{ℕ, Bool, ◌==◌}
+use Rattle.std.specs.Int.{bit_at}
+
+abbrev pub has_bit : (word place : ℕ) → Bool
+has_bit word place = bit_at word place == 1
