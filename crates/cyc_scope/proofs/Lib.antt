@@ -1,4 +1,6 @@
 -- what the crates above cite
+-- what is live in the whole body
+mod ThroughoutLemmas
 -- the tables of names
 pub mod TableLemmas
 pub mod EntryLemmas

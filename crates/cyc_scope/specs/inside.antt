@@ -7,3 +7,4 @@ pub mod Bodies
 pub mod Codes
 pub mod Tables
 pub mod Entries
+pub mod Throughout

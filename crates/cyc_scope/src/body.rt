@@ -10,11 +10,12 @@ ghost use Rattle.cyc_scope.specs.inside.Bodies.{body_with};
 
 use crate::locals::{Local, Locals, Sort};
 use crate::program::Program;
+use crate::regions::Regions;
 use crate::scope::Scope;
 use crate::stop::Stop;
 use crate::table::after;
 use cyc_syntax::{Ident, Member};
-use cyc_types::{Kind, NameSet, Outlives, Region, RegionNames, Signature, Ty};
+use cyc_types::{Kind, NameSet, Region, RegionNames, Signature, Ty};
 use std::alloc::Global;
 
 /// The tables of a function's names. They have a place for each name of the text, so one function hands them to the next.
@@ -63,15 +64,11 @@ fn declare_parameters(locals: &mut Locals, members: &[Member], types: &[Ty]) -> 
 }
 
 /// The regions of a body: the function's own opens where what its effect names is live.
-fn regions_of(alloc: Global, signature: &Signature) -> Result<Outlives, Stop>
+fn regions_of(alloc: Global, signature: &Signature) -> Result<Regions, Stop>
     ensures regions { IfOk result (λ o. o ≡ body_regions (view_signature signature.now)) }
     ensures memory { IfErr result (λ e. e ≡ Memory) }
 {
-    let mut live = Vec::new(alloc);
-    live.push(Region::Heap)?;
-    live.push(Region::Unique)?;
-    live.extend_from_slice(&signature.effect)?;
-    let mut regions = Outlives::new(alloc, &signature.constraints, &live)?;
+    let mut regions = Regions::new(alloc, &signature.constraints, &signature.effect)?;
     regions.open_scope(Region::Variable(0), Kind::Block)?;
     Ok(regions)
 }

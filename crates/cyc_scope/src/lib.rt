@@ -16,6 +16,7 @@ mod exceptions;
 mod locals;
 mod meaning;
 mod program;
+mod regions;
 mod scope;
 mod settled;
 mod stop;

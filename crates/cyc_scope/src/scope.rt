@@ -4,10 +4,11 @@ use crate::exceptions::Thrown;
 use crate::locals::{Local, Locals, Sort};
 use crate::meaning::Meaning;
 use crate::program::{Field, Program};
+use crate::regions::Regions;
 use crate::stop::Stop;
 use crate::table::after;
 use cyc_syntax::Ident;
-use cyc_types::{Kind, NameSet, Outlives, Region, RegionNames, StructNames, Ty};
+use cyc_types::{Kind, NameSet, Region, RegionNames, StructNames, Ty};
 use std::alloc::Global;
 use std::marker::Model;
 
@@ -39,7 +40,7 @@ pub struct Scope<'a> {
     pub(crate) names: RegionNames,
     /// The names of regions that the function has declared so far, in scope or not.
     pub(crate) taken: NameSet,
-    pub(crate) regions: Outlives,
+    pub(crate) regions: Regions,
     pub(crate) locals: Locals,
     pub(crate) next_local: usize,
     pub(crate) next_region: usize,
