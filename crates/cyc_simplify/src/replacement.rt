@@ -564,7 +564,6 @@ fn simplified_otherwise(facts: &Facts, instruction: Instruction) -> Instruction
 }
 
 /// An instruction that does exactly the same wherever the facts are true. Where there are none that is the instruction itself.
-#[tactic(auto, using(crate::proofs::Tables::unaltered_without))]
 pub(crate) fn simplified_instruction(facts: &Facts, instruction: Instruction) -> Instruction
     ensures { result ≡ replacement.simplified_instruction facts.now instruction }
 {

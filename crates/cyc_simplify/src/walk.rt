@@ -174,7 +174,6 @@ fn begin_at(
 
 /// What was known at a place that is jumped to stays, so far as it is known from the instruction before it. Answers whether no more is
 /// asked for there.
-#[tactic(auto, using(crate::proofs::Entered::jumped_on))]
 fn join(
     entries: &mut Vec<Entry>,
     code: &[Instruction],
@@ -218,7 +217,6 @@ fn come_next(
 }
 
 /// The code comes to the place behind an instruction. Answers whether no more is asked for there, where it goes on to that.
-#[tactic(auto, using(crate::proofs::Entered::gone_well))]
 fn is_come_behind(
     plain: &Plain,
     function: &Function,
