@@ -2,13 +2,17 @@
 use Rattle.std.proofs.Common.{◌≡◌, ℕ, ◌+◌, List, [], ◌∷◌, ◌++◌, length, drop, map, replicate, refl, ap, ◌∙◌, arith}
 use Rattle.std.proofs.lemmas.List.{drop-replicate}
 use Rattle.cyc_types.specs.Types.{Ty}
-use Rattle.cyc_types.specs.flow.States.{Fullness, Vacant, Full, Unreached, emptied}
+use Rattle.cyc_types.specs.flow.States.{Fullness, Vacant, Full, Unreached, with_each, emptied}
 use Rattle.cyc_types.specs.flow.Programs.{each_is}
 
 -- of code that is never run nothing is kept
 pub emptied_unreached : (ns : List ℕ) → emptied ns Unreached ≡ Unreached
 emptied_unreached [] = refl
 emptied_unreached (n ∷ ns) = emptied_unreached ns
+
+pub each_unreached : (a : Fullness) (ns : List ℕ) → with_each a ns Unreached ≡ Unreached
+each_unreached a [] = refl
+each_unreached a (n ∷ ns) = each_unreached a ns
 
 -- ---- the state at the start of a function
 

@@ -1,9 +1,8 @@
 //! What is known of each local at a place of a function.
-ghost use Rattle.std.specs.Prelude.{◌≡◌, IfOk, List, ℕ, if◌then◌else◌};
-ghost use Rattle.cyc_types.specs.flow.States.{Reached, Full, Vacant, meet, is_at_least, fullness, with_fullness, with_each, emptied, lower, is_as_full, is_vacant, is_locked, is_reached};
+ghost use Rattle.std.specs.Prelude.{◌≡◌, IfOk};
+ghost use Rattle.cyc_types.specs.flow.States.{Full, meet, is_at_least, fullness, with_fullness, with_each, emptied, lower, is_as_full, is_vacant, is_locked, is_reached};
 ghost use Rattle.cyc_types.specs.flow.Expressions.{is_free};
 ghost use Rattle.cyc_flow.specs.inside.Code.{view_fullness, view_state};
-ghost use Rattle.cyc_flow.specs.inside.Tables.{view_table};
 
 use crate::table::Table;
 use crate::touched::Touched;
@@ -86,15 +85,17 @@ impl State {
     }
 
     /// Each of these locals holds a value.
-    #[tactic(auto, using(std::proofs::lemmas::List::drop_more))]
+    #[tactic(auto, using(crate::proofs::States::each_unreached))]
     pub(crate) fn filled(self, numbers: &[usize]) -> State
         ensures { view_state result ≡ with_each Full numbers.now (view_state self) }
     {
-        let mut state = self;
-        for number in numbers {
-            state.set(*number, Fullness::Full);
+        match self {
+            State::Unreached => State::Unreached,
+            State::Reached(mut locals) => {
+                locals.fill_each(numbers);
+                State::Reached(locals)
+            }
         }
-        state
     }
 
     /// Each of these locals may hold nothing, unless it is lent out.

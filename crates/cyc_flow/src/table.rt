@@ -1,7 +1,7 @@
 //! What is known of each local of a function, in bits of words: where two branches meet, 64 locals are met at once.
 ghost use Rattle.std.specs.Prelude.{◌≡◌, ◌≢◌, ◌<◌, ◌≤◌, ◌++◌, IfOk, ℕ, List, true, length, replicate, drop, get_or, slice_set};
 ghost use Rattle.std.specs.Int.{bit_at};
-ghost use Rattle.cyc_types.specs.flow.States.{Vacant, Full, Reached, lower_each, are_as_full, emptied};
+ghost use Rattle.cyc_types.specs.flow.States.{Vacant, Full, Reached, lower_each, are_as_full, with_each, emptied};
 ghost use Rattle.cyc_flow.specs.inside.Code.{view_fullness};
 ghost use Rattle.cyc_flow.specs.inside.Bits.{has_bit};
 ghost use Rattle.cyc_flow.specs.inside.Numbers.{Stand, with_words};
@@ -133,6 +133,16 @@ impl Table {
         let place = number / 64;
         if place < self.marks.len() {
             self.marks[place] = self.marks[place].with(number % 64, fullness);
+        }
+    }
+
+    /// Each of these locals holds a value now.
+    #[tactic(auto, using(std::proofs::lemmas::List::drop_more))]
+    pub(crate) fn fill_each(&mut self, numbers: &[usize])
+        ensures { Reached (view_table self.new) ≡ with_each Full numbers.now (Reached (view_table self.old)) }
+    {
+        for number in numbers {
+            self.set(*number, Fullness::Full);
         }
     }
 
