@@ -77,9 +77,9 @@ impl Emitter {
         ensures { Appends result self.old self.new (operation_code (view_starts starts.now) operation.now (length self.old.code.items) left slot free) }
     {
         let outer = self.enter(place_of_operation(operation));
-        self.apply(starts, operation, left, slot, free)?;
+        let made = self.apply(starts, operation, left, slot, free);
         self.leave(outer);
-        Ok(())
+        made
     }
 
     /// The same, at its place.

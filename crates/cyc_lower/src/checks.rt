@@ -32,18 +32,19 @@ impl Emitter {
     fn lower_telling(&mut self, slot: usize) -> Result<(), AllocError>
         ensures { Appends result self.old self.new (telling slot) }
     {
-        self.emit(Instruction::Binary {
+        let number = Instruction::Binary {
             operator: BinaryOperator::Add,
             destination: slot,
             left: Operand::Slot { number: slot },
             right: Operand::Word {
                 word: NULL_EXCEPTION,
             },
-        })?;
-        self.emit(Instruction::Throw {
+        };
+        let throw = Instruction::Throw {
             tag: Operand::Slot { number: slot },
             value: Operand::Word { word: 0 },
-        })
+        };
+        self.emit_both(number, throw)
     }
 
     /// The blocks that stand behind a function's body: that for accesses, by what this slot holds, and one for each of these exceptions in
@@ -52,10 +53,8 @@ impl Emitter {
         ensures { Appends result self.old self.new (blocks slot) }
     {
         self.lower_telling(slot)?;
-        self.emit(raising(NULL_EXCEPTION))?;
-        self.emit(raising(ARRAY_BOUNDS))?;
-        self.emit(raising(ARRAY_SIZE))?;
-        self.emit(raising(DIVISION_BY_ZERO))
+        self.emit_both(raising(NULL_EXCEPTION), raising(ARRAY_BOUNDS))?;
+        self.emit_both(raising(ARRAY_SIZE), raising(DIVISION_BY_ZERO))
     }
 
     /// Where this comparison of two operands holds, an exception is raised.

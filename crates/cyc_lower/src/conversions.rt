@@ -30,9 +30,9 @@ impl Emitter {
         ensures { Appends result self.old self.new (conversion_code (view_starts starts.now) conversion.now.from conversion.now.to (span_of (view_expression conversion.now.value)) value (length self.old.code.items)) }
     {
         let outer = self.enter(place_of_value(&conversion.value));
-        self.change(starts, conversion, value)?;
+        let made = self.change(starts, conversion, value);
         self.leave(outer);
-        Ok(())
+        made
     }
 
     /// The same, at the place of the value.

@@ -165,6 +165,31 @@ impl Emitter {
         Ok(())
     }
 
+    /// Two instructions more. A caller with both of them has one way out, and not two.
+    pub(crate) fn emit_both(
+        &mut self,
+        first: Instruction,
+        second: Instruction,
+    ) -> Result<(), AllocError>
+        ensures { Appends result self.old self.new (first ∷ second ∷ []) }
+    {
+        self.emit(first)?;
+        self.emit(second)
+    }
+
+    /// Three instructions more.
+    pub(crate) fn emit_three(
+        &mut self,
+        first: Instruction,
+        second: Instruction,
+        third: Instruction,
+    ) -> Result<(), AllocError>
+        ensures { Appends result self.old self.new (first ∷ second ∷ third ∷ []) }
+    {
+        self.emit_both(first, second)?;
+        self.emit(third)
+    }
+
     /// Puts another instruction in the place of one.
     pub(crate) fn patch(&mut self, place: usize, instruction: Instruction)
         requires { place < length self.old.code.items }

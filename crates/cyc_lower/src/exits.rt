@@ -1,5 +1,5 @@
 //! The ways out of a statement: what a statement that leaves a loop or a function has to close, and its code.
-ghost use Rattle.std.specs.Prelude.{◌≡◌, ◌+◌, ◌≤◌, [], ◌∷◌, length, option_map};
+ghost use Rattle.std.specs.Prelude.{◌≡◌, ◌+◌, ◌≤◌, [], ◌∷◌, ◌++◌, length, option_map};
 ghost use Rattle.cyc_types.specs.TypedTreeView.{view_converted};
 ghost use Rattle.cyc_lower.specs.inside.ControlCode.{nothing_opened, outermost, with_handler, with_mark, inside_try, inside_region, leave_code, break_target, continue_target};
 ghost use Rattle.cyc_lower.specs.inside.Lowering.{return_code};
@@ -143,19 +143,21 @@ impl Emitter {
         self.emit(Instruction::Finish { value: from })
     }
 
-    /// A jump to the end of a loop, by the jump to it.
+    /// What was opened in a loop is closed, and a jump leads to the loop's end, by the jump to it.
     pub(crate) fn lower_break(&mut self, exits: Exits) -> Result<(), AllocError>
-        ensures { Appends result self.old self.new (Instruction.Jump (break_target exits) ∷ []) }
+        ensures { Appends result self.old self.new (leave_code exits.in_loop ++ Instruction.Jump (break_target exits) ∷ []) }
     {
+        self.lower_leave(exits.in_loop)?;
         self.emit(Instruction::Jump {
             target: exits.leaving,
         })
     }
 
-    /// A jump to the condition that a loop begins with.
+    /// The same, and a jump to the condition that the loop begins with.
     pub(crate) fn lower_continue(&mut self, exits: Exits) -> Result<(), AllocError>
-        ensures { Appends result self.old self.new (Instruction.Jump (continue_target exits) ∷ []) }
+        ensures { Appends result self.old self.new (leave_code exits.in_loop ++ Instruction.Jump (continue_target exits) ∷ []) }
     {
+        self.lower_leave(exits.in_loop)?;
         self.emit(Instruction::Jump { target: exits.head })
     }
 }

@@ -54,9 +54,9 @@ impl Emitter {
         ensures { Appends result self.old self.new (expression_code (view_starts starts.now) (view_expression value.now) (length self.old.code.items) slot free) }
     {
         let outer = self.enter(place_of_value(value));
-        self.lower_value(starts, value, slot, free)?;
+        let made = self.lower_value(starts, value, slot, free);
         self.leave(outer);
-        Ok(())
+        made
     }
 
     /// The same, at its place.
@@ -191,9 +191,9 @@ impl Emitter {
         ensures { Gives (place_operand (view_starts starts.now) (view_dereference place.now) free) result self.old self.new (place_code (view_starts starts.now) (view_dereference place.now) (length self.old.code.items) free) }
     {
         let outer = self.enter(Some(place_of_access(place)));
-        let address = self.lower_access(starts, place, free)?;
+        let address = self.lower_access(starts, place, free);
         self.leave(outer);
-        Ok(address)
+        address
     }
 
     /// The same, at its place.

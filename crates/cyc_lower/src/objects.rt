@@ -187,14 +187,15 @@ impl Emitter {
             count,
             limit,
         )?;
-        self.emit(Instruction::Move {
+        let counted = Instruction::Move {
             destination: length,
             source: count,
-        })?;
-        self.emit(Instruction::Move {
+        };
+        let begun = Instruction::Move {
             destination: index,
             source: first,
-        })
+        };
+        self.emit_both(counted, begun)
     }
 
     /// The number of words comes to the slot `free` that as many elements of a kind have as it counts. Of chars each word has four.
@@ -204,18 +205,19 @@ impl Emitter {
         let count = Operand::Slot { number: free };
         match kind {
             Kind::Char => {
-                self.emit(Instruction::Binary {
+                let raised = Instruction::Binary {
                     operator: BinaryOperator::Add,
                     destination: free,
                     left: count,
                     right: Operand::Word { word: 3 },
-                })?;
-                self.emit(Instruction::Binary {
+                };
+                let divided = Instruction::Binary {
                     operator: BinaryOperator::ShiftRight,
                     destination: free,
                     left: count,
                     right: Operand::Word { word: 2 },
-                })
+                };
+                self.emit_both(raised, divided)
             }
             Kind::Int | Kind::Nullable | Kind::NonNull | Kind::Fat | Kind::Handle | Kind::Key =>
                 self.emit(Instruction::Binary {
@@ -243,24 +245,25 @@ impl Emitter {
         let count = Operand::Slot { number: free };
         let words = Operand::Slot { number: size };
         self.size_array(kind, free)?;
-        self.emit(Instruction::Unary {
+        let is_none = Instruction::Unary {
             operator: UnaryOperator::Not,
             destination: size,
             operand: count,
-        })?;
-        self.emit(Instruction::Binary {
+        };
+        let sum = Instruction::Binary {
             operator: BinaryOperator::Add,
             destination: size,
             left: words,
             right: count,
-        })?;
-        self.emit(Instruction::Ask {
+        };
+        let ask = Instruction::Ask {
             request: Request::Allocate {
                 destination: free,
                 handle,
                 words,
             },
-        })
+        };
+        self.emit_three(is_none, sum, ask)
     }
 
     /// A new array of elements of this kind, whose length is in `free`. Its address comes there, and its length and the index to
@@ -294,21 +297,21 @@ impl Emitter {
         let address = slot_behind(element, kind)?;
         let number = Operand::Slot { number: index };
         let cell = Operand::Slot { number: address };
-        self.emit(scale_of(bytes_of_kind(kind), address, index))?;
-        self.emit(Instruction::Binary {
+        let sum = Instruction::Binary {
             operator: BinaryOperator::Add,
             destination: address,
             left: Operand::Slot { number: free },
             right: cell,
-        })?;
-        self.store_cell(kind, address, 0, element)?;
-        self.emit(Instruction::Binary {
+        };
+        let next = Instruction::Binary {
             operator: BinaryOperator::Add,
             destination: index,
             left: number,
             right: Operand::Word { word: 1 },
-        })?;
-        self.emit(Instruction::Jump { target: head })
+        };
+        self.emit_both(scale_of(bytes_of_kind(kind), address, index), sum)?;
+        self.store_cell(kind, address, 0, element)?;
+        self.emit_both(next, Instruction::Jump { target: head })
     }
 
     /// Behind the last element the index is 0, and the pointer comes to its slot.
@@ -332,9 +335,9 @@ impl Emitter {
         ensures { Appends result self.old self.new (free_code address (length self.old.code.items)) }
     {
         let behind = self.place() + 2;
-        self.emit(jump_if_zero(address, behind))?;
-        self.emit(Instruction::Ask {
+        let free = Instruction::Ask {
             request: Request::Free { address },
-        })
+        };
+        self.emit_both(jump_if_zero(address, behind), free)
     }
 }

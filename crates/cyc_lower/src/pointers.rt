@@ -97,16 +97,17 @@ impl Emitter {
     {
         if let Operand::Slot { number } = pointer {
             let behind = slot_behind(number, Kind::Fat)?;
-            self.emit(Instruction::Binary {
+            let length = Instruction::Binary {
                 operator: BinaryOperator::NotEqual,
                 destination: behind - 2,
                 left: pointer,
                 right: Operand::Word { word: 0 },
-            })?;
-            self.emit(Instruction::Move {
+            };
+            let index = Instruction::Move {
                 destination: behind - 1,
                 source: Operand::Word { word: 0 },
-            })?;
+            };
+            return self.emit_both(length, index);
         }
         Ok(())
     }
@@ -125,13 +126,13 @@ impl Emitter {
             None => Ok(()),
             Some(bytes) => {
                 let distance = slot_behind(slot, Kind::Fat)? - 1;
-                self.emit(scale_of(bytes, distance, index))?;
-                self.emit(Instruction::Binary {
+                let sum = Instruction::Binary {
                     operator: BinaryOperator::Add,
                     destination: slot,
                     left: Operand::Slot { number: first },
                     right: Operand::Slot { number: distance },
-                })
+                };
+                self.emit_both(scale_of(bytes, distance, index), sum)
             }
         }
     }
@@ -203,21 +204,22 @@ impl Emitter {
     {
         let behind = slot_behind(first, Kind::Fat)?;
         let inside = self.place() + 3;
-        self.emit(Instruction::Branch {
+        let compare = Instruction::Branch {
             comparison: Comparison::LessUnsigned,
             left: Operand::Slot { number: index },
             right: Operand::Slot { number: behind - 2 },
             target: inside,
-        })?;
-        self.emit(Instruction::Binary {
+        };
+        let tell = Instruction::Binary {
             operator: BinaryOperator::NotEqual,
             destination: starts.tag_slot,
             left: Operand::Slot { number: first },
             right: Operand::Word { word: 0 },
-        })?;
-        self.emit(Instruction::Jump {
+        };
+        let raise = Instruction::Jump {
             target: starts.raises + 1,
-        })
+        };
+        self.emit_three(compare, tell, raise)
     }
 
     /// An access by a fat pointer: it is tested, and its cell reached. The index becomes a number of bytes before it is compared.
@@ -344,21 +346,22 @@ impl Emitter {
         let behind = slot_behind(slot, Kind::Fat)?;
         let first = Operand::Slot { number: free };
         self.bring_address(address, offset, free)?;
-        self.emit(Instruction::Load {
+        let third = Instruction::Load {
             destination: behind - 1,
             address: first,
             offset: 8,
-        })?;
-        self.emit(Instruction::Load {
+        };
+        let second = Instruction::Load {
             destination: behind - 2,
             address: first,
             offset: 4,
-        })?;
-        self.emit(Instruction::Load {
+        };
+        let word = Instruction::Load {
             destination: slot,
             address: first,
             offset: 0,
-        })
+        };
+        self.emit_three(third, second, word)
     }
 
     /// A value of a kind comes to the cell whose address is in a slot. A number has one word.
@@ -390,19 +393,19 @@ impl Emitter {
             let length = Operand::Slot { number: behind - 2 };
             let index = Operand::Slot { number: behind - 1 };
             let none = self.place() + 3;
-            self.emit(Instruction::Branch {
+            let compare = Instruction::Branch {
                 comparison: Comparison::LessUnsigned,
                 left: length,
                 right: index,
                 target: none,
-            })?;
-            self.emit(Instruction::Binary {
+            };
+            let subtract = Instruction::Binary {
                 operator: BinaryOperator::Subtract,
                 destination: slot,
                 left: length,
                 right: index,
-            })?;
-            self.emit(Instruction::Jump { target: none + 1 })?;
+            };
+            self.emit_three(compare, subtract, Instruction::Jump { target: none + 1 })?;
         }
         self.emit(Instruction::Move {
             destination: slot,

@@ -38,15 +38,16 @@ impl Emitter {
     {
         let behind = slot_behind(free, Kind::Handle)?;
         let mark = slot_behind(behind, Kind::Handle)?;
-        self.emit(Instruction::Ask {
+        let open = Instruction::Ask {
             request: Request::OpenLexical {
                 destination: behind,
             },
-        })?;
-        self.emit(Instruction::Move {
+        };
+        let keep = Instruction::Move {
             destination: free,
             source: Operand::Slot { number: mark },
-        })?;
+        };
+        self.emit_both(open, keep)?;
         self.name_local(starts, 1, number, Operand::Slot { number: behind })
     }
 

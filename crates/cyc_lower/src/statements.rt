@@ -114,9 +114,9 @@ impl Emitter {
         ensures { Appends result self.old self.new (statement_code (view_starts starts.now) (view_statement statement.now) (length self.old.code.items) exits free) }
     {
         let outer = self.enter(place_of_statement(statement));
-        self.lower_form(starts, statement, exits, free)?;
+        let made = self.lower_form(starts, statement, exits, free);
         self.leave(outer);
-        Ok(())
+        made
     }
 
     /// The same, at its place.
@@ -166,14 +166,8 @@ impl Emitter {
                 self.lower_loop(starts, body, condition, exits, free)
             }
             Stmt::Return { value, .. } => self.lower_return(starts, value, exits, free),
-            Stmt::Break => {
-                self.lower_leave(exits.in_loop)?;
-                self.lower_break(exits)
-            }
-            Stmt::Continue => {
-                self.lower_leave(exits.in_loop)?;
-                self.lower_continue(exits)
-            }
+            Stmt::Break => self.lower_break(exits),
+            Stmt::Continue => self.lower_continue(exits),
             Stmt::Throw { tag, value, .. } => self.lower_throw(starts, *tag, value, free),
             Stmt::Try {
                 body,
@@ -208,9 +202,9 @@ impl Emitter {
         ensures { Appends result self.old self.new (item_code (view_starts starts.now) item.now (length self.old.code.items) exits free) }
     {
         let outer = self.enter(place_of_item(item));
-        self.lower_entry(starts, item, exits, free)?;
+        let made = self.lower_entry(starts, item, exits, free);
         self.leave(outer);
-        Ok(())
+        made
     }
 
     /// The same, at its place.

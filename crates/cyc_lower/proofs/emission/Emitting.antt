@@ -176,40 +176,34 @@ slot_by_count xs i (suc many) to d t counted none some = some (omega arith) ∙ 
 -- ---- new objects
 
 -- how many elements a fat pointer in a slot has
-pub made_count : (pointer : Operand) (n behind here d : ℕ) (old m1 m2 m3 m4 m5 : List Instruction)
+abbrev counting_code : (d length index none past : ℕ) → List Instruction
+counting_code d length index none past =
+    instructions.Branch comparisons.LessUnsigned (operands.Slot length) (operands.Slot index) none
+    ∷ instructions.Binary plain_binary.Subtract d (operands.Slot length) (operands.Slot index)
+    ∷ instructions.Jump past ∷ []
+
+pub made_count : (pointer : Operand) (n behind here d : ℕ) (old m1 m2 m3 : List Instruction)
     → pointer ≡ operands.Slot n
     → behind ≡ n + 3
     → here ≡ length old
-    → m1 ≡ old ++ instructions.Branch comparisons.LessUnsigned (operands.Slot (behind - 2)) (operands.Slot (behind - 1)) (here + 3) ∷ []
-    → m2 ≡ m1 ++ instructions.Binary plain_binary.Subtract d (operands.Slot (behind - 2)) (operands.Slot (behind - 1)) ∷ []
-    → m3 ≡ m2 ++ instructions.Jump (here + 3 + 1) ∷ []
-    → m4 ≡ m3
-    → m5 ≡ m4 ++ instructions.Move d (operands.Word 0) ∷ []
-    → m5 ≡ old ++ count_code pointer (length old) d
-made_count pointer n behind here d old m1 m2 m3 m4 m5 pointer_is behind_is here_is e1 e2 e3 e4 e5 =
+    → m1 ≡ old ++ counting_code d (behind - 2) (behind - 1) (here + 3) (here + 3 + 1)
+    → m2 ≡ m1
+    → m3 ≡ m2 ++ instructions.Move d (operands.Word 0) ∷ []
+    → m3 ≡ old ++ count_code pointer (length old) d
+made_count pointer n behind here d old m1 m2 m3 pointer_is behind_is here_is made same last =
     let first : behind - 2 ≡ n + 1 = omega (arith, behind_is) in
     let second : behind - 1 ≡ n + 2 = omega (arith, behind_is) in
     let target = length old + 3 in
     let there : here + 3 ≡ target = omega (arith, here_is) in
     let past : here + 3 + 1 ≡ length old + 4 = omega (arith, here_is) in
-    let a = instructions.Branch comparisons.LessUnsigned (operands.Slot (n + 1)) (operands.Slot (n + 2)) target in
-    let less = instructions.Binary plain_binary.Subtract d (operands.Slot (n + 1)) (operands.Slot (n + 2)) in
-    let jump = instructions.Jump (length old + 4) in
     let none = instructions.Move d (operands.Word 0) in
-    let s1 : m1 ≡ old ++ a ∷ [] =
-    e1
-    ∙ ap (λ (x : ℕ). old ++ instructions.Branch comparisons.LessUnsigned (operands.Slot x) (operands.Slot (behind - 1)) (here + 3) ∷ []) first
-    ∙ ap (λ (x : ℕ). old ++ instructions.Branch comparisons.LessUnsigned (operands.Slot (n + 1)) (operands.Slot x) (here + 3) ∷ []) second
-    ∙ ap (λ (x : ℕ). old ++ instructions.Branch comparisons.LessUnsigned (operands.Slot (n + 1)) (operands.Slot (n + 2)) x ∷ []) there in
-    let s2 : m2 ≡ m1 ++ less ∷ [] =
-    e2
-    ∙ ap (λ (x : ℕ). m1 ++ instructions.Binary plain_binary.Subtract d (operands.Slot x) (operands.Slot (behind - 1)) ∷ []) first
-    ∙ ap (λ (x : ℕ). m1 ++ instructions.Binary plain_binary.Subtract d (operands.Slot (n + 1)) (operands.Slot x) ∷ []) second in
-    let s3 : m3 ≡ m2 ++ jump ∷ [] = e3 ∙ ap (λ (x : ℕ). m2 ++ instructions.Jump x ∷ []) past in
-    let s4 : m5 ≡ m3 ++ none ∷ [] = e5 ∙ ap (λ (l : List Instruction). l ++ none ∷ []) e4 in
-    let two = emitted_joined old (a ∷ []) (λ p. less ∷ []) m1 m2 s1 s2 in
-    let three = emitted_joined old (a ∷ less ∷ []) (λ p. jump ∷ []) m2 m3 two s3 in
-    emitted_joined old (a ∷ less ∷ jump ∷ []) (λ p. none ∷ []) m3 m5 three s4
+    let counted : m1 ≡ old ++ counting_code d (n + 1) (n + 2) target (length old + 4) =
+    made
+    ∙ ap (λ (x : ℕ). old ++ counting_code d x (behind - 1) (here + 3) (here + 3 + 1)) first
+    ∙ ap (λ (x : ℕ). old ++ counting_code d (n + 1) x (here + 3) (here + 3 + 1)) second
+    ∙ ap (λ (x : ℕ). old ++ counting_code d (n + 1) (n + 2) x (here + 3 + 1)) there
+    ∙ ap (λ (x : ℕ). old ++ counting_code d (n + 1) (n + 2) target x) past in
+    emitted_joined old (counting_code d (n + 1) (n + 2) target (length old + 4)) (λ p. none ∷ []) m1 m3 counted (last ∙ ap (λ (l : List Instruction). l ++ none ∷ []) same)
     ∙ ap (λ (o : Operand). old ++ count_code o (length old) d) (sym pointer_is)
 
 -- ---- arrays

@@ -399,19 +399,19 @@ module _ (starts : Starts) where
       ∙ ap (λ (z : ConvertedCode). Store (view_dereference x) (view_converted z) (view_value_type ty)) (sym y_at)
 
   -- an index is compared with a length, and what tells which exception is raised is jumped over
-  pub made_inside : (old m1 m2 m3 : List Instruction) (n m behind here : ℕ) → behind ≡ n + 3 → here ≡ length old
-      → m1 ≡ old ++ instructions.Branch comparisons.LessUnsigned (operands.Slot m) (operands.Slot (behind - 2)) (here + 3) ∷ []
-      → m2 ≡ m1 ++ instructions.Binary plain_binary.NotEqual starts.tag_slot (operands.Slot n) (operands.Word 0) ∷ [] → m3 ≡ m2 ++ instructions.Jump (starts.raises + 1) ∷ [] → m3 ≡ old ++ inside_code starts n m (length old)
-  made_inside old m1 m2 m3 n m behind here behind_is here_is e1 e2 e3 =
-      let compare = instructions.Branch comparisons.LessUnsigned (operands.Slot m) (operands.Slot (n + 1)) (length old + 3) in
+  pub made_inside : (old new : List Instruction) (n m behind here : ℕ) → behind ≡ n + 3 → here ≡ length old
+      → new
+      ≡ old
+      ++ instructions.Branch comparisons.LessUnsigned (operands.Slot m) (operands.Slot (behind - 2)) (here + 3)
+      ∷ instructions.Binary plain_binary.NotEqual starts.tag_slot (operands.Slot n) (operands.Word 0) ∷ instructions.Jump (starts.raises + 1) ∷ []
+      → new ≡ old ++ inside_code starts n m (length old)
+  made_inside old new n m behind here behind_is here_is made =
       let question = instructions.Binary plain_binary.NotEqual starts.tag_slot (operands.Slot n) (operands.Word 0) in
       let jump = instructions.Jump (starts.raises + 1) in
-      let compared : m1 ≡ old ++ compare ∷ [] =
-      e1
-      ∙ ap (λ (x : ℕ). old ++ instructions.Branch comparisons.LessUnsigned (operands.Slot m) (operands.Slot x) (here + 3) ∷ []) (let second : behind - 2 ≡ n + 1 = omega (arith, behind_is) in second)
-      ∙ ap (λ (x : ℕ). old ++ instructions.Branch comparisons.LessUnsigned (operands.Slot m) (operands.Slot (n + 1)) (x + 3) ∷ []) here_is in
-      let asked = emitted_joined old (compare ∷ []) (λ p. question ∷ []) m1 m2 compared e2 in
-      emitted_joined old (compare ∷ question ∷ []) (λ p. jump ∷ []) m2 m3 asked e3
+      let bound : behind - 2 ≡ n + 1 = omega (arith, behind_is) in
+      made
+      ∙ ap (λ (x : ℕ). old ++ instructions.Branch comparisons.LessUnsigned (operands.Slot m) (operands.Slot x) (here + 3) ∷ question ∷ jump ∷ []) bound
+      ∙ ap (λ (x : ℕ). old ++ instructions.Branch comparisons.LessUnsigned (operands.Slot m) (operands.Slot (n + 1)) (x + 3) ∷ question ∷ jump ∷ []) here_is
 
   -- an access: the index is scaled first
   pub made_reached : (span : Option ℕ) (old m1 m2 m3 : List Instruction) (n m t distance : ℕ) → distance ≡ t + 3 → m1 ≡ old ++ scaled_code span m distance → m2 ≡ m1 ++ inside_code starts n m (length m1)
