@@ -85,6 +85,21 @@ fn next_slot(slots: ClassSlots, table: &PoolTable, class: u32) -> (u32, ClassSlo
     }
 }
 
+/// The class of a block of so many words, for which few tests do where they are many: then the most marks are to be written too.
+#[inline]
+fn slot_class(words: u32) -> u32
+    requires { words ≤ 1024 }
+    ensures { result ≡ class_of words }
+{
+    if 512 < words {
+        10
+    } else if 256 < words {
+        9
+    } else {
+        class_of(words)
+    }
+}
+
 impl PageStore {
     /// A new store of so many pages, in which the heap is open.
     pub fn new(alloc: Global, pages: u32) -> Result<PageStore, AllocError>
@@ -264,7 +279,7 @@ impl PageStore {
         requires most { words ≤ MOST_BLOCK_WORDS }
         ensures { Responds false (held_of self.old) (Allocate UNIQUE words) (allocated result) (held_of self.new) }
     {
-        let class = class_of(words);
+        let class = slot_class(words);
         let slots = self.classes[class as usize];
         if slots.dead == NONE && slots.left == 0 {
             self.stock(class)?;
