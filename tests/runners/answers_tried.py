@@ -88,14 +88,14 @@ def is_judge_right():
     """Whether what the prover says of wrong bodies and definitions is judged as it should be."""
     right = True
     body = bodies.Body("a::f", "a/f", "mid/src/a.rt", 1, 2, frozenset(), None, True)
-    for path, turned, answers, is_shared in (
-        ("src/a.rt", body, ANSWERS_TO_BODIES, False),
-        ("src/a.rt", body, ANSWERS_TO_SEVERAL, True),
-        ("../low/specs/Rules.antt", None, ANSWERS_TO_DEFINITIONS, False),
+    for path, turned, answers, is_own in (
+        ("src/a.rt", body, ANSWERS_TO_BODIES, None),
+        ("src/a.rt", body, ANSWERS_TO_SEVERAL, wrong.is_goal_of),
+        ("../low/specs/Rules.antt", None, ANSWERS_TO_DEFINITIONS, None),
     ):
         for status, said, wanted in answers:
             answer = wrong.Answer(status, "\n".join(said), "mid", "/crates")
-            got = wrong.judged(case_on(path), turned, answer, ["low", "between", "mid"], is_shared)
+            got = wrong.judged(case_on(path), turned, answer, ["low", "between", "mid"], is_own)
             if (got or "").partition(":")[0] != (wanted or ""):
                 print(suite.difference(said[0], wanted, got))
                 right = False

@@ -23,6 +23,7 @@ import unittest.mock
 
 import suite  # first: it says where the references and the generators are
 import answers_tried
+import apart_tried
 import differential
 import documents
 import facts
@@ -516,7 +517,7 @@ def main():
         right = [is_runner_right(folder), is_judge_of_images_right(folder), are_dialogs_judged(folder)]
         right += [are_drifts_found(), are_sessions_tried(folder), are_lemmas_told_apart(folder), are_long_imports_found()]
         right += [is_reading_watched(folder), *wrong_tried.tried(folder)]
-        right += [*answers_tried.tried(folder), *figures_tried.tried(folder)]
+        right += [*answers_tried.tried(folder), *apart_tried.tried(folder), *figures_tried.tried(folder)]
         right += needs.tried(folder, os.path.join(folder, "stand_in"))
         right.append(reference.with_room(lambda: is_shrinker_right(folder)))
     right += reference.with_room(lambda: [is_case_right(case) for case in cases] + [is_text_right(case) for case in texts])

@@ -9,8 +9,9 @@ place the prover is asked for them, and for nothing else: what it would refuse e
 no check reads, or that only takes away a name which a proof has, fails, since no contract was tried.
 
 A proof rests on what other functions promise, and on no other body. So the proofs of the crate's other functions are left out, which
-`rt ci` has proved, and wrong bodies of several functions are tried together. What is not refused so is tried once more alone; with
-`--alone` each is. Of the crates below, the libraries are taken that `rt ci` leaves in `crates/NAME/out`. Where a case
+`rt ci` has proved, and wrong bodies of several functions are tried together. So are wrong definitions that can be told apart (apart.py).
+What is not refused so is tried once more alone; with `--alone` each is. With `--write` the files of cases say afterwards where those
+definitions are refused that were tried alone. Of the crates below, the libraries are taken that `rt ci` leaves in `crates/NAME/out`. Where a case
 changes a file of another crate, that crate and those between are taken as they are written, and what refuses it must be a proof of a
 crate that it does not change.
 
@@ -44,6 +45,7 @@ from concurrent.futures import FIRST_COMPLETED, ThreadPoolExecutor, wait
 
 import suite  # first: it says where the references and the generators are
 import in_trees
+from apart import Apart, place_of
 from bodies import HEAD, Bodies, traits_of
 from sources import in_order, stands_on
 
@@ -104,6 +106,9 @@ class Case:
         self.refused = []
         self.lets = []
         self.tests = None
+        # the declarations at which its proof fails, as the file says, and as a run shows in which no other case was tried
+        self.places = []
+        self.shown = []
 
     def read(self, word, text):
         """Reads a line of it."""
@@ -117,6 +122,8 @@ class Case:
             self.edits[-1].new.append(text)
         elif word == "refused":
             self.refused += text.split()
+        elif word == "at":
+            self.places += text.split()
         elif word == "lets":
             self.lets += text.split()
         elif word == "tests":
@@ -177,6 +184,25 @@ def cases_in(path):
         if not (case.edits and case.refused and case.tests):
             raise ValueError(f"{crate}, {case.name}: it changes nothing, or does not say what is refused or what it tests")
     return found
+
+
+# So many declarations at which a case fails are written.
+MOST_PLACES = 4
+
+
+def write_places(folder, crate, cases):
+    """Writes into the file of a crate's cases where these are refused."""
+    places, name, lines = {it.name: it.shown[:MOST_PLACES] for it in cases if it.crate == crate and it.shown}, None, []
+    path = os.path.join(folder, f"{crate}.cases")
+    with open(path, encoding="utf-8") as file:
+        for line in file:
+            name = line[3:].rstrip("\n") if line.startswith("== ") else name
+            if not (name in places and line.startswith("at: ")):
+                lines.append(line)
+            if name in places and line.startswith("refused: "):
+                lines.append(f"at: {' '.join(places[name])}\n")
+    with open(path, "w", encoding="utf-8") as file:
+        file.writelines(lines)
 
 
 def without_cases_in(path):
@@ -260,13 +286,17 @@ def show_misplaced(cases):
 # ---- which wrong bodies are tried together
 
 
-def rounds_of(cases, bodies, is_alone):
+def rounds_of(cases, bodies, is_alone, apart=None):
     """The cases that are tried together, list by list: each changes the body of a function that no other one changes. Functions of a cycle
     of calls have one proof, in which each goal has the name of its own: none of these has the name of another. With each case stands its
-    function, or None where it changes something else, and is alone."""
+    function, or None where it changes something else: such cases are tried together that can be told apart."""
     rounds, others = [], []
-    for case in cases:
-        turned = bodies.turned_by(case)
+    turns = [(case, bodies.turned_by(case)) for case in cases]
+    wider = [case for case, turned in turns if not turned]
+    if apart and not is_alone:
+        others = [[(case, None) for case in together] for together in apart.rounds_of(wider)]
+        turns = [it for it in turns if it[1]]
+    for case, turned in turns:
         if not turned or is_alone:
             others.append([(case, turned)])
             continue
@@ -355,24 +385,23 @@ def is_file(refused):
     return refused.startswith("proofs/")
 
 
-def judged(case, turned, answer, between=(), is_shared=False):
+def judged(case, turned, answer, between=(), is_own=None):
     """What the prover's answer to a case comes to: None where each proof is refused, and else what is wrong. `turned` is the function
-    whose body alone it changes, or None, and `between` are the crates from those that it changes up to its own; whether its proof is that
-    of other wrong bodies too."""
+    whose body alone it changes, or None, and `between` are the crates from those that it changes up to its own. Where other cases were
+    tried with it that an error may be for, `is_own` says of a function and an error or a note whether that is for this case."""
     fault = answer.fault({it.path for it in case.edits})
     if fault:
         return fault
     for function in case.refused:
-        fault = fault or judged_of(case, function, turned, answer, between, is_shared)
+        fault = fault or judged_of(case, function, turned, answer, between, is_own)
     return fault
 
 
-def judged_of(case, function, turned, answer, between, is_shared):
+def judged_of(case, function, turned, answer, between, is_own):
     """What the answer to a case comes to for one function.
 
-    A wrong body is refused by an error in the function's own proof, or by a goal that is left there, and where the proof is that of other
-    wrong bodies too, by one of the function's own goals; a wrong definition by one in what the proof rests on, but not in a crate that is
-    not its own and that it changes: such proofs say how the definitions hang together."""
+    A wrong body is refused by an error in the function's own proof, or by a goal that is left there; a wrong definition by one in what the
+    proof rests on, but not in a crate that is not its own and that it changes: such proofs say how the definitions hang together."""
     said, goals = answer.of(case.crate, function)
     if said is None and not is_file(function):
         return f"the prover says nothing of {function}"
@@ -388,20 +417,22 @@ def judged_of(case, function, turned, answer, between, is_shared):
         folders = [os.path.join(it, "proofs", "") for it in between if it == case.crate or it not in case.changed()]
         goals = [goal for _, several in answer.functions.values() for goal in several]
     errors = [it for it in answer.errors if it.path.startswith(tuple(folders)) and not FOLLOWS.search(it.text)]
-    if is_shared:
-        errors = [it for it in errors if is_goal_of(function, it.text)]
-        goals = [it for it in goals if is_goal_of(function, it)]
+    if is_own:
+        errors = [it for it in errors if is_own(function, it)]
+        goals = [it for it in goals if is_own(function, Error(None, None, it))]
     unread = [it for it in errors if UNREAD.search(it.text)]
     if len(unread) < len(errors) or any(IS_FALSE in it or not unread for it in goals):
+        found = [place_of(it) for it in errors if it not in unread]
+        case.shown += [it[1] for it in found if it and it[1] not in case.shown]
         return None
     if unread:
         return f"refused by {function}, but only since a proof names what it takes away: {unread[0].path}: {unread[0].text}"
     return f"refused by {function}, but by nothing of its own: {said}"
 
 
-def is_goal_of(function, said):
+def is_goal_of(function, error):
     """Whether an error or a note speaks of a goal of this function, in a proof of several."""
-    found = ITS_GOAL.search(said)
+    found = ITS_GOAL.search(error.text)
     return bool(found) and name_of(function) in found.groups()
 
 
@@ -447,11 +478,23 @@ class Group:
         self.order = in_order(crate, settings.graph)
         self.written = [it for it in self.order if it == crate or others & set(in_order(it, settings.graph))]
         self.bodies = Bodies(settings.crates, crate)
+        self.told_apart = None
         # the function that each run proves as it stands, where the others are not; whether one of theirs stands for it, which is proved
         # before; and a folder with what the first run proved
         self.beside = None
         self.is_sample = False
         self.seed = None
+
+    def apart(self):
+        """What tells its wrong definitions apart, where there are several that say where they are refused."""
+        if not self.told_apart and sum(bool(it.places) for it in self.cases) > 1:
+            self.told_apart = Apart(self.settings.crates, self.written, self.texts_with)
+        return self.told_apart
+
+    def texts_with(self, cases):
+        """The texts of files with these cases in their places, as a run has them that tries these."""
+        functions = {it for case in cases for it in case.refused}
+        return texts_with(cases, self.settings.crates, self.bodies.beside(functions))
 
     def library(self, crate):
         return os.path.join(self.settings.built, crate, "out", "rlib", f"{crate}.rlib")
@@ -586,8 +629,16 @@ class Group:
                 return [str(error)] * len(together), 0.0
         if is_checked and not answer.holds(self.crate, self.beside):
             return [answer.fault(()) or unproved_of(answer, self.crate, self.beside)] * len(together), spent
+        return [judged(case, turned, answer, self.written, is_own) for (case, turned), is_own in zip(together, self.owners(together))], spent
+
+    def owners(self, together):
+        """For each of cases that are tried together what says whether an error is for it, or None where each that counts is."""
         proofs = collections.Counter(turned and turned.proof for _, turned in together)
-        return [judged(case, turned, answer, self.written, bool(turned) and proofs[turned.proof] > 1) for case, turned in together], spent
+        if not together[0][1] and len(together) > 1:
+            is_for = self.told_apart.errors_told([case for case, _ in together])
+            homes = {it.function: it.proof for it in self.bodies.all}
+            return [lambda function, error, case=case: is_for(case, function, homes.get(function), error) for case, _ in together]
+        return [is_goal_of if turned and proofs[turned.proof] > 1 else None for _, turned in together]
 
 
 def unproved_of(answer, crate, function):
@@ -610,6 +661,8 @@ def linked(seed, folder):
 LONG = 90 * 24 * 60 * 60
 # The parts of the toolchain that a proof reads, beside its libraries.
 TOOLS = ("bin", "logic_built", os.path.join("rattle", "logic"))
+# The parts of this runner by which answers are judged.
+JUDGES = ("wrong.py", "bodies.py", "apart.py", "dependencies.py")
 
 
 def kept_folder():
@@ -631,7 +684,7 @@ def kit_sum(kit):
     for path in sorted(paths):
         state = os.stat(path)
         found.append((os.path.relpath(path, kit), state.st_size, state.st_mtime_ns))
-    judges = [bytes_of(os.path.join(os.path.dirname(os.path.abspath(__file__)), it)) for it in ("wrong.py", "bodies.py")]
+    judges = [bytes_of(os.path.join(os.path.dirname(os.path.abspath(__file__)), it)) for it in JUDGES]
     return hashlib.sha256(repr((found, judges)).encode()).hexdigest()
 
 
@@ -700,6 +753,8 @@ class Run:
         # what is wrong with each case that was tried, and by crate the runs of the prover, and the seconds of processors that they took,
         # for proofs as they stand and for cases
         self.faults = {}
+        # the definitions that were refused where no other one was tried
+        self.placed = []
         self.costs = collections.defaultdict(lambda: [0, 0.0, 0.0])
 
     def on(self, lanes):
@@ -740,6 +795,8 @@ class Run:
             if self.kept and not fault:
                 self.kept.add(task.group, case)
             self.end(case, fault)
+            if not fault and not turned and len(task.together) == 1:
+                self.placed.append(case)
 
     def begin(self, group, faults):
         """Makes tasks of a group's cases, where the functions are proved as they stand."""
@@ -751,7 +808,7 @@ class Run:
             else:
                 cases.append(case)
         try:
-            rounds = rounds_of(cases, group.bodies, self.is_alone)
+            rounds = rounds_of(cases, group.bodies, self.is_alone, group.apart())
         except OSError as error:
             rounds = []
             for case in cases:
@@ -814,6 +871,7 @@ def main():
     parser.add_argument("crates", nargs="*", metavar="CRATE")
     parser.add_argument("--only", action="append", default=[], metavar="NAME", help="this case (repeatable)")
     parser.add_argument("--alone", action="store_true", help="each case by itself")
+    parser.add_argument("--write", action="store_true", help="writes where the definitions are refused that are tried alone")
     parser.add_argument("--lanes", type=int, help="so many runs of the prover side by side; else as processors and memory allow")
     built = os.path.join(suite.ROOT, "crates")
     parser.add_argument("--built", default=built, metavar="FOLDER", help="the crates whose libraries are taken")
@@ -854,6 +912,8 @@ def main():
             missing = [it for it in case.lets if it not in refused]
             if missing:
                 run.end(case, f"there is no program {missing[0]} in refused.programs")
+    for crate in {it.crate for it in run.placed} if options.write else ():
+        write_places(CASES, crate, run.placed)
     print("\n".join(run.table()))
     print(f"{len(run.faults) - len(known)} wrong bodies were tried, and {len(known)} are kept, which a run on this machine refused before")
     failed = sum(1 for it in run.faults.values() if it)

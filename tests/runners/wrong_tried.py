@@ -395,6 +395,9 @@ class Runs:
     def turned_by(self, case):
         return None
 
+    def apart(self):
+        return None
+
     def prove(self):
         return {}, 0.0
 

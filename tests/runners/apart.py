@@ -1,0 +1,85 @@
+"""Which wrong definitions are tried in one run of the prover, and which of them an error there is for.
+
+A case says at which declarations its proof fails. It is tried with others that change nothing of what the check of one of these reads.
+In such a run it is refused by an error in a declaration that the proof of its function uses, and whose check reads nothing that the
+others change, with all of them in their places: so the same error stands there where the case is tried alone.
+"""
+import os
+import re
+
+from dependencies import Dependencies
+
+# So many cases are tried in one run at most.
+MOST = 8
+# What begins an error of a declaration.
+NAMED = re.compile(r"`([^`\s]+)`: ")
+
+
+def place_of(error):
+    """The declaration that an error is of, by its file and its name, or None."""
+    found = NAMED.match(error.text)
+    return (error.path, found[1]) if found else None
+
+
+class Apart:
+    """Tells apart the cases of some crates in a folder. `texts_with` gives the texts of files, by their paths, with cases in their places."""
+
+    def __init__(self, crates, names, texts_with):
+        self.crates = crates
+        self.names = names
+        self.texts_with = texts_with
+        self.right = Dependencies(crates, names)
+        self.changes = {}
+
+    def changes_of(self, case):
+        """What a case changes."""
+        if case not in self.changes:
+            self.changes[case] = self.right.changed_by(self.texts_with([case]))
+        return self.changes[case]
+
+    def rounds_of(self, cases):
+        """The cases that are tried together, list by list: each fails at a declaration whose check reads nothing that the others change."""
+        touching = {case: [self.touching(cases, case, self.right.read_by(it)) for it in self.places_of(case)] for case in cases}
+        rounds = []
+        for case in cases:
+            for together in rounds:
+                both = {*together, case}
+                are_apart = all(any(not both & them for them in touching[it]) for it in both)
+                if len(together) < MOST and are_apart and self.are_separate(both):
+                    together.append(case)
+                    break
+            else:
+                rounds.append([case])
+        return rounds
+
+    def places_of(self, case):
+        """The declarations at which a case fails, as it says."""
+        return [it for it in self.right.all if it[1] in case.places and it[0].split(os.sep)[1] == "proofs"]
+
+    def touching(self, cases, case, read):
+        """The cases but for this one that change what is read."""
+        return {it for it in cases if it is not case and read & self.changes_of(it)}
+
+    def are_separate(self, cases):
+        """Whether no two of these cases replace the same text."""
+        try:
+            self.texts_with(cases)
+        except ValueError:
+            return False
+        return True
+
+    def errors_told(self, cases):
+        """Tells for a case of these, that are tried together, a function, and the folder of its proof, whether an error is for that case."""
+        wrong = Dependencies(self.crates, self.names, self.texts_with(cases))
+        known = {}
+
+        def is_for(case, function, proof, error):
+            place = place_of(error)
+            if place not in wrong.all:
+                return False
+            if (case.crate, proof, function) not in known:
+                known[case.crate, proof, function] = proof is None or wrong.behind(case.crate, proof, function)
+            used = known[case.crate, proof, function]
+            return (used is True or place in used) and not self.touching(cases, case, wrong.read_by(place))
+
+        return is_for
