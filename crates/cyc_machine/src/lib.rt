@@ -1,6 +1,7 @@
 //! A MIPS32 machine for user programs: loading an image, and executing its instructions one at a time.
 #![tactic(auto)]
 
+mod access;
 mod closed;
 pub mod constants;
 mod event;

@@ -1,4 +1,4 @@
-use Rattle.std.proofs.Common.{◌≡◌, ◌∙◌, ℕ, ◌+◌, ◌-◌, ◌<◌, ◌≤◌, List, length, ap, arith}
+use Rattle.std.proofs.Common.{◌≡◌, ◌∙◌, ℕ, ◌+◌, ◌-◌, List, length, ap, arith}
 use Rattle.cyc_machine.specs.declared.constants.TheConstants.{DATA_WORDS}
 use Rattle.cyc_machine.specs.Arrays.{all_globals}
 use Rattle.cyc_machine.proofs.Widening.{globals-more, next-enough}
