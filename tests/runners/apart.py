@@ -39,7 +39,7 @@ class Apart:
 
     def rounds_of(self, cases):
         """The cases that are tried together, list by list: each fails at a declaration whose check reads nothing that the others change."""
-        touching = {case: [self.touching(cases, case, self.right.read_by(it)) for it in self.places_of(case)] for case in cases}
+        touching = {case: [self.touching(cases, case, self.right.read_by(it)) for it in self.places_of(case.places)] for case in cases}
         rounds = []
         for case in cases:
             for together in rounds:
@@ -52,9 +52,9 @@ class Apart:
                 rounds.append([case])
         return rounds
 
-    def places_of(self, case):
-        """The declarations at which a case fails, as it says."""
-        return [it for it in self.right.all if it[1] in case.places and it[0].split(os.sep)[1] == "proofs"]
+    def places_of(self, names):
+        """The declarations of proofs that have these names."""
+        return [it for it in self.right.all if it[1] in names and it[0].split(os.sep)[1] == "proofs"]
 
     def touching(self, cases, case, read):
         """The cases but for this one that change what is read."""

@@ -491,6 +491,12 @@ class Group:
             self.told_apart = Apart(self.settings.crates, self.written, self.texts_with)
         return self.told_apart
 
+    def order_places(self):
+        """Puts where its cases are refused that were tried alone in order: first what reads least."""
+        tells = Apart(self.settings.crates, self.written, self.texts_with)
+        for case in self.cases:
+            case.shown.sort(key=lambda name: min((len(tells.right.read_by(it)) for it in tells.places_of([name])), default=0))
+
     def texts_with(self, cases):
         """The texts of files with these cases in their places, as a run has them that tries these."""
         functions = {it for case in cases for it in case.refused}
@@ -912,8 +918,9 @@ def main():
             missing = [it for it in case.lets if it not in refused]
             if missing:
                 run.end(case, f"there is no program {missing[0]} in refused.programs")
-    for crate in {it.crate for it in run.placed} if options.write else ():
-        write_places(CASES, crate, run.placed)
+    for group in groups if options.write else ():
+        group.order_places()
+        write_places(CASES, group.crate, [it for it in group.cases if it in run.placed])
     print("\n".join(run.table()))
     print(f"{len(run.faults) - len(known)} wrong bodies were tried, and {len(known)} are kept, which a run on this machine refused before")
     failed = sum(1 for it in run.faults.values() if it)
