@@ -39,6 +39,8 @@ pub mod LocalStatements
 pub mod LocalDeclarations
 -- what the loops of the code and its levels of nesting cite
 pub mod Loops
+pub mod Rounds
+pub mod NextItems
 pub mod Levels
 pub mod LoneOperands
 pub mod StatementLevels

@@ -15,9 +15,9 @@ use Rattle.cyc_syntax.specs.declared.tree.BinaryOperator.{BinaryOperator}
 use Rattle.cyc_syntax.specs.Trees.{Declaration, Expression, NoExpressions, MoreExpressions, NoPostfixes, Operations, NoOperations, ThenOperation}
 use Rattle.cyc_syntax.specs.inside.TreeView.{view_expression, expressions_of, postfixes_of, operations_of, then_postfix}
 use Rattle.cyc_parse.specs.inside.Expressions.{Nested, operator_at, operations, postfixes, more_values}
-use Rattle.cyc_parse.specs.inside.Steps.{after_comma, one_pointer, one_postfix, one_operation, then_operation, one_of, one_declaration}
-use Rattle.cyc_parse.specs.inside.Parsing.{Parser, Outcome, and_then, bind, pure, choose, next, advance, if_sees, sees, starts, if_starts, sign, identifier, more_items, if_is, on_some}
-use Rattle.cyc_parse.specs.inside.Declarations.{more_of, declaration, declarations_in}
+use Rattle.cyc_parse.specs.inside.Steps.{after_comma, one_pointer, one_postfix, one_operation, then_operation, one_declaration}
+use Rattle.cyc_parse.specs.inside.Parsing.{Parser, Outcome, and_then, bind, pure, choose, next, advance, if_sees, sees, sign, identifier, if_is, on_some}
+use Rattle.cyc_parse.specs.inside.Declarations.{declaration, declarations_in}
 
 -- what is still to be read behind one step of a list
 abbrev pub behind : {Y B : Type 0} → (Y → B → B) → Parser B → Parser B → Option Y → Parser B
@@ -42,7 +42,7 @@ module _ {X Y B : Type 0} (view : X → Y) (add : Y → B → B) where
   onto-append [] x b = refl
   onto-append (y ∷ ys) x b = ap (add (view y)) (onto-append ys x b)
 
-  regroup : (front : List X) (x : X) (outcome : Outcome B) → with_front front (and_then outcome (λ b us. Ok (add (view x) b, us))) ≡ with_front (front ++ x ∷ []) outcome
+  pub regroup : (front : List X) (x : X) (outcome : Outcome B) → with_front front (and_then outcome (λ b us. Ok (add (view x) b, us))) ≡ with_front (front ++ x ∷ []) outcome
   regroup front x (Ok p) = ap (λ (b : B). Ok (b, p.1)) (sym (onto-append front x p.0))
   regroup front x (Err e) = refl
 
@@ -134,10 +134,6 @@ unfolding bind
 by_comma add nothing room item rest ts false = refl
 by_comma add nothing room item rest ts true = after_sign (λ x. x) add (pure nothing) rest item (sign room signs.Comma ts)
 
-pub more_items_steps : {A : Type 0} (room : ℕ) (begins : Terminal → Bool) (item : Parser A) → Steps (λ x xs. x ∷ xs) (pure []) (after_comma room item) (more_items room begins item)
-unfolding more_items if_sees
-more_items_steps room begins item = record { step = λ n ts. by_comma (λ x xs. x ∷ xs) [] room item (more_items room begins item n) ts (sees signs.Comma ts) }
-
 by_mark : (room : ℕ) (rest : Parser (List Pointer)) (kind : Option PointerKind) (ts : List Symbol)
     → on_some kind (λ k. bind advance (λ _. bind (optional_region room) (λ r. bind rest (λ ms. pure (record { kind = k; region = r } ∷ ms))))) (pure []) ts
     ≡ and_then ((elim kind as (λ _. Parser (Option Pointer)) [ None ↦ pure None | Some k ↦ bind advance (λ _. bind (optional_region room) (λ r. pure (Some (record { kind = k; region = r })))) ]) ts) (behind (λ m ms. m ∷ ms) (pure []) rest)
@@ -181,10 +177,6 @@ pub more_values_steps : (room : ℕ) (inner : Nested) → Steps MoreExpressions 
 unfolding more_values if_sees
 more_values_steps room inner = record { step = λ n ts. by_comma MoreExpressions NoExpressions room inner.expression (more_values room inner n) ts (sees signs.Comma ts) }
 
-pub more_of_steps : {A : Type 0} (begins : Terminal → Bool) (item : Parser A) → Steps (λ x xs. x ∷ xs) (pure []) (one_of begins item) (more_of begins item)
-unfolding more_of if_starts bind
-more_of_steps begins item = record { step = λ n ts. then_by_test _ (starts begins (next ts)) _ _ _ _ ts (lift _ (item ts) _ _ (λ x us. refl)) refl }
-
 by_symbol : (room : ℕ) (rest : Parser (List Declaration)) (next : Option Terminal) (ts : List Symbol)
     → (elim next as (λ _. Parser (List Declaration)) [ None ↦ pure [] | Some t ↦ bind (declaration room) (λ d. bind rest (λ ds. pure (d ∷ ds))) ]) ts
     ≡ and_then ((elim next as (λ _. Parser (Option Declaration)) [ None ↦ pure None | Some t ↦ bind (declaration room) (λ d. pure (Some d)) ]) ts) (behind (λ d ds. d ∷ ds) (pure []) rest)
@@ -195,3 +187,17 @@ by_symbol room rest (Some t) ts = lift _ (declaration room ts) _ _ (λ d us. ref
 pub declarations_steps : (room : ℕ) → Steps (λ d ds. d ∷ ds) (pure []) (one_declaration room) (declarations_in room)
 unfolding declarations_in choose
 declarations_steps room = record { step = λ n ts. by_symbol room (declarations_in room n) (next ts) ts }
+
+-- by what comes next a declaration comes, or none
+pub no_declaration : (room : ℕ) (ts : List Symbol) → next ts ≡ None → one_declaration room ts ≡ Ok (None, ts)
+unfolding choose
+no_declaration room ts none = ap (λ (o : Option Terminal). (elim o as (λ _. Parser (Option Declaration)) [ None ↦ pure None | Some t ↦ bind (declaration room) (λ d. pure (Some d)) ]) ts) none
+
+pub a_declaration : (room : ℕ) (t : Terminal) (ts us : List Symbol) (d : Declaration) → next ts ≡ Some t → declaration room ts ≡ Ok (d, us) → one_declaration room ts ≡ Ok (Some d, us)
+unfolding choose bind
+a_declaration room t ts us d some h = ap (λ (o : Option Terminal). (elim o as (λ _. Parser (Option Declaration)) [ None ↦ pure None | Some t ↦ bind (declaration room) (λ d. pure (Some d)) ]) ts) some ∙ ap (λ (o : Outcome Declaration). and_then o (λ e. pure (Some e))) h
+
+pub no_more_of_declaration : (room : ℕ) (t : Terminal) (ts us : List Symbol) (e : Stop) → next ts ≡ Some t → Stops e (declaration room ts) us → Stops e (one_declaration room ts) us
+unfolding choose bind
+no_more_of_declaration room t ts us stops.Memory some h = tt
+no_more_of_declaration room t ts us (stops.Refused why) some h = ap (λ (o : Option Terminal). (elim o as (λ _. Parser (Option Declaration)) [ None ↦ pure None | Some t ↦ bind (declaration room) (λ d. pure (Some d)) ]) ts) some ∙ ap (λ (o : Outcome Declaration). and_then o (λ e. pure (Some e))) h

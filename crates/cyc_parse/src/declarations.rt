@@ -59,39 +59,19 @@ impl<'a> Parser<'a> {
         Ok(member)
     }
 
-    fn parse_next_field(&mut self) -> Result<Option<Member>, Stop>
-        ensures { (room : ℕ) → Gives (option_map view_member) result (one_of begins_type (field (suc room)) self.old) self.new }
-    {
-        if !self.begins_type() {
-            return Ok(None);
-        }
-        Ok(Some(self.parse_field()?))
-    }
-
-    fn end_fields(&mut self) -> Result<(), Stop>
-        ensures { Gives {Y = List trees.Member} (λ _. []) result (no_more_of begins_type self.old) self.new }
-    {
-        if self.begins_type() {
-            return Err(Stop::Refused(Reason::TooLong));
-        }
-        Ok(())
-    }
-
     /// The fields of a struct, at least one.
     fn parse_field_list(&mut self) -> Result<Vec<Member>, Stop>
         ensures { (room : ℕ) → Gives (λ v. map view_member v.items) result (some_of begins_type (field (suc room)) self.old) self.new }
     {
-        let first = self.parse_field()?;
         let mut fields = Vec::new(self.alloc());
-        append(&mut fields, first)?;
-        for _ in 1..MAX_ITEMS {
-            let Some(field) = self.parse_next_field()? else {
-                return Ok(fields);
-            };
+        for _ in 0..MAX_ITEMS {
+            let field = self.parse_field()?;
             append(&mut fields, field)?;
+            if !self.begins_type() {
+                return Ok(fields);
+            }
         }
-        self.end_fields()?;
-        Ok(fields)
+        Err(Stop::Refused(Reason::TooLong))
     }
 
     /// `(int)`, if it comes next.
@@ -115,76 +95,36 @@ impl<'a> Parser<'a> {
         Ok(Constructor { name, has_int })
     }
 
-    fn parse_next_constructor(&mut self) -> Result<Option<Constructor>, Stop>
-        ensures { Gives (option_map view_constructor) result (one_of begins_constructor (constructor 200) self.old) self.new }
-    {
-        if !self.begins_constructor() {
-            return Ok(None);
-        }
-        Ok(Some(self.parse_constructor()?))
-    }
-
-    fn end_constructors(&mut self) -> Result<(), Stop>
-        ensures { Gives {Y = List trees.Constructor} (λ _. []) result (no_more_of begins_constructor self.old) self.new }
-    {
-        if self.begins_constructor() {
-            return Err(Stop::Refused(Reason::TooLong));
-        }
-        Ok(())
-    }
-
     /// The constructors of `exn`, at least one.
     fn parse_constructor_list(&mut self) -> Result<Vec<Constructor>, Stop>
         ensures { Gives (λ v. map view_constructor v.items) result (some_of begins_constructor (constructor 200) self.old) self.new }
     {
-        let first = self.parse_constructor()?;
         let mut constructors = Vec::new(self.alloc());
-        append(&mut constructors, first)?;
-        for _ in 1..MAX_ITEMS {
-            let Some(constructor) = self.parse_next_constructor()? else {
-                return Ok(constructors);
-            };
+        for _ in 0..MAX_ITEMS {
+            let constructor = self.parse_constructor()?;
             append(&mut constructors, constructor)?;
+            if !self.begins_constructor() {
+                return Ok(constructors);
+            }
         }
-        self.end_constructors()?;
-        Ok(constructors)
+        Err(Stop::Refused(Reason::TooLong))
     }
 
     // ---- parameters
-
-    fn parse_member_after_comma(&mut self) -> Result<Option<Member>, Stop>
-        ensures { (room : ℕ) → Gives (option_map view_member) result (after_comma (suc room) (member (suc room)) self.old) self.new }
-    {
-        let Some(_) = self.take_if(Sign::Comma) else {
-            return Ok(None);
-        };
-        Ok(Some(self.parse_member()?))
-    }
-
-    fn end_members(&mut self) -> Result<(), Stop>
-        ensures { (room : ℕ) → Gives {Y = List trees.Member} (λ _. []) result (no_more_items (suc room) begins_type self.old) self.new }
-    {
-        let Some(_) = self.take_if(Sign::Comma) else {
-            return Ok(());
-        };
-        Err(refusal(self.begins_type(), Reason::TooLong))
-    }
 
     /// Parameters with commas between.
     fn parse_members(&mut self) -> Result<Vec<Member>, Stop>
         ensures { (room : ℕ) → Gives (λ v. map view_member v.items) result (separated (suc room) begins_type (member (suc room)) self.old) self.new }
     {
-        let first = self.parse_member()?;
         let mut members = Vec::new(self.alloc());
-        append(&mut members, first)?;
-        for _ in 1..MAX_ITEMS {
-            let Some(member) = self.parse_member_after_comma()? else {
+        for _ in 0..MAX_ITEMS {
+            let member = self.parse_member()?;
+            append(&mut members, member)?;
+            let Some(_) = self.take_if(Sign::Comma) else {
                 return Ok(members);
             };
-            append(&mut members, member)?;
         }
-        self.end_members()?;
-        Ok(members)
+        Err(refusal(self.begins_type(), Reason::TooLong))
     }
 
     fn parse_parameter_list(&mut self) -> Result<ParameterList, Stop>
@@ -234,39 +174,19 @@ impl<'a> Parser<'a> {
         Ok(Constraint { longer, shorter })
     }
 
-    fn parse_constraint_after_comma(&mut self) -> Result<Option<Constraint>, Stop>
-        ensures { (room : ℕ) → Gives (option_map view_constraint) result (after_comma (suc room) (constraint (suc room)) self.old) self.new }
-    {
-        let Some(_) = self.take_if(Sign::Comma) else {
-            return Ok(None);
-        };
-        Ok(Some(self.parse_constraint()?))
-    }
-
-    fn end_constraints(&mut self) -> Result<(), Stop>
-        ensures { (room : ℕ) → Gives {Y = List trees.Constraint} (λ _. []) result (no_more_items (suc room) begins_region self.old) self.new }
-    {
-        let Some(_) = self.take_if(Sign::Comma) else {
-            return Ok(());
-        };
-        Err(refusal(self.begins_region(), Reason::TooLong))
-    }
-
     /// Constraints with commas between.
     fn parse_constraint_list(&mut self) -> Result<Vec<Constraint>, Stop>
         ensures { (room : ℕ) → Gives (λ v. map view_constraint v.items) result (separated (suc room) begins_region (constraint (suc room)) self.old) self.new }
     {
-        let first = self.parse_constraint()?;
         let mut constraints = Vec::new(self.alloc());
-        append(&mut constraints, first)?;
-        for _ in 1..MAX_ITEMS {
-            let Some(constraint) = self.parse_constraint_after_comma()? else {
+        for _ in 0..MAX_ITEMS {
+            let constraint = self.parse_constraint()?;
+            append(&mut constraints, constraint)?;
+            let Some(_) = self.take_if(Sign::Comma) else {
                 return Ok(constraints);
             };
-            append(&mut constraints, constraint)?;
         }
-        self.end_constraints()?;
-        Ok(constraints)
+        Err(refusal(self.begins_region(), Reason::TooLong))
     }
 
     fn parse_constraints(&mut self) -> Result<Vec<Constraint>, Stop>
@@ -437,15 +357,6 @@ impl<'a> Parser<'a> {
         }
     }
 
-    fn parse_next_declaration(&mut self) -> Result<Option<Declaration>, Stop>
-        ensures { Gives (option_map view_declaration) result (one_declaration 200 self.old) self.new }
-    {
-        match self.next() {
-            Some(_) => Ok(Some(self.parse_declaration()?)),
-            None => Ok(None),
-        }
-    }
-
     /// A program: at least one declaration, up to the end of the symbols.
     pub(crate) fn parse_program(&mut self) -> Result<Vec<Declaration>, Stop>
         ensures { Gives (λ v. map view_declaration v.items) result (program_of self.old) self.new }
@@ -455,9 +366,10 @@ impl<'a> Parser<'a> {
         declarations.push(first)?;
         let most = self.len();
         for _ in 0..most {
-            let Some(declaration) = self.parse_next_declaration()? else {
+            let Some(_) = self.next() else {
                 return Ok(declarations);
             };
+            let declaration = self.parse_declaration()?;
             declarations.push(declaration)?;
         }
         Ok(declarations)

@@ -61,10 +61,12 @@ impl<'a> Parser<'a> {
         append(&mut values, Box::into_inner(first))?;
         let most = self.len();
         for _ in 0..most {
-            let Some(value) = self.parse_argument_after_comma(room)? else {
+            if !self.sees(Sign::Comma) {
                 return Ok(values);
-            };
-            append(&mut values, value)?;
+            }
+            self.take_sign_inside(room, Sign::Comma)?;
+            let value = self.parse_expression(room)?;
+            append(&mut values, Box::into_inner(value))?;
         }
         Ok(values)
     }

@@ -52,42 +52,19 @@ impl<'a> Parser<'a> {
     }
 
     #[cycle(expression)]
-    pub(crate) fn parse_argument_after_comma(&mut self, room: u32) -> Result<Option<Expr>, Stop>
-        ensures { Gives (option_map view_expression) result (after_comma room (nested room).expression self.old) self.new }
-    {
-        if !self.sees(Sign::Comma) {
-            return Ok(None);
-        }
-        self.take_sign_inside(room, Sign::Comma)?;
-        let argument = self.parse_expression(room)?;
-        Ok(Some(Box::into_inner(argument)))
-    }
-
-    fn end_arguments(&mut self, room: u32) -> Result<(), Stop>
-        ensures { Gives {Y = List Expression} (λ _. []) result (no_more_items room begins_expression self.old) self.new }
-    {
-        if !self.sees(Sign::Comma) {
-            return Ok(());
-        }
-        self.take_sign_inside(room, Sign::Comma)?;
-        Err(refusal(self.begins_expression(), Reason::TooLong))
-    }
-
-    #[cycle(expression)]
     fn parse_argument_list(&mut self, room: u32) -> Result<Vec<Expr>, Stop>
         ensures { Gives (λ v. map view_expression v.items) result (separated room begins_expression (nested room).expression self.old) self.new }
     {
-        let first = self.parse_expression(room)?;
         let mut arguments = Vec::new(self.alloc());
-        append(&mut arguments, Box::into_inner(first))?;
-        for _ in 1..MAX_ITEMS {
-            let Some(argument) = self.parse_argument_after_comma(room)? else {
+        for _ in 0..MAX_ITEMS {
+            let argument = self.parse_expression(room)?;
+            append(&mut arguments, Box::into_inner(argument))?;
+            if !self.sees(Sign::Comma) {
                 return Ok(arguments);
-            };
-            append(&mut arguments, argument)?;
+            }
+            self.take_sign_inside(room, Sign::Comma)?;
         }
-        self.end_arguments(room)?;
-        Ok(arguments)
+        Err(refusal(self.begins_expression(), Reason::TooLong))
     }
 
     /// The arguments of a call, up to its closing bracket.

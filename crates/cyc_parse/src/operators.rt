@@ -120,22 +120,6 @@ impl<'a> Parser<'a> {
         Some((operator, span))
     }
 
-    #[cycle(expression)]
-    fn parse_operation(&mut self, room: u32, below: u32) -> Result<Option<Operation>, Stop>
-        requires { below < 10 }
-        ensures { Gives (option_map then_operation) result (one_operation (operand room (nested room) below) (suc below) self.old) self.new }
-    {
-        let Some((operator, span)) = self.take_operator(below) else {
-            return Ok(None);
-        };
-        let operand = self.parse_operand(room, below)?;
-        Ok(Some(Operation {
-            operator,
-            span,
-            operand,
-        }))
-    }
-
     fn end_operations(&mut self, below: u32) -> Result<(), Stop>
         ensures { Gives (λ _. NoOperations) result (no_more_operations (suc below) self.old) self.new }
     {
@@ -152,8 +136,14 @@ impl<'a> Parser<'a> {
     {
         let mut operations = Vec::with_capacity(self.alloc(), 1)?;
         for _ in 0..MAX_ITEMS {
-            let Some(operation) = self.parse_operation(room, below)? else {
+            let Some((operator, span)) = self.take_operator(below) else {
                 return Ok(operations);
+            };
+            let operand = self.parse_operand(room, below)?;
+            let operation = Operation {
+                operator,
+                span,
+                operand,
             };
             append(&mut operations, operation)?;
         }

@@ -39,40 +39,19 @@ impl<'a> Parser<'a> {
         )
     }
 
-    fn parse_region_after_comma(&mut self) -> Result<Option<Ident>, Stop>
-        ensures { (room : ℕ) → Gives (option_map view_name) result (after_comma (suc room) (region_name (suc room)) self.old) self.new }
-    {
-        let Some(_) = self.take_if(Sign::Comma) else {
-            return Ok(None);
-        };
-        Ok(Some(self.take_region_name()?))
-    }
-
-    /// After as many regions as a list may have: one more is too long.
-    fn end_regions(&mut self) -> Result<(), Stop>
-        ensures { (room : ℕ) → Gives {Y = List Named} (λ _. []) result (no_more_items (suc room) begins_region self.old) self.new }
-    {
-        let Some(_) = self.take_if(Sign::Comma) else {
-            return Ok(());
-        };
-        Err(refusal(self.begins_region(), Reason::TooLong))
-    }
-
     /// Region names with commas between.
     pub(crate) fn parse_regions(&mut self) -> Result<Vec<Ident>, Stop>
         ensures { (room : ℕ) → Gives (λ v. map view_name v.items) result (regions (suc room) self.old) self.new }
     {
-        let first = self.take_region_name()?;
         let mut regions = Vec::new(self.alloc());
-        append(&mut regions, first)?;
-        for _ in 1..MAX_ITEMS {
-            let Some(region) = self.parse_region_after_comma()? else {
+        for _ in 0..MAX_ITEMS {
+            let region = self.take_region_name()?;
+            append(&mut regions, region)?;
+            let Some(_) = self.take_if(Sign::Comma) else {
                 return Ok(regions);
             };
-            append(&mut regions, region)?;
         }
-        self.end_regions()?;
-        Ok(regions)
+        Err(refusal(self.begins_region(), Reason::TooLong))
     }
 
     /// Region arguments in their brackets.

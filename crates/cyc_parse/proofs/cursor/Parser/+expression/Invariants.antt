@@ -1,10 +1,11 @@
-use Rattle.std.proofs.Common.{◌≡◌, suc, ◌+◌, ◌-◌, ◌*◌, ◌∷◌}
+use Rattle.std.proofs.Common.{◌≡◌, suc, ◌+◌, ◌-◌, ◌*◌}
 use Rattle.cyc_syntax.specs.Trees.{MoreExpressions}
 use Rattle.cyc_syntax.specs.inside.TreeView.{view_expression, then_postfix}
-use Rattle.cyc_parse.specs.inside.Parsing.{separated, more_items}
+use Rattle.cyc_parse.specs.inside.Parsing.{separated}
 use Rattle.cyc_parse.specs.inside.Expressions.{nested, begins_expression, more_values, values, postfixes, operations}
 use Rattle.cyc_parse.specs.inside.Steps.{operand, then_operation}
 use Rattle.cyc_parse.proofs.Loops.{with_front}
+use Rattle.cyc_parse.proofs.Rounds.{with_items, next_item}
 use Rattle.cyc_parse.proofs.cursor.Parser.+expression.Given as goal
 
 abbrev pub decreases-parse_unary : goal.decreases-parse_unary
@@ -24,9 +25,6 @@ decreases-parse_initial l = 256 * l.room
 
 abbrev pub decreases-parse_group_here : goal.decreases-parse_group_here
 decreases-parse_group_here l = 256 * l.room + 1
-
-abbrev pub decreases-parse_argument_after_comma : goal.decreases-parse_argument_after_comma
-decreases-parse_argument_after_comma l = 256 * l.room + 1
 
 abbrev pub decreases-parse_argument_list : goal.decreases-parse_argument_list
 decreases-parse_argument_list l = 256 * l.room + 2
@@ -109,14 +107,11 @@ decreases-climb_level l = 256 * l.room + 22 * l.most + 2 * (l.most - l.below) + 
 abbrev pub decreases-parse_operations : goal.decreases-parse_operations
 decreases-parse_operations l = 256 * l.room + 24 * l.below + 12
 
-abbrev pub decreases-parse_operation : goal.decreases-parse_operation
-decreases-parse_operation l = 256 * l.room + 24 * l.below + 11
-
 abbrev pub decreases-parse_operand : goal.decreases-parse_operand
 decreases-parse_operand l = 256 * l.room + 24 * l.below + 10
 
 abbrev pub invariant-parse_argument_list-loop : goal.invariant-parse_argument_list-loop
-invariant-parse_argument_list-loop l = with_front view_expression (λ x xs. x ∷ xs) l.arguments.items (more_items l.room begins_expression (nested l.room).expression (64 - l.counter) l.self) ≡ separated l.room begins_expression (nested l.room).expression l.fn.self
+invariant-parse_argument_list-loop l = with_items view_expression l.arguments.items (next_item l.room begins_expression (nested l.room).expression (64 - l.counter) l.self) ≡ separated l.room begins_expression (nested l.room).expression l.fn.self
 
 abbrev pub invariant-parse_postfixes-loop : goal.invariant-parse_postfixes-loop
 invariant-parse_postfixes-loop l = with_front then_postfix (λ f ps. f ps) l.postfixes.items (postfixes l.room (nested l.room) (64 - l.counter) l.self) ≡ postfixes l.room (nested l.room) 64 l.fn.self
