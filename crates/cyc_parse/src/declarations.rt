@@ -1,13 +1,11 @@
 //! The parser of declarations and of programs. A declaration stands at no depth: its brackets are the first level of
 //! nesting.
-ghost use Rattle.std.specs.Prelude.{◌≡◌, ℕ, suc, map, option_map, List, []};
+ghost use Rattle.std.specs.Prelude.{◌≡◌, ℕ, suc, map, option_map};
 ghost use Rattle.cyc_syntax.specs.inside.TreeView.{place_of_span, view_name, view_type, view_member, view_constructor, view_value, view_constraint, view_list, view_parameters, view_declaration};
-ghost use Rattle.cyc_syntax.specs.Trees as trees;
 ghost use Rattle.cyc_parse.specs.inside.Code.{Gives};
-ghost use Rattle.cyc_parse.specs.inside.Parsing.{next, starts, begins_region, no_more_items, separated};
+ghost use Rattle.cyc_parse.specs.inside.Parsing.{next, starts, begins_region, separated};
 ghost use Rattle.cyc_parse.specs.inside.Types.{begins_type};
-ghost use Rattle.cyc_parse.specs.inside.Steps.{after_comma, one_of, one_declaration};
-ghost use Rattle.cyc_parse.specs.inside.Declarations.{begins_void, begins_constructor, member, field, has_int, constructor, no_more_of, some_of, parameter_list, effect_regions, effect, constraint};
+ghost use Rattle.cyc_parse.specs.inside.Declarations.{begins_void, begins_constructor, member, field, has_int, constructor, some_of, parameter_list, effect_regions, effect, constraint};
 ghost use Rattle.cyc_parse.specs.inside.Declarations.{constraints, parameters, value, global_value, global, function, typed, struct_fields, struct_or_typed, exceptions, declaration, program_of};
 
 use crate::cursor::{Parser, refusal};

@@ -1,14 +1,14 @@
 //! The parser of operands, with their prefixes and postfixes.
 #![tactic(auto, unfolding(crate::specs::inside::Parsing::bind, crate::specs::inside::Parsing::choose, crate::specs::inside::Parsing::if_sees, crate::specs::inside::Parsing::if_starts, crate::specs::inside::Parsing::if_is, crate::specs::inside::Parsing::refuse_item, crate::specs::inside::Expressions::nested), using(crate::proofs::Levels::levels))]
 
-ghost use Rattle.std.specs.Prelude.{◌≡◌, suc, true, ◌||◌, ℕ, map, option_map, is_some, List, [], Ok};
+ghost use Rattle.std.specs.Prelude.{◌≡◌, suc, true, ◌||◌, ℕ, map, option_map, is_some, Ok};
 ghost use Rattle.cyc_syntax.specs.declared.tokens.Sign.TheVariants as signs;
 ghost use Rattle.cyc_syntax.specs.inside.TreeView.{place_of_span, view_name, view_expression, expressions_of, postfixes_of, then_postfix};
 ghost use Rattle.cyc_parse.specs.inside.Boxes.{view_boxed};
 ghost use Rattle.cyc_parse.specs.inside.Code.{Gives};
-ghost use Rattle.cyc_parse.specs.inside.Parsing.{next, sees, separated, no_more_items};
-ghost use Rattle.cyc_parse.specs.inside.Steps.{after_comma, one_postfix, one_field, prefixed, created, created_in, freed_key, bracketed, lone, end_of_group, end_of_bracketed, end_of_call, end_of_index, with_chain, is_plain};
-ghost use Rattle.cyc_syntax.specs.Trees.{Expression, NoPostfixes, Call};
+ghost use Rattle.cyc_parse.specs.inside.Parsing.{next, sees, separated};
+ghost use Rattle.cyc_parse.specs.inside.Steps.{one_postfix, one_field, prefixed, created, created_in, freed_key, bracketed, lone, end_of_group, end_of_bracketed, end_of_call, end_of_index, with_chain, is_plain};
+ghost use Rattle.cyc_syntax.specs.Trees.{NoPostfixes, Call};
 ghost use Rattle.cyc_parse.specs.inside.Expressions.{chained, nested, begins_expression, group, arguments, from_name, primary, no_more_postfixes, postfixes, with_postfixes, prefixed_by, unary};
 
 use crate::cursor::{Parser, refusal};

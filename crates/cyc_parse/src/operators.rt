@@ -6,7 +6,7 @@ ghost use Rattle.cyc_syntax.specs.inside.TreeView.{place_of_span, view_expressio
 ghost use Rattle.cyc_parse.specs.inside.Boxes.{view_boxed};
 ghost use Rattle.cyc_parse.specs.inside.Code.{Gives};
 ghost use Rattle.cyc_parse.specs.inside.Parsing.{next, advance};
-ghost use Rattle.cyc_parse.specs.inside.Steps.{one_operation, then_operation, level_within, level_at, behind, is_continued, operand, climb_from, one_level};
+ghost use Rattle.cyc_parse.specs.inside.Steps.{level_within, level_at, behind, is_continued, operand, climb_from, one_level};
 ghost use Rattle.cyc_syntax.specs.Trees.{NoOperations};
 ghost use Rattle.cyc_parse.specs.inside.Expressions.{prefix_operator, binary_operator, binary_of, nested, of_level, operator_at, no_more_operations, operations, climb, unary, binary};
 

@@ -1,10 +1,9 @@
 //! The parser of types.
-ghost use Rattle.std.specs.Prelude.{◌≡◌, ℕ, suc, map, option_map, List, []};
+ghost use Rattle.std.specs.Prelude.{◌≡◌, ℕ, suc, map, option_map, []};
 ghost use Rattle.cyc_syntax.specs.inside.TreeView.{place_of_span, view_name, view_pointer, view_base, view_type};
-ghost use Rattle.cyc_syntax.specs.Trees.{Named};
 ghost use Rattle.cyc_parse.specs.inside.Code.{Gives};
-ghost use Rattle.cyc_parse.specs.inside.Parsing.{next, starts, begins_region, region_name, no_more_items, regions, region_list};
-ghost use Rattle.cyc_parse.specs.inside.Steps.{after_comma, one_pointer};
+ghost use Rattle.cyc_parse.specs.inside.Parsing.{next, starts, begins_region, regions, region_list};
+ghost use Rattle.cyc_parse.specs.inside.Steps.{one_pointer};
 ghost use Rattle.cyc_parse.specs.inside.Types.{begins_type, mark_at, optional_region, region_of, no_more_pointers, pointers_of, with_pointers, optional_regions, written_type};
 
 use crate::cursor::{Parser, refusal};

@@ -11,7 +11,7 @@ use Rattle.cyc_syntax.specs.Symbols.{Terminal, Mark, Symbol, Place}
 use Rattle.cyc_syntax.specs.Symbols as terminals
 use Rattle.cyc_syntax.specs.Trees.{Declaration, Pointer, Named, Expression, Number, Character, Null, HeapRegion, UniqueRegion, Call, Bracketed, FreeKey, Prefixed, New, RegionNew, Initial, Fields, Array, Expressions, Postfixes, ThenIndex, ThenField, Operations, ThenOperation}
 use Rattle.cyc_syntax.specs.inside.TreeView.{place_of_span, view_expression}
-use Rattle.cyc_parse.specs.inside.Parsing.{Parser, Unexpected, refuse, ◌>>=◌, ◌>>◌, pure, next, sees, if_sees, if_starts, choose, advance, sign, identifier}
+use Rattle.cyc_parse.specs.inside.Parsing.{Parser, Unexpected, refuse, ◌>>=◌, ◌>>◌, pure, next, sees, if_sees, choose, advance, sign, identifier}
 use Rattle.cyc_parse.specs.inside.Types.{mark_at, optional_region}
 use Rattle.cyc_parse.specs.inside.Declarations.{declaration}
 use Rattle.cyc_parse.specs.inside.Expressions.{Nested, binary_operator, operator_at, chained, binary_of, operations, climb, postfixes, unary}
@@ -25,10 +25,6 @@ one_pointer room = choose (λ t. elim (mark_at t) [
   | None ↦ pure None
   | Some k ↦ advance >> optional_region room >>= (λ r. pure (Some (record { kind = k; region = r })))
 ])
-
--- the next item, where one begins
-abbrev pub one_of : {A : Type 0} → (Terminal → Bool) → Parser A → Parser (Option A)
-one_of begins item = if_starts begins (item >>= (λ x. pure (Some x))) (pure None)
 
 -- ---- expressions
 
