@@ -2,7 +2,6 @@
 import os
 
 import suite  # first: it says where the references and the generators are
-import apart
 import wrong
 
 # Files of a crate, by their paths in it.

@@ -26,7 +26,7 @@ module _ {X Y : Type 0} (view : X → Y) (item : Parser Y) (many next : ℕ → 
   item_fails (stops.Refused why) front count i ts us whole lt h so_far =
       let k : count - i ≡ suc (count - (i + 1)) = omega arith in
       let step : next (count - i) ts ≡ Err (record { reason = view_reason why; left = us }) =
-          ap (λ (n : ℕ). next n ts) k ∙ rounds.turn _ ts ∙ ap (λ (o : Outcome Y). and_then o (λ y vs. and_then (many (count - (i + 1)) vs) (λ ys ws. Ok (y ∷ ys, ws)))) h in
+      ap (λ (n : ℕ). next n ts) k ∙ rounds.turn _ ts ∙ ap (λ (o : Outcome Y). and_then o (λ y vs. and_then (many (count - (i + 1)) vs) (λ ys ws. Ok (y ∷ ys, ws)))) h in
       sym so_far ∙ ap (with_items view front) step
 
   -- an item is read, and the test comes
@@ -35,7 +35,7 @@ module _ {X Y : Type 0} (view : X → Y) (item : Parser Y) (many next : ℕ → 
   item_read front x count i ts us whole lt h so_far =
       let k : count - i ≡ suc (count - (i + 1)) = omega arith in
       let step : next (count - i) ts ≡ and_then (many (count - (i + 1)) us) (λ ys vs. Ok (view x ∷ ys, vs)) =
-          ap (λ (n : ℕ). next n ts) k ∙ rounds.turn _ ts ∙ ap (λ (o : Outcome Y). and_then o (λ y vs. and_then (many (count - (i + 1)) vs) (λ ys ws. Ok (y ∷ ys, ws)))) h in
+      ap (λ (n : ℕ). next n ts) k ∙ rounds.turn _ ts ∙ ap (λ (o : Outcome Y). and_then o (λ y vs. and_then (many (count - (i + 1)) vs) (λ ys ws. Ok (y ∷ ys, ws)))) h in
       sym (ap (with_items view front) step ∙ regroup view (λ y ys. y ∷ ys) front x (many (count - (i + 1)) us)) ∙ so_far
 
   pub list_ends : (front : List X) (x : X) (count i : ℕ) (ts us : List Symbol) (whole : Outcome (List Y)) → i < count → item ts ≡ Ok (view x, us)
