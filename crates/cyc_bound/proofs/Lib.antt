@@ -4,6 +4,7 @@ pub mod CallSteps
 pub mod CallRuns
 pub mod WalkLemmas
 pub mod CostsFound
+pub mod NodeCosts
 pub mod CostWorlds
 pub mod CostLemmas
 pub mod CostValues

@@ -1,7 +1,8 @@
 use Rattle.std.proofs.Common.{◌≡◌, ℕ, ◌+◌, ◌*◌, min, length, refl, sym, ap, ◌∙◌, arith}
-use Rattle.cyc_types.specs.TypedTreeView.{view_expression, view_placement, view_initial, arguments_of, operations_of}
-use Rattle.cyc_bound.specs.Costs.{too_many, step_cost, callee_cost, expression_cost, placement_cost, initial_cost, fields_cost, arguments_cost, operations_cost}
-use Rattle.cyc_bound.proofs.CostsFound.{two_parts_cost, arguments_next, arguments_all, operations_next, operations_all, fields_next, fields_all, call_costs, binary_costs, new_costs, fields_costs, array_costs}
+use Rattle.cyc_types.specs.TypedTreeView.{view_expression, view_dereference, view_placement, view_initial, view_converted, arguments_of, operations_of}
+use Rattle.cyc_bound.specs.Costs.{too_many, step_cost, callee_cost, expression_cost, place_cost, converted_cost, placement_cost, initial_cost, fields_cost, arguments_cost, operations_cost}
+use Rattle.cyc_bound.proofs.CostsFound.{one_part_cost, two_parts_cost, arguments_next, arguments_all, operations_next, operations_all, fields_next, fields_all, call_costs, binary_costs, new_costs, fields_costs, array_costs}
+use Rattle.cyc_bound.proofs.NodeCosts.{load_costs, cell_address_costs, free_key_costs, unary_costs, assign_costs, store_costs}
 use Rattle.cyc_bound.proofs.tree_costs.+expressions.Goals as goal
 
 pub expression_cost-returns-in-Call : goal.expression_cost-returns-in-Call
@@ -32,6 +33,56 @@ expression_cost-returns-in-New t c =
     two_parts_cost (1 * step_cost m) (placement_cost m costs (view_placement c.in-New.placement)) (initial_cost m costs site (view_initial i)) c.placement_cost-placed.result c.initial_cost-made.result c.plus-in-New.result c.with_steps-in-New.result
     (expression_cost m costs (view_expression c.args.value.now)) (new_costs m costs c.args.value.now c.in-New.placement c.in-New.initial c.in-New.of_type c.in-New.is i c.deref-in-New.ensures site c.site_of.ensures)
     c.placement_cost-placed.ensures c.initial_cost-made.ensures c.plus-in-New.ensures c.with_steps-in-New.ensures
+
+pub expression_cost-returns-in-Load : goal.expression_cost-returns-in-Load
+expression_cost-returns-in-Load t c =
+    let m = c.args.measure in
+    let costs = c.args.costs.now in
+    let place = c.deref.result.now in
+    one_part_cost (2 * step_cost m) (place_cost m costs (view_dereference place)) c.place_cost.result c.with_steps.result (expression_cost m costs (view_expression c.args.value.now))
+    (load_costs m costs c.args.value.now c.in-Load.source c.in-Load.is place c.deref.ensures) c.place_cost.ensures c.with_steps.ensures
+
+pub expression_cost-returns-in-AddressOfCell : goal.expression_cost-returns-in-AddressOfCell
+expression_cost-returns-in-AddressOfCell t c =
+    let m = c.args.measure in
+    let costs = c.args.costs.now in
+    let place = c.deref-in-AddressOfCell.result.now in
+    one_part_cost (2 * step_cost m) (place_cost m costs (view_dereference place)) c.place_cost-in-AddressOfCell.result c.with_steps-in-AddressOfCell.result (expression_cost m costs (view_expression c.args.value.now))
+    (cell_address_costs m costs c.args.value.now c.in-AddressOfCell.place c.in-AddressOfCell.of_type c.in-AddressOfCell.is place c.deref-in-AddressOfCell.ensures) c.place_cost-in-AddressOfCell.ensures c.with_steps-in-AddressOfCell.ensures
+
+pub expression_cost-returns-in-FreeKey : goal.expression_cost-returns-in-FreeKey
+expression_cost-returns-in-FreeKey t c =
+    let m = c.args.measure in
+    let costs = c.args.costs.now in
+    let key = c.deref-in-FreeKey.result.now in
+    one_part_cost (2 * step_cost m) (expression_cost m costs (view_expression key)) c.expression_cost.result c.with_steps-in-FreeKey.result (expression_cost m costs (view_expression c.args.value.now))
+    (free_key_costs m costs c.args.value.now c.in-FreeKey.key c.in-FreeKey.is key c.deref-in-FreeKey.ensures) c.expression_cost.ensures c.with_steps-in-FreeKey.ensures
+
+pub expression_cost-returns-in-Unary : goal.expression_cost-returns-in-Unary
+expression_cost-returns-in-Unary t c =
+    let m = c.args.measure in
+    let costs = c.args.costs.now in
+    let operand = c.deref-in-Unary.result.now in
+    one_part_cost (2 * step_cost m) (expression_cost m costs (view_expression operand)) c.expression_cost-in-Unary.result c.with_steps-in-Unary.result (expression_cost m costs (view_expression c.args.value.now))
+    (unary_costs m costs c.args.value.now c.in-Unary.operator c.in-Unary.operand c.in-Unary.is operand c.deref-in-Unary.ensures) c.expression_cost-in-Unary.ensures c.with_steps-in-Unary.ensures
+
+pub expression_cost-returns-in-Assign : goal.expression_cost-returns-in-Assign
+expression_cost-returns-in-Assign t c =
+    let m = c.args.measure in
+    let costs = c.args.costs.now in
+    let value = c.deref-in-Assign.result.now in
+    one_part_cost (2 * step_cost m) (converted_cost m costs (view_converted value)) c.converted_cost.result c.with_steps-in-Assign.result (expression_cost m costs (view_expression c.args.value.now))
+    (assign_costs m costs c.args.value.now c.in-Assign.target c.in-Assign.value c.in-Assign.result c.in-Assign.is value c.deref-in-Assign.ensures) c.converted_cost.ensures c.with_steps-in-Assign.ensures
+
+pub expression_cost-returns-in-Store : goal.expression_cost-returns-in-Store
+expression_cost-returns-in-Store t c =
+    let m = c.args.measure in
+    let costs = c.args.costs.now in
+    let place = c.deref-in-Store.result.now in
+    let value = c.deref-in-Store-2.result.now in
+    two_parts_cost (2 * step_cost m) (place_cost m costs (view_dereference place)) (converted_cost m costs (view_converted value)) c.place_cost-found.result c.converted_cost-in-Store.result c.plus-in-Store.result c.with_steps-in-Store.result
+    (expression_cost m costs (view_expression c.args.value.now)) (store_costs m costs c.args.value.now c.in-Store.target c.in-Store.value c.in-Store.result c.in-Store.is place c.deref-in-Store.ensures value c.deref-in-Store-2.ensures)
+    c.place_cost-found.ensures c.converted_cost-in-Store.ensures c.plus-in-Store.ensures c.with_steps-in-Store.ensures
 
 pub initial_cost-returns-in-Fields : goal.initial_cost-returns-in-Fields
 initial_cost-returns-in-Fields t c =

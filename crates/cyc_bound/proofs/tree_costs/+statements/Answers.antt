@@ -1,8 +1,10 @@
 use Rattle.std.proofs.Common.{◌≡◌, ℕ, ◌+◌, ◌*◌, min, max, ap, ◌∙◌, arith}
-use Rattle.cyc_types.specs.TypedTreeView.{view_statement, items_of, clauses_of, default_of}
-use Rattle.cyc_bound.specs.Costs.{too_many, step_cost, statement_cost, items_cost, clauses_cost}
+use Rattle.std.specs.Prelude.{option_map}
+use Rattle.cyc_types.specs.TypedTreeView.{view_expression, view_converted, view_side, view_statement, items_of, clauses_of, default_of}
+use Rattle.cyc_bound.specs.Costs.{too_many, step_cost, expression_cost, value_cost, thrown_cost, side_cost, statement_cost, items_cost, clauses_cost}
 use Rattle.cyc_bound.specs.inside.ItemCosts.{clauses_then}
 use Rattle.cyc_bound.proofs.CostsFound.{one_part_cost, two_parts_cost, items_next, items_all, clauses_next, clauses_all, clauses_capped, block_costs, loop_costs, try_costs}
+use Rattle.cyc_bound.proofs.NodeCosts.{evaluate_costs, swap_costs, return_costs, throw_costs}
 use Rattle.cyc_bound.proofs.tree_costs.+statements.Goals as goal
 
 pub statement_cost-returns-in-Block : goal.statement_cost-returns-in-Block
@@ -29,6 +31,35 @@ statement_cost-returns-in-While t c =
     loop_costs c.args.measure c.args.costs.now c.args.statement.now c.in-While.condition c.in-While.body c.in-While.is c.deref-in-While.result.now c.deref-in-While.ensures
     c.expression_cost-tested-in-While.result c.statement_cost-in-While.result c.plus-turn.result c.with_steps-in-While.result c.loop_cost.result
     c.expression_cost-tested-in-While.ensures c.statement_cost-in-While.ensures c.plus-turn.ensures c.with_steps-in-While.ensures c.loop_cost.ensures
+
+pub statement_cost-returns-in-Evaluate : goal.statement_cost-returns-in-Evaluate
+statement_cost-returns-in-Evaluate t c =
+    let m = c.args.measure in
+    let costs = c.args.costs.now in
+    one_part_cost (2 * step_cost m) (expression_cost m costs (view_expression c.in-Evaluate.value)) c.expression_cost.result c.with_steps-in-Evaluate.result (statement_cost m costs (view_statement c.args.statement.now))
+    (evaluate_costs m costs c.args.statement.now c.in-Evaluate.value c.in-Evaluate.is) c.expression_cost.ensures c.with_steps-in-Evaluate.ensures
+
+pub statement_cost-returns-in-Swap : goal.statement_cost-returns-in-Swap
+statement_cost-returns-in-Swap t c =
+    let m = c.args.measure in
+    let costs = c.args.costs.now in
+    two_parts_cost (7 * step_cost m) (side_cost m costs (view_side c.in-Swap.left)) (side_cost m costs (view_side c.in-Swap.right)) c.side_cost-found.result c.side_cost.result c.plus.result c.with_steps-in-Swap.result
+    (statement_cost m costs (view_statement c.args.statement.now)) (swap_costs m costs c.args.statement.now c.in-Swap.left c.in-Swap.right c.in-Swap.is)
+    c.side_cost-found.ensures c.side_cost.ensures c.plus.ensures c.with_steps-in-Swap.ensures
+
+pub statement_cost-returns-in-Return : goal.statement_cost-returns-in-Return
+statement_cost-returns-in-Return t c =
+    let m = c.args.measure in
+    let costs = c.args.costs.now in
+    one_part_cost (2 * step_cost m) (value_cost m costs (option_map view_converted c.in-Return.value)) c.value_cost.result c.with_steps-in-Return.result (statement_cost m costs (view_statement c.args.statement.now))
+    (return_costs m costs c.args.statement.now c.in-Return.value c.in-Return.is) c.value_cost.ensures c.with_steps-in-Return.ensures
+
+pub statement_cost-returns-in-Throw : goal.statement_cost-returns-in-Throw
+statement_cost-returns-in-Throw t c =
+    let m = c.args.measure in
+    let costs = c.args.costs.now in
+    one_part_cost (2 * step_cost m) (thrown_cost m costs (option_map view_expression c.in-Throw.value)) c.thrown_cost.result c.with_steps-in-Throw.result (statement_cost m costs (view_statement c.args.statement.now))
+    (throw_costs m costs c.args.statement.now c.in-Throw.tag c.in-Throw.value c.in-Throw.is) c.thrown_cost.ensures c.with_steps-in-Throw.ensures
 
 pub items_cost-loop-item-preserved : goal.items_cost-loop-item-preserved
 items_cost-loop-item-preserved t c =
