@@ -7,7 +7,7 @@ others change, with all of them in their places: so the same error stands there 
 import os
 import re
 
-from dependencies import Dependencies
+from dependencies import UNKNOWN, Dependencies
 
 # So many cases are tried in one run at most.
 MOST = 8
@@ -57,8 +57,8 @@ class Apart:
         return [it for it in self.right.all if it[1] in names and it[0].split(os.sep)[1] == "proofs"]
 
     def touching(self, cases, case, read):
-        """The cases but for this one that change what is read."""
-        return {it for it in cases if it is not case and read & self.changes_of(it)}
+        """The cases but for this one that change what is read, or that may."""
+        return {it for it in cases if it is not case and (UNKNOWN in read or read & self.changes_of(it))}
 
     def are_separate(self, cases):
         """Whether no two of these cases replace the same text."""

@@ -2,7 +2,9 @@
 import os
 
 import suite  # first: it says where the references and the generators are
+import dependencies
 import wrong
+from dependencies import UNKNOWN
 
 # Files of a crate, by their paths in it.
 FILES = {
@@ -45,6 +47,7 @@ pair ~ n = pair.left ≡ double n
     "proofs/Lemmas.antt": """\
 use Rattle.mid.specs.Rules.{double, triple as thrice, opened, Pair, ◌~◌}
 use Rattle.mid.specs.Rules as rules
+use Rattle.mid.specs.Rules.{gone}
 use Rattle.mid.proofs.twice.Met as twice_met
 
 pub of_double : (n : ℕ) → double n ≡ n + n
@@ -64,6 +67,27 @@ of_both n = refl
 module _ (pair : Pair) where
   pub alike : (n : ℕ) → pair ~ n → pair ~ n
   alike n same = same
+
+unfoldable pub kept : ℕ → ℕ
+kept n = double n
+
+pub of_kept : (n : ℕ) → kept n ≡ n
+of_kept n = simp laws refl
+
+pub ruleset laws = (of_double, of_opened)
+
+abbrev mutual
+  pub count : ℕ → ℕ
+  count n = other n
+
+  pub other : ℕ → ℕ
+  other n = triple_of n
+
+pub of_count : count 0 ≡ 0
+of_count = refl
+
+pub of_gone : gone ≡ 0
+of_gone = refl
 
 pub of_twice : Unit
 of_twice = twice_met.met
@@ -97,6 +121,10 @@ READ = {
     "alike": {"◌~◌*", "double*", "Pair*"},
     "of_twice": {"twice", "double*"},
     "even": {"odd*", "of_triple", "triple"},
+    "of_kept": {"kept*", "double*", "laws*", "of_double", "of_opened", "opened*", "triple"},
+    "of_count": {"count*", "other*"},
+    # what is named and not found may be anything
+    "of_gone": {"use ?*"},
 }
 
 CASES = """\
@@ -193,9 +221,10 @@ def tried(folder):
     cases = written(crates)
     group = wrong.Group("mid", set(), cases, wrong.Settings(folder, crates, {"mid": []}, crates, folder))
     tells = group.apart()
-    right = []
+    own = os.path.join(suite.ROOT, "crates")
+    right = [is_as(f"what of {name} cannot be read", [], dependencies.unread_in(own, name)) for name in sorted(os.listdir(own))]
     for name, wanted in READ.items():
-        read = {(it, is_whole) for it, is_whole in tells.right.read_by((LEMMAS, name)) if it[1] != name and " " not in it[1]}
+        read = {(it, is_whole) for it, is_whole in tells.right.read_by((LEMMAS, name)) if it[1] != name and it[1] in (UNKNOWN[0][1], it[1].split()[-1])}
         whole = {it for it, is_whole in read if is_whole}
         right.append(is_as(f"what `{name}` reads", wanted, {it[1] + "*" * (it in whole) for it, _ in read}))
     rounds = wrong.rounds_of(cases, group.bodies, False, tells)

@@ -23,9 +23,14 @@ Declaration = collections.namedtuple("Declaration", "text statement is_open")
 PARTS = ("src", "specs", "proofs")
 SOURCE, LOGIC = ".rt", ".antt"
 COMMENT = re.compile(r"^ *(?:--|//).*\n", re.MULTILINE)
-SIGNATURE = re.compile(r" *(abbrev )?(?:pub )?([^\s:(){}]+) :(?: |$)")
-SHAPE = re.compile(r" *(?:pub )?(?:record|data) (\S+)")
+SIGNATURE = re.compile(r" *(abbrev |unfoldable )?(?:pub )?([^\s:(){}]+) :(?: |$)", re.MULTILINE)
+SHAPE = re.compile(r" *(?:pub )?(?:record|data|ruleset) (\S+)")
+# What is in the lines of a type of several cases, or of a record.
+CASES = re.compile(r"^ *(?:pub )?data ", re.MULTILINE)
+PART = re.compile(r"^ +(?:pub )?([^\s:(){}]+) :(?: |$)", re.MULTILINE)
 MODULE = re.compile(r" *(?:pub )?module ")
+MUTUAL = re.compile(r" *(?:abbrev )?mutual$", re.MULTILINE)
+NO_DECLARATION = re.compile(r" *(?:pub )?(?:mod|use|open|infix[lr]?) ")
 IMPORT = re.compile(r"^ *(?:pub |ghost )*use ([^\s{;]+?)(?:\.\{([^}]*)\})?(?: as (\S+?))?;?$", re.MULTILINE)
 UNFOLDED = re.compile(r"^ *unfolding (.*)$|^ *unfoldable (?:pub )?(\S+)", re.MULTILINE)
 WORD = re.compile(r"[^\s(){}\[\],;]+")
@@ -34,6 +39,8 @@ ITEM = re.compile(r"(?:pub(?:\(\w+\))? )?(?:struct|enum|union|const|static|trait
 HOLE = "◌"
 # What begins the name of an import among declarations.
 IMPORTED = "use "
+# What stands for a declaration that is named and not found: it may be anything.
+UNKNOWN = ("", IMPORTED + "?"), True
 # What is made of a function for others to read, beside what its own proof reads alone.
 STATED = ("Met", "Statement")
 
@@ -48,26 +55,26 @@ def indent_of(line):
 
 
 def blocks_of(lines, indent):
-    """Lines in blocks, of which each begins at this indent and goes on in those that are indented more."""
+    """Lines in blocks, of which each begins at this indent and goes on in those that are indented more or close a bracket."""
     found = []
     for line in lines:
-        if line.strip() and indent_of(line) <= indent:
+        if line.strip() and indent_of(line) <= indent and line.strip()[0] not in ")]}":
             found.append([])
         if found:
             found[-1].append(line)
     return found
 
 
-def declarations_of(lines, indent=0, around=""):
+def declarations_of(lines, unread, indent=0, around=""):
     """The declarations in lines of a file of definitions or proofs, by their names. Those in a module are read with its parameters, and
-    those that are declared with each other with all of these."""
+    those that are declared with each other with all of these. What cannot be read is added to the last list."""
     found, name = {}, None
     for block in blocks_of(lines, indent):
         text = "\n".join(block)
-        if MODULE.match(text) or text.strip().startswith("mutual"):
-            at = next((at for at, line in enumerate(block) if line.endswith(" where")), 0)
-            inside = declarations_of(block[at + 1:], indent + 2, "\n".join([around, *block[:at + 1]]))
-            if not MODULE.match(text):
+        if MODULE.match(text) or MUTUAL.match(text):
+            at = next((at for at, line in enumerate(block) if line.endswith((" where", "mutual"))), 0)
+            inside = declarations_of(block[at + 1:], unread, indent + 2, "\n".join([around, *block[:at + 1]]))
+            if MUTUAL.match(text):
                 inside = dict.fromkeys(inside, Declaration(around + text, around + text, True))
             found.update(inside)
             name = None
@@ -77,9 +84,16 @@ def declarations_of(lines, indent=0, around=""):
         elif signature := SIGNATURE.match(text):
             name = signature[2]
             found[name] = Declaration(around + text, around + text, bool(signature[1]))
-        elif name and not IMPORT.match(text):
+        elif name and is_clause(name, text):
             found[name] = found[name]._replace(text=f"{found[name].text}\n{text}")
+        elif not NO_DECLARATION.match(text):
+            unread.append(text)
     return found
+
+
+def is_clause(name, text):
+    """Whether this goes on what is declared by a name: a clause, or what its proof unfolds."""
+    return HOLE in name or text.split()[0] in (name, "unfolding")
 
 
 def items_of(text):
@@ -120,7 +134,23 @@ def imports_of(text):
 
 def declared_in(path, text):
     """What a file with this text, of which comments are left out, declares."""
-    return items_of(text) if path.endswith(SOURCE) else declarations_of(text.split("\n"))
+    return items_of(text) if path.endswith(SOURCE) else declarations_of(text.split("\n"), [])
+
+
+def unread_in(crates, name):
+    """What of a crate's definitions and proofs cannot be read here, each with its file: nothing, where they are laid out as ever."""
+    found = []
+    for path in (it for part in PARTS[1:] for it in files_below(os.path.join(crates, name, part))):
+        unread = []
+        with open(path, encoding="utf-8") as file:
+            declarations_of(COMMENT.sub("", file.read()).split("\n"), unread)
+        found += [(os.path.relpath(path, crates), it.split("\n")[0]) for it in unread]
+    return found
+
+
+def cases_of(text):
+    """The names of the cases of a type, where a declaration is one."""
+    return PART.findall(text) if CASES.search(text) else []
 
 
 def is_import(it):
@@ -141,6 +171,7 @@ class Dependencies:
     have other texts than stand there."""
 
     def __init__(self, crates, names, texts=None):
+        self.names = names
         self.all, self.words, self.imports, self.known = {}, {}, {}, {}
         # the functions and items of a crate by their names, the functions of its cycles of calls, and what somewhere is unfolded
         self.items, self.cycles, self.unfolded = collections.defaultdict(list), collections.defaultdict(set), set()
@@ -159,7 +190,7 @@ class Dependencies:
         self.words[path] = collections.defaultdict(set)
         for name, it in declared_in(path, text).items():
             self.all[path, name] = it
-            for word in name.split(HOLE):
+            for word in [*name.split(HOLE), *cases_of(it.text)]:
                 self.words[path][word].add(name)
             if path.endswith(SOURCE):
                 self.items[crate, name].append((path, name))
@@ -178,7 +209,10 @@ class Dependencies:
                 yield (path, name), False
             for module, name in self.imports[path].get(steps[0], ()):
                 yield (path, IMPORTED + steps[0]), True
-                yield from self.of_module(module, name or next(iter(steps[1:]), None))
+                name = name or next(iter(steps[1:]), None)
+                found = list(self.of_module(module, name))
+                is_own = module.split(".")[1:2] and module.split(".")[1] in self.names
+                yield from found or [UNKNOWN] * bool(name and is_own)
             if path.endswith(SOURCE):
                 for step in re.findall(r"\w+", word):
                     yield from ((it, False) for key, them in self.items.items() if key[1] == step for it in them)
@@ -190,7 +224,7 @@ class Dependencies:
         for path, rest in ((os.path.join(crate, *steps) + LOGIC, name), (os.path.join(crate, *steps, name or "") + LOGIC, None)):
             if path in self.words:
                 for word in (rest or "").split(HOLE):
-                    yield from (((path, it), False) for it in self.words[path].get(word, ()))
+                    yield from (((path, it), False) for it in self.words[path].get(word) or self.holders(path, word))
                     for other in self.imports[path].get(word, ()):
                         yield from self.of_module(*other)
                 return
@@ -198,6 +232,10 @@ class Dependencies:
         for step in [*steps[1:], *filter(None, [name])]:
             for function in self.cycles.get((crate, step.removeprefix("+")), ()) if step.startswith("+") else (step,):
                 yield from ((it, is_whole) for it in self.items.get((crate, function), ()))
+
+    def holders(self, path, field):
+        """The records of a file that have such a field, which a file that imports it names by it alone."""
+        return [it[1] for it, declaration in self.all.items() if it[0] == path and declaration.is_open and field in PART.findall(declaration.text)]
 
     def steps_from(self, node):
         """What is read where a node is: a declaration, with whether all of it is read."""
