@@ -913,14 +913,16 @@ def main():
         for group in groups:
             for case in group.cases if group.missing() else []:
                 run.end(case, f"there is no library of {group.missing()[0]}: `rt ci {group.missing()[-1]}` makes those that are needed")
-        run.on(options.lanes or lanes_for(len(os.sched_getaffinity(0)), free_memory()))
+        try:
+            run.on(options.lanes or lanes_for(len(os.sched_getaffinity(0)), free_memory()))
+        finally:
+            for group in groups if options.write else ():
+                group.order_places()
+                write_places(CASES, group.crate, [it for it in group.cases if it in run.placed])
         for case in cases:
             missing = [it for it in case.lets if it not in refused]
             if missing:
                 run.end(case, f"there is no program {missing[0]} in refused.programs")
-    for group in groups if options.write else ():
-        group.order_places()
-        write_places(CASES, group.crate, [it for it in group.cases if it in run.placed])
     print("\n".join(run.table()))
     print(f"{len(run.faults) - len(known)} wrong bodies were tried, and {len(known)} are kept, which a run on this machine refused before")
     failed = sum(1 for it in run.faults.values() if it)
