@@ -4,6 +4,7 @@ A case says at which declarations its proof fails. It is tried with others that 
 In such a run it is refused by an error in a declaration that the proof of its function uses, and whose check reads nothing that the
 others change, with all of them in their places: so the same error stands there where the case is tried alone.
 """
+import functools
 import os
 import re
 
@@ -69,17 +70,15 @@ class Apart:
         return True
 
     def errors_told(self, cases):
-        """Tells for a case of these, that are tried together, a function, and the folder of its proof, whether an error is for that case."""
+        """Tells for a case of these, that are tried together, and the folder of a function's proof, or None where a file is to be refused,
+        whether an error is for that case."""
         wrong = Dependencies(self.crates, self.names, self.texts_with(cases))
-        known = {}
+        used = functools.cache(wrong.behind)
 
-        def is_for(case, function, proof, error):
+        def is_for(case, proof, error):
             place = place_of(error)
-            if place not in wrong.all:
+            if place not in wrong.all or proof is not None and place not in used(case.crate, proof):
                 return False
-            if (case.crate, proof, function) not in known:
-                known[case.crate, proof, function] = proof is None or wrong.behind(case.crate, proof, function)
-            used = known[case.crate, proof, function]
-            return (used is True or place in used) and not self.touching(cases, case, wrong.read_by(place))
+            return not self.touching(cases, case, wrong.read_by(place))
 
         return is_for

@@ -235,6 +235,9 @@ def tried(folder):
     for said, wanted in ERRORS.items():
         error = wrong.Error(LEMMAS, None, said)
         right.append(is_as(f"whose error it is: {said}", wanted, [is_own("law", error) for is_own in owners]))
+    error = wrong.Error(LEMMAS, None, "`of_double`: the types differ")
+    for refused, wanted in (("proofs/Lemmas.antt", [True, False]), ("no_law", [False, False])):
+        right.append(is_as(f"whose error it is for {refused}", wanted, [is_own(refused, error) for is_own in owners]))
     cases[0].shown, cases[4].shown = ["of_both", "alike"], ["of_opened"]
     wrong.write_places(crates, "mid", [cases[0], cases[4], cases[5]])
     got = [it.places for it in wrong.cases_in(os.path.join(crates, "mid.cases"))]

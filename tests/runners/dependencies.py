@@ -15,8 +15,7 @@ import re
 
 from bodies import CYCLE, HEAD, opening
 
-# A declaration: all its text, that which others read who name it, and the text by which names are found that it is read with. Others read
-# all of it where it is open.
+# A declaration: all its text, the part of that which others read who name it, and whether they read all of it.
 Declaration = collections.namedtuple("Declaration", "text statement is_open")
 
 # The parts of a crate that a proof reads, and the endings of their files.
@@ -166,6 +165,16 @@ def cycles_in(text):
             yield from ((cycle[1], it[2]) for it in itertools.islice(filter(None, map(HEAD.match, lines[at:])), 1))
 
 
+def closed(start, steps_from):
+    """What can be come to from these by such steps, and these."""
+    found, left = set(start), list(start)
+    while left:
+        new = steps_from(left.pop()) - found
+        found |= new
+        left += new
+    return found
+
+
 class Dependencies:
     """What the declarations of crates in a folder rest on. Each is known by the path of its file from there, and its name. Some files may
     have other texts than stand there."""
@@ -253,24 +262,13 @@ class Dependencies:
 
     def read_by(self, it):
         """All that the check of a declaration reads, with whether all of it is read."""
-        found = {(it, True)}
-        left = list(found)
-        while left:
-            new = self.steps_from(left.pop()) - found
-            found |= new
-            left += new
-        return found
+        return closed([(it, True)], self.steps_from)
 
-    def behind(self, crate, proof, function):
-        """All declarations that the proof of a function uses, and those that these use, where it stands in this folder of the crate."""
+    def behind(self, crate, proof):
+        """All declarations that the proof of a function uses, which stands in this folder of the crate, and those that these use."""
         folder = os.path.join(crate, "proofs", proof, "")
-        found = {it for it in self.all if it[0].startswith(folder)} | set(self.items.get((crate, function), ()))
-        left = list(found)
-        while left:
-            new = {it for it, _ in self.steps_from((left.pop(), True))} - found
-            found |= new
-            left += new
-        return found
+        own = [it for it in self.all if it[0].startswith(folder)]
+        return closed(own, lambda it: {other for other, _ in self.steps_from((it, True))})
 
     def changed_by(self, texts):
         """What these texts of files change, with whether those are changed by it who read all of that."""

@@ -642,8 +642,10 @@ class Group:
         proofs = collections.Counter(turned and turned.proof for _, turned in together)
         if not together[0][1] and len(together) > 1:
             is_for = self.told_apart.errors_told([case for case, _ in together])
+            # a law with nothing in its body has its proof where its path says
             homes = {it.function: it.proof for it in self.bodies.all}
-            return [lambda function, error, case=case: is_for(case, function, homes.get(function), error) for case, _ in together]
+            home_of = lambda it: None if is_file(it) else homes.get(it, it.replace("::", os.sep))
+            return [lambda function, error, case=case: is_for(case, home_of(function), error) for case, _ in together]
         return [is_goal_of if turned and proofs[turned.proof] > 1 else None for _, turned in together]
 
 
