@@ -7,5 +7,6 @@ pub mod Handed
 pub mod Instances
 pub mod FittedValues
 pub mod PassedValues
+pub mod PlainCalls
 -- new structs
 pub mod NewStructs

@@ -7,3 +7,4 @@ pub mod Instances
 pub mod Fitting
 pub mod Calls
 pub mod Passing
+pub mod Plain

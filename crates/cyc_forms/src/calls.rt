@@ -24,6 +24,7 @@ use crate::fitting::fits;
 use crate::instance::{instance_of, no_places};
 use crate::nodes::boxed;
 use crate::passing::{demand_count, demand_variables, pass, set_all_kinds};
+use crate::plain::{is_taken, taken};
 use cyc_scope::{Meaning, Scope, Settled, Stop, refused};
 use cyc_syntax::{Expr, Ident};
 use cyc_types::typed::{Callee, Converted, ValueType};
@@ -214,7 +215,7 @@ fn call(
 
 /// The call of a function with these parameters, where each value is converted to the type at its place.
 #[inline(never)]
-fn call_with(
+pub(crate) fn call_with(
     alloc: Global,
     span: Span,
     callee: Callee,
@@ -268,13 +269,12 @@ pub fn called(
         Meaning::Variable { .. } | Meaning::Fixed { .. } | Meaning::Counter { .. } => {
             Err(refused(Code::TypeMismatch, function.span))
         }
-        Meaning::Routine { callee, signature } => called_by(
-            scope,
-            callee,
-            signature,
-            function.span,
-            expressions,
-            values,
-        ),
+        Meaning::Routine { callee, signature } => {
+            let span = function.span;
+            if is_taken(scope, function, callee, signature, &values) {
+                return taken(scope, callee, signature, span, expressions, values);
+            }
+            called_by(scope, callee, signature, span, expressions, values)
+        }
     }
 }

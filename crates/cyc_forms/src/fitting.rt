@@ -61,7 +61,7 @@ fn fits_regions(table: &mut [Option<Region>], wanted: &[Region], regions: &[Regi
     true
 }
 
-fn same_mark(a: PointerKind, b: PointerKind) -> bool
+pub(crate) fn same_mark(a: PointerKind, b: PointerKind) -> bool
     ensures { result ≡ mark_eq a b }
 {
     match (a, b) {

@@ -32,6 +32,7 @@ mod operands;
 mod operators;
 mod passing;
 mod places;
+mod plain;
 pub mod types;
 mod unary;
 mod variables;

@@ -1,4 +1,5 @@
 -- what the crates above cite
+pub mod PlainLemmas
 -- what is live in the whole body
 mod ThroughoutLemmas
 -- the tables of names

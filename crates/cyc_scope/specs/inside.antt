@@ -3,6 +3,7 @@ pub mod Code
 pub mod Meanings
 pub mod Marks
 pub mod Bodies
+pub mod Plain
 -- what the functions inside the crate promise each other
 pub mod Codes
 pub mod Tables

@@ -1,23 +1,18 @@
 //! The functions and globals of a program, found by their names in constant time.
 
 use crate::meaning::Meaning;
+use crate::routine::Routine;
 use crate::stop::Stop;
 use crate::table::grow;
 use cyc_types::typed::{Callee, Lvalue};
-use cyc_types::{Region, Signature, Ty};
+use cyc_types::{Region, Ty};
 use std::alloc::Global;
 use std::marker::Model;
 
 #[derive(Drop)]
 pub(crate) enum Entity {
-    Global {
-        number: usize,
-        of_type: Ty,
-    },
-    Function {
-        callee: Callee,
-        signature: Signature,
-    },
+    Global { number: usize, of_type: Ty },
+    Function { callee: Callee, routine: Routine },
 }
 
 /// A function or a global.
@@ -54,7 +49,8 @@ impl Model for Declared {
 }
 
 impl Entry {
-    ghost use Rattle.std.specs.Prelude.{◌≡◌};
+    ghost use Rattle.std.specs.Prelude.{◌≡◌, IsTrue};
+    ghost use Rattle.cyc_scope.specs.inside.Plain.{IsPlainRoutine};
     ghost use Rattle.cyc_scope.specs.inside.Meanings.{view_meaning};
     ghost use Rattle.cyc_scope.specs.inside.Entries.{view_entity};
 
@@ -67,21 +63,32 @@ impl Entry {
                 of_type,
                 home: Region::Heap,
             },
-            Entity::Function { callee, signature } => Meaning::Routine {
+            Entity::Function { callee, routine } => Meaning::Routine {
                 callee: *callee,
-                signature,
+                signature: routine.signature(),
             },
+        }
+    }
+
+    /// Whether it is a function of a plain signature.
+    fn is_plain(&self) -> bool
+        ensures { IsTrue result → IsPlainRoutine (view_entity self.now.entity) }
+    {
+        match &self.entity {
+            Entity::Global { .. } => false,
+            Entity::Function { routine, .. } => routine.is_plain(),
         }
     }
 }
 
 impl Declared {
-    ghost use Rattle.std.specs.Prelude.{◌≡◌, [], ◌∷◌, ◌++◌, option_map, OnOk, IfErr};
+    ghost use Rattle.std.specs.Prelude.{◌≡◌, [], ◌∷◌, ◌++◌, option_map, IsTrue, OnOk, IfErr};
     ghost use Rattle.cyc_types.specs.typing.Scopes.{meaning_in};
     ghost use Rattle.cyc_scope.specs.declared.stop.Stop.TheVariants.{Memory};
     ghost use Rattle.cyc_scope.specs.inside.Tables.{first_place, declared_names, first_declared};
     ghost use Rattle.cyc_scope.specs.inside.Meanings.{view_meaning};
     ghost use Rattle.cyc_scope.specs.inside.Entries.{view_entity, view_entry};
+    ghost use Rattle.cyc_scope.specs.inside.Plain.{IsPlainRoutine};
 
     pub(crate) fn new(alloc: Global) -> Declared
         ensures { result ≡ [] }
@@ -119,6 +126,16 @@ impl Declared {
         match self.find(name) {
             Some(entry) => entry.meaning(),
             None => Meaning::Unknown,
+        }
+    }
+
+    /// Whether a name is that of a function of a plain signature.
+    pub(crate) fn is_plain(&self, name: usize) -> bool
+        ensures { IsTrue result → IsPlainRoutine (meaning_in self.now name) }
+    {
+        match self.find(name) {
+            Some(entry) => entry.is_plain(),
+            None => false,
         }
     }
 

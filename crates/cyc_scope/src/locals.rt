@@ -138,6 +138,7 @@ impl Locals {
     }
 
     /// What a name means as a local.
+    #[inline]
     #[tactic(auto, using(crate::proofs::LocalLemmas::meaning_found, crate::proofs::LocalLemmas::meaning_lost))]
     pub(crate) fn meaning(&self, name: Ident) -> Option<Meaning<'_>>
         ensures { (ds : List Declared) → meaning_among self.now ds (view_name name) ≡ meaning_or (meaning_in ds name.name.number) (option_map view_meaning result) }

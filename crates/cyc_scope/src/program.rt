@@ -3,6 +3,7 @@
 use crate::declared::{Declared, Entity};
 use crate::exceptions::{Exceptions, Thrown};
 use crate::meaning::Meaning;
+use crate::routine::Routine;
 use crate::stop::Stop;
 use cyc_types::typed::Callee;
 use cyc_types::{Known, Signature, Ty};
@@ -43,7 +44,7 @@ impl Model for Program {
 }
 
 impl Program {
-    ghost use Rattle.std.specs.Prelude.{◌≡◌, [], ◌∷◌, ◌++◌, map, slice_get, unwrap_or, option_map, OnOk, IfErr, IfSome};
+    ghost use Rattle.std.specs.Prelude.{◌≡◌, [], ◌∷◌, ◌++◌, map, slice_get, unwrap_or, option_map, IsTrue, OnOk, IfErr, IfSome};
     ghost use Rattle.cyc_types.specs.declared.region.Region.TheVariants as regions;
     ghost use Rattle.cyc_types.specs.TypedTrees as typed;
     ghost use Rattle.cyc_types.specs.TypeView.{view_ty};
@@ -53,6 +54,7 @@ impl Program {
     ghost use Rattle.cyc_scope.specs.declared.stop.Stop.TheVariants.{Memory};
     ghost use Rattle.cyc_scope.specs.inside.Meanings.{view_meaning};
     ghost use Rattle.cyc_scope.specs.inside.Entries.{view_field, view_fields};
+    ghost use Rattle.cyc_scope.specs.inside.Plain.{IsPlainRoutine};
 
     /// A program of which only this is known so far.
     pub fn new(alloc: Global, known: Known) -> Program
@@ -98,6 +100,13 @@ impl Program {
         self.declared.meaning(name)
     }
 
+    /// Whether a name that no local has is that of a function of a plain signature.
+    pub(crate) fn is_plain(&self, name: usize) -> bool
+        ensures { IsTrue result → IsPlainRoutine (scopes.meaning_in self.now.declared name) }
+    {
+        self.declared.is_plain(name)
+    }
+
     /// The fields of the next struct.
     pub fn add_fields(&mut self, fields: Vec<Field>) -> Result<(), Stop>
         ensures added { OnOk result (self.new ≡ record self.old { fields = self.old.fields ++ view_fields fields ∷ [] }) }
@@ -134,7 +143,12 @@ impl Program {
         ensures declared { OnOk result (self.new ≡ record self.old { declared = self.old.declared ++ record { name = name; meaning = scopes.Routine callee (view_signature signature) } ∷ [] }) }
         ensures memory { IfErr result (λ e. e ≡ Memory) }
     {
-        self.declared
-            .declare(name, Entity::Function { callee, signature })
+        self.declared.declare(
+            name,
+            Entity::Function {
+                callee,
+                routine: Routine::new(signature),
+            },
+        )
     }
 }

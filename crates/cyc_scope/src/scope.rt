@@ -85,7 +85,7 @@ impl<'a> Model for Scope<'a> {
 }
 
 impl<'a> Scope<'a> {
-    ghost use Rattle.std.specs.Prelude.{◌≡◌, [], map, slice_get, unwrap_or, option_map, OnOk, IfErr, IfSome};
+    ghost use Rattle.std.specs.Prelude.{◌≡◌, [], map, slice_get, unwrap_or, option_map, IsTrue, OnOk, IfErr, IfSome};
     ghost use Rattle.cyc_syntax.specs.inside.TreeView.{view_name};
     ghost use Rattle.cyc_types.specs.declared.scope.Kind.TheVariants as kinds;
     ghost use Rattle.cyc_types.specs.TypeView.{view_ty};
@@ -97,6 +97,7 @@ impl<'a> Scope<'a> {
     ghost use Rattle.cyc_scope.specs.inside.Meanings.{view_meaning};
     ghost use Rattle.cyc_scope.specs.inside.Entries.{view_field, view_sort};
     ghost use Rattle.cyc_scope.specs.inside.Marks.{IsInOrder, mark_of, left_to, with_next_opened};
+    ghost use Rattle.cyc_scope.specs.inside.Plain.{IsPlainRoutine};
 
     /// The allocator of all that a check makes.
     pub fn alloc(&self) -> Global {
@@ -177,6 +178,16 @@ impl<'a> Scope<'a> {
         match self.locals.meaning(name) {
             Some(meaning) => meaning,
             None => self.program.meaning(name.name.number),
+        }
+    }
+
+    /// Whether a name means a function of a plain signature here.
+    pub fn is_plain(&self, name: Ident) -> bool
+        ensures { IsTrue result → IsPlainRoutine (meaning_of self.now (view_name name)) }
+    {
+        match self.locals.meaning(name) {
+            Some(_) => false,
+            None => self.program.is_plain(name.name.number),
         }
     }
 

@@ -5,7 +5,6 @@ use Rattle.std.specs.declared.alloc.Global.{Global}
 use Rattle.cyc_types.specs.declared.region.Region.TheVariants as regions
 use Rattle.cyc_types.specs.TypedTrees as typed
 use Rattle.cyc_types.specs.TypeView.{view_ty}
-use Rattle.cyc_types.specs.inside.SignatureView.{view_signature}
 use Rattle.cyc_types.specs.typing.Scopes.{Exception, Meaning, Variable, Routine, Declared, Sort, Ordinary, OfRegion, OfLoop, LocalVariable}
 use Rattle.cyc_types.specs.typing.Scopes as scopes
 use Rattle.cyc_scope.specs.declared.program.Field.{Field}
@@ -32,7 +31,7 @@ view_exception e = record { name = e.name; has_int = e.has_int }
 
 abbrev pub view_entity : Entity → Meaning
 view_entity (entity.Global n t) = Variable (typed.Global n) (view_ty t) regions.Heap
-view_entity (entity.Function f s) = Routine f (view_signature s)
+view_entity (entity.Function f s) = Routine f s
 
 abbrev pub view_entry : Entry → Declared
 view_entry e = record { name = e.name; meaning = view_entity e.entity }
