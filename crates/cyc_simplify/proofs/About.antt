@@ -1,11 +1,13 @@
 -- The record of the slots that facts are about has each of them: where a slot that it does not have is written, all facts stay.
-use Rattle.std.proofs.Common.{◌≡◌, ℕ, ◌-◌, ◌^◌, ◌%◌, ◌<◌, true, false, List, [], ◌∷◌, drop, length, Some, refl, ap, sym, ◌∙◌, arith, inl, inr}
+use Rattle.std.proofs.Common.{◌≡◌, ℕ, ◌-◌, ◌^◌, ◌%◌, ◌<◌, Bool, true, false, List, [], ◌∷◌, drop, length, Option, Some, None, refl, ap, sym, ◌∙◌, arith, inl, inr}
 use Rattle.std.specs.Prelude.{◌==◌, ◌&&◌, bit_and, bit_or, if◌then◌else◌, nat_lt}
 use Rattle.std.specs.Int.{bit_at}
 use Rattle.std.proofs.lemmas.Nat.Bits.{bit_at_ones}
-use Rattle.std.proofs.lemmas.Bool.{and_from, and_left, cases_lt, cond_both, cond-true, ne_eqb, or_from}
+use Rattle.std.proofs.lemmas.Bool.{and_from, and_left, and_right, cases_lt, cond_both, cond-true, ne_eqb, or_from}
 use Rattle.cyc_words.proofs.Lists.{all_append}
 use Rattle.cyc_words.proofs.Bits.{apart_bits, bit_left, bit_right}
+use Rattle.cyc_plain.specs.declared.instruction.BinaryOperator.{BinaryOperator}
+use Rattle.cyc_plain.specs.declared.instruction.Instruction.TheVariants as instructions
 use Rattle.cyc_plain.specs.declared.instruction.Operand.{Operand}
 use Rattle.cyc_plain.specs.declared.instruction.Operand.TheVariants as operands
 use Rattle.cyc_simplify.specs.declared.fact.Fact.{Fact}
@@ -16,6 +18,8 @@ use Rattle.cyc_simplify.specs.declared.fact.Written.{Written}
 use Rattle.cyc_simplify.specs.declared.fact.TheConstants.{MOST_FACTS}
 use Rattle.cyc_simplify.specs.inside.Copies.{IsAboutOperand, IsAbout, AreAbout}
 use Rattle.cyc_simplify.specs.inside.Facts.{leaves_slot, leaves_operand, keeps, kept, remembered, is_same_operand, is_known}
+use Rattle.cyc_simplify.specs.inside.Facts.{is_same_operator}
+use Rattle.cyc_simplify.specs.inside.Replacement.{or_number, word_in, folded_of, may_fold, folded_in, is_truth_test, own_slot, or_slot, holder_in, simplified_binary, simplified_of}
 use Rattle.cyc_simplify.proofs.Keeping.{left_below, left_at}
 
 pub all_about : (facts : List Fact) → AreAbout (2 ^ 64 - 1) facts
@@ -129,3 +133,47 @@ module _ (slots bit slot : ℕ) (none : bit_and slots bit ≡ 0) (its : bit_at b
   not_known operand (facts_are.Computed number operator l r ∷ facts) (first, rest) = not_known operand facts rest
   not_known operand (facts_are.Holds comparison l r ∷ facts) (first, rest) = not_known operand facts rest
   not_known operand (facts_are.Held address offset value ∷ facts) (first, rest) = not_known operand facts rest
+
+  -- ---- what is computed of it is not known
+
+  no_word : (facts : List Fact) → AreAbout slots facts → word_in facts (operands.Slot slot) ≡ None
+  no_word [] are = refl
+  no_word (facts_are.Equal number (operands.Word word) ∷ facts) ((is, about), rest) =
+      ap (λ (here : Bool). or_number (if here then Some word else None) (word_in facts (operands.Slot slot)))
+      (ne_eqb slot number (λ same. apart number is (sym same)))
+      ∙ no_word facts rest
+  no_word (facts_are.Equal number (operands.Slot other) ∷ facts) (first, rest) = no_word facts rest
+  no_word (facts_are.Computed number operator l r ∷ facts) (first, rest) = no_word facts rest
+  no_word (facts_are.Holds comparison l r ∷ facts) (first, rest) = no_word facts rest
+  no_word (facts_are.Held address offset value ∷ facts) (first, rest) = no_word facts rest
+
+  other_operand : (operand : Operand) → IsAboutOperand slots operand → is_same_operand operand (operands.Slot slot) ≡ false
+  other_operand (operands.Slot number) is = ne_eqb number slot (apart number is)
+  other_operand (operands.Word word) is = refl
+
+  no_holder : (operator : BinaryOperator) (right : Operand) (facts : List Fact) → AreAbout slots facts → holder_in facts operator (operands.Slot slot) right ≡ None
+  no_holder operator right [] are = refl
+  no_holder operator right (facts_are.Equal number other ∷ facts) (first, rest) = no_holder operator right facts rest
+  no_holder operator right (facts_are.Computed number other l r ∷ facts) ((is, (one, two)), rest) =
+      ap (λ (here : Bool). or_slot (if here then Some number else None) (holder_in facts operator (operands.Slot slot) right))
+      (and_right (is_same_operator other operator) (is_same_operand l (operands.Slot slot) && is_same_operand r right)
+      (and_left (is_same_operand l (operands.Slot slot)) (is_same_operand r right) (other_operand l one)))
+      ∙ no_holder operator right facts rest
+  no_holder operator right (facts_are.Holds comparison l bound ∷ facts) ((one, two), rest) =
+      ap (λ (here : Bool). or_slot (if here then own_slot l else None) (holder_in facts operator (operands.Slot slot) right))
+      (and_left (is_same_operand l (operands.Slot slot)) (is_truth_test comparison bound operator right) (other_operand l one))
+      ∙ no_holder operator right facts rest
+  no_holder operator right (facts_are.Held address offset value ∷ facts) (first, rest) = no_holder operator right facts rest
+
+  not_folded : (operator : BinaryOperator) (right : Operand) (facts : List Fact) → AreAbout slots facts → folded_in facts operator (operands.Slot slot) right ≡ None
+  not_folded operator right [] are = refl
+  not_folded operator right (fact ∷ facts) are =
+      ap (λ (word : Option ℕ). folded_of operator word (word_in (fact ∷ facts) right)) (no_word (fact ∷ facts) are)
+
+  pub stays_computed : (operator : BinaryOperator) (destination : ℕ) (right : Operand) (facts : List Fact) → AreAbout slots facts
+      → simplified_of facts operator destination (operands.Slot slot) right ≡ instructions.Binary operator destination (operands.Slot slot) right
+  stays_computed operator destination right facts are =
+      ap (λ (word : Option ℕ). simplified_binary word (holder_in facts operator (operands.Slot slot) right) operator destination (operands.Slot slot) right)
+      (cond_both (may_fold destination (operands.Slot slot) right) (folded_in facts operator (operands.Slot slot) right) None (λ (word : Option ℕ). word ≡ None)
+      (λ is. not_folded operator right facts are) (λ is. refl))
+      ∙ ap (λ (number : Option ℕ). simplified_binary None number operator destination (operands.Slot slot) right) (no_holder operator right facts are)

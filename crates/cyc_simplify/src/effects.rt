@@ -109,6 +109,26 @@ fn remember_truth(
     }
 }
 
+/// What is known of a slot that gets a word is forgotten. Where nothing is known there is nothing to look at.
+fn leave_others(pinned: &[bool], facts: &mut Facts, destination: usize)
+    ensures { facts.new ≡ facts_of.kept (record { first = destination; count = 1 }) (facts_of.touched_by pinned.now destination) facts.old }
+{
+    if facts.all().is_empty() {
+        return;
+    }
+    facts.keep(one(destination), touched_by(pinned, destination));
+}
+
+/// What is known of what an instruction writes and changes is forgotten. Where nothing is known there is nothing to look at.
+fn leave(plain: &Plain, pinned: &[bool], facts: &mut Facts, instruction: Instruction)
+    ensures { facts.new ≡ facts_of.kept (facts_of.written plain.now instruction) (facts_of.touched pinned.now instruction) facts.old }
+{
+    if facts.all().is_empty() {
+        return;
+    }
+    facts.keep(written(plain, instruction), touched(pinned, instruction));
+}
+
 /// What is known behind an operator.
 fn compute(
     pinned: &[bool],
@@ -120,7 +140,7 @@ fn compute(
 ) -> Result<(), AllocError>
     ensures { OnOk result (facts.new ≡ facts_of.facts_behind_operator pinned.now facts.old operator destination left right) }
 {
-    facts.keep(one(destination), touched_by(pinned, destination));
+    leave_others(pinned, facts, destination);
     remember_truth(pinned, facts, operator, destination)?;
     remember_result(pinned, facts, operator, destination, left, right)
 }
@@ -136,7 +156,7 @@ fn go_on_otherwise(
     requires { index + 1 < 2 ^ 64 }
     ensures { OnOk result (facts.new ≡ facts_of.facts_behind plain.now pinned.now facts.old instruction index (index + 1)) }
 {
-    facts.keep(written(plain, instruction), touched(pinned, instruction));
+    leave(plain, pinned, facts, instruction);
     remember_copies(pinned, facts, instruction)?;
     remember_test(pinned, facts, instruction)?;
     facts.remember(made(pinned, instruction, index, index + 1))

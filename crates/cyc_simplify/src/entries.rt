@@ -43,6 +43,8 @@ pub(crate) struct Search {
     before: Vec<Fact>,
     /// The region that was begun last.
     pub(crate) region: Region,
+    /// Whether code is gone through once, and what is known at its heads then is right or not.
+    is_short: bool,
 }
 
 /// The furthest place to which the code jumps from a place, or from which it jumps back to that.
@@ -181,7 +183,11 @@ fn unknown(alloc: Global, code: &[Instruction], count: usize) -> Result<Vec<Entr
 }
 
 impl Search {
-    pub(crate) fn new(alloc: Global, code: &[Instruction]) -> Result<Search, AllocError> {
+    pub(crate) fn new(
+        alloc: Global,
+        code: &[Instruction],
+        is_short: bool,
+    ) -> Result<Search, AllocError> {
         let heads = heads_of(alloc, code)?;
         let guesses = unknown(alloc, code, count_to_end(&heads, code))?;
         Ok(Search {
@@ -194,6 +200,7 @@ impl Search {
                 end: 0,
                 is_searched: false,
             },
+            is_short,
         })
     }
 
@@ -207,17 +214,18 @@ impl Search {
 
     /// The code comes to a place from the instruction before it, if a run does. What is known becomes what is known at the place.
     fn come_next(&mut self, code: &[Instruction], place: usize) -> Result<(), AllocError> {
-        if self.is_joined(place) {
-            if is_unreached(self.facts.all()) {
-                self.facts.clear();
-            } else {
-                come_to(&mut self.guesses, code, place, self.facts.all(), None)?;
-            }
+        if !self.is_joined(place) {
+            return Ok(());
+        }
+        if is_unreached(self.facts.all()) {
+            self.facts.clear();
+        } else {
+            come_to(&mut self.guesses, code, place, self.facts.all(), None)?;
         }
         enter(&self.guesses, place, &mut self.facts)
     }
 
-    /// One instruction. Answers whether what was known where it jumps back to was known here.
+    /// One instruction: where no run comes nothing is looked at. Answers whether what was known where it jumps back to was known here.
     fn pass(
         &mut self,
         plain: &Plain,
@@ -227,16 +235,17 @@ impl Search {
     ) -> Result<bool, AllocError>
         requires { index < length function.now.code.items }
     {
+        if is_unreached(self.facts.all()) {
+            return Ok(true);
+        }
         let count = function.code.len();
         let instruction = put_at(&self.facts, index, count, function.code[index]);
         let mut is_settled = true;
         if let Some(target) = target_of(instruction) {
-            if !is_unreached(self.facts.all()) {
-                let more = made(pinned, instruction, index, target);
-                let facts = self.facts.all();
-                let is_still = come_to(&mut self.guesses, &function.code, target, facts, more)?;
-                is_settled = is_still || target > index;
-            }
+            let more = made(pinned, instruction, index, target);
+            let facts = self.facts.all();
+            let is_still = come_to(&mut self.guesses, &function.code, target, facts, more)?;
+            is_settled = is_still || target > index;
         }
         come_behind(plain, pinned, &mut self.facts, instruction, index)?;
         Ok(is_settled)
@@ -264,13 +273,17 @@ impl Search {
     }
 
     /// What is known elsewhere in a region than at heads is to be found once more, but where a run ends, to which others may jump too.
-    fn forget(&mut self, code: &[Instruction]) {
+    /// Answers whether something leads to each head.
+    fn forget(&mut self, code: &[Instruction]) -> bool {
+        let mut are_led_to = true;
         for index in self.region.first..self.region.end {
             let is_head = is_head(&self.heads, index);
             if let Some(guess) = self.guesses.get_mut(index) {
+                are_led_to = are_led_to && (guess.is_target || !is_head);
                 guess.is_target = guess.is_target && (is_head || is_end(code, index));
             }
         }
+        are_led_to
     }
 
     /// At heads nothing is known, and elsewhere in a region it is to be found once more.
@@ -293,7 +306,7 @@ impl Search {
         Ok(())
     }
 
-    /// What is known at each place of a region that is jumped to.
+    /// What is known at each place of a region that is jumped to. A short search leaves all but its heads to the walk, where they changed.
     fn settle(
         &mut self,
         plain: &Plain,
@@ -306,7 +319,10 @@ impl Search {
             if self.go_through(plain, function, pinned)? {
                 return Ok(());
             }
-            self.forget(&function.code);
+            if self.forget(&function.code) && self.is_short {
+                self.region.is_searched = false;
+                return Ok(());
+            }
             self.come_again()?;
         }
         self.forget_heads(&function.code);

@@ -100,7 +100,7 @@ fn restrict(asked: &mut Vec<Fact>, facts: &[Fact], more: Option<Fact>) -> bool
         let fact = asked[kept];
         let place = found_from(facts, next, &fact);
         next = next_place(facts, place, next);
-        if follows_found(facts, more, fact, place) {
+        if follows_found(facts, &more, &fact, place) {
             kept += 1;
         } else {
             asked.remove(kept);

@@ -8,6 +8,7 @@ ghost use Rattle.cyc_simplify.specs.inside.Copies.{IsMarked, AreMarked, IsAboutO
 use crate::changes::{changes_nothing, keep};
 use crate::effects::remember;
 use crate::fact::{Fact, Touched, Written};
+use crate::known::is_unreached;
 use cyc_plain::Operand;
 use std::alloc::{AllocError, Global};
 use std::marker::Model;
@@ -113,11 +114,12 @@ fn slots_in(facts: &[Fact]) -> u64
     slots
 }
 
-/// The bits of the slots that facts are about behind an instruction: they are found anew where one slot is written.
-fn slots_behind(slots: u64, facts: &[Fact], written: Written) -> u64
+/// The bits of the slots that facts are about behind an instruction, before which there were so many. They are found anew where one slot is
+/// written and none was forgotten: its bit is that of another slot, or of one that no fact is about any more.
+fn slots_behind(slots: u64, facts: &[Fact], written: Written, count: usize) -> u64
     ensures { AreAbout slots facts.now → AreAbout result facts.now }
 {
-    if written.count == 1 {
+    if written.count == 1 && facts.len() == count {
         slots_in(facts)
     } else {
         slots
@@ -125,11 +127,21 @@ fn slots_behind(slots: u64, facts: &[Fact], written: Written) -> u64
 }
 
 impl Facts {
-    ghost use Rattle.std.specs.Prelude.{◌≡◌, [], false, true, OnOk, Some};
+    ghost use Rattle.std.specs.Prelude.{◌≡◌, ℕ, [], ◌∷◌, false, true, OnOk, Some};
+    ghost use Rattle.cyc_plain.specs.declared.instruction.BinaryOperator.{BinaryOperator};
+    ghost use Rattle.cyc_plain.specs.declared.instruction.Instruction.TheVariants as instructions;
     ghost use Rattle.cyc_plain.specs.declared.instruction.Operand.{Operand};
     ghost use Rattle.cyc_simplify.specs.declared.fact.Fact.TheVariants as facts_are;
     ghost use Rattle.cyc_simplify.specs.inside.Facts as facts_of;
     ghost use Rattle.cyc_simplify.specs.inside.Replacement as replacement;
+
+    /// Whether it is noted that no run comes to the place, and nothing else.
+    #[tactic(auto, using(crate::proofs::Straight::never_alone))]
+    pub(crate) fn are_of_no_run(&self) -> bool
+        ensures { result ≡ true → self.now ≡ facts_of.never ∷ [] }
+    {
+        self.facts.len() == 1 && is_unreached(&self.facts)
+    }
 
     /// Nothing is known.
     pub(crate) fn new(alloc: Global) -> Facts
@@ -187,6 +199,17 @@ impl Facts {
         self.slots & bit_of(slot) != 0
     }
 
+    /// Whether a fact may be about what is computed of an operand. Where none is about a slot, no slot holds what is computed of it.
+    pub(crate) fn may_tell_of(&self, operand: Operand) -> bool
+        ensures { result ≡ false → (operator : BinaryOperator) (destination : ℕ) (right : Operand)
+            → replacement.simplified_of self.now operator destination operand right ≡ instructions.Binary operator destination operand right }
+    {
+        match operand {
+            Operand::Slot { number } => self.slots & bit_of(number) != 0,
+            Operand::Word { .. } => true,
+        }
+    }
+
     /// Whether it is seen at once that no fact is about what is written and changed: one slot, in most instructions.
     fn leaves_all(&self, slots: Written, touched: Touched) -> bool
         ensures { result ≡ true → facts_of.kept slots touched self.now ≡ self.now }
@@ -207,8 +230,9 @@ impl Facts {
         if self.leaves_all(slots, touched) {
             return;
         }
+        let count = self.facts.len();
         keep(&mut self.facts, slots, touched);
-        self.slots = slots_behind(self.slots, &self.facts, slots);
+        self.slots = slots_behind(self.slots, &self.facts, slots, count);
     }
 
     /// A fact more, in place of the oldest where there are as many as there may be.

@@ -425,11 +425,11 @@ pub(crate) fn found_from(facts: &[Fact], place: usize, fact: &Fact) -> usize
 
 /// Whether a fact follows that was found at a place, if there is one. The one more is asked for last, and stands nowhere.
 #[tactic(auto, using(crate::proofs::Found::known_follows, crate::proofs::Found::more_follows))]
-pub(crate) fn follows_found(facts: &[Fact], more: Option<Fact>, fact: Fact, place: usize) -> bool
-    requires { place < length facts.now → facts_of.is_known facts.now fact ≡ true }
-    ensures { result ≡ table.follows facts.now more fact }
+pub(crate) fn follows_found(facts: &[Fact], more: &Option<Fact>, fact: &Fact, place: usize) -> bool
+    requires { place < length facts.now → facts_of.is_known facts.now fact.now ≡ true }
+    ensures { result ≡ table.follows facts.now more.now fact.now }
 {
-    place < facts.len() || (is_more(more, fact) || follows(facts, more, fact))
+    place < facts.len() || (is_more(*more, *fact) || follows(facts, *more, *fact))
 }
 
 /// Where what is asked for next is looked for first: behind the place where a fact was found, if it was.
@@ -444,7 +444,7 @@ pub(crate) fn are_known(asked: &[Fact], facts: &[Fact], more: Option<Fact>) -> b
     let mut next = 0;
     for fact in asked {
         let place = found_from(facts, next, fact);
-        if !follows_found(facts, more, *fact, place) {
+        if !follows_found(facts, &more, fact, place) {
             return false;
         }
         next = next_place(facts, place, next);

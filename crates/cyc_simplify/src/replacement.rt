@@ -467,6 +467,14 @@ fn computed_in(
 {
     let left = simplified_operand(facts, left);
     let right = right_operand(facts.all(), operator, simplified_operand(facts, right));
+    if !facts.may_tell_of(left) {
+        return Instruction::Binary {
+            operator,
+            destination,
+            left,
+            right,
+        };
+    }
     simplified_binary(facts.all(), operator, destination, left, right)
 }
 

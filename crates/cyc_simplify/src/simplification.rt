@@ -10,7 +10,7 @@ use crate::candidates::is_candidate;
 use crate::pins::pins_of;
 use crate::room::spare;
 use crate::tail::without_tail;
-use crate::walk::walked;
+use crate::walk::walked_soon;
 use cyc_plain::{Function, Instruction, Plain};
 use std::alloc::{AllocError, Global};
 
@@ -24,7 +24,7 @@ fn simplified_code(
 {
     if is_candidate(&function.code) {
         let pinned = pins_of(alloc, function)?;
-        if let Some(code) = walked(alloc, plain, function, &pinned)? {
+        if let Some(code) = walked_soon(alloc, plain, function, &pinned)? {
             return Ok(code);
         }
     }

@@ -77,6 +77,9 @@ pub(crate) fn come_behind(
     if goes_on(instruction) {
         return go_on(plain, pinned, facts, instruction, index);
     }
+    if facts.are_of_no_run() {
+        return Ok(());
+    }
     facts.clear();
     facts.remember(Some(never()))
 }
@@ -237,13 +240,23 @@ fn is_come_behind(
     Ok(goes_well(entries, behind, instruction, index))
 }
 
-/// Whether an instruction leads nowhere by a jump, and nothing leads by one to the place behind it, where no region begins either.
-fn is_straight(search: &Search, entries: &[Entry], instruction: Instruction, index: usize) -> bool
+/// Whether an instruction leads nowhere by a jump, and nothing leads by one to the place behind it, where no region begins either. A jump
+/// to which no run comes leads nowhere.
+fn is_straight(
+    search: &Search,
+    entries: &[Entry],
+    facts: &[Fact],
+    instruction: Instruction,
+    index: usize,
+) -> bool
     requires { index + 1 < 2 ^ 64 }
-    ensures { result ≡ true → entries_of.is_straight (entries_of.entry_in entries.now) instruction index ≡ true }
+    ensures { result ≡ true → entries_of.is_straight (entries_of.entry_in entries.now) facts.now instruction index ≡ true }
 {
     match instruction {
-        Instruction::Jump { .. } | Instruction::Branch { .. } | Instruction::Try { .. } => false,
+        Instruction::Branch { .. } | Instruction::Try { .. } => false,
+        Instruction::Jump { .. } => {
+            is_unreached(facts) && (!search.begins_at(index + 1) && !is_target(entries, index + 1))
+        }
         _ => !search.begins_at(index + 1) && !is_target(entries, index + 1),
     }
 }
@@ -318,7 +331,7 @@ fn is_passed(
         → facts.new ≡ table.entered_or (entries_of.entry_in entries.new.items (index + 1))
         (table.behind_put plain.now pinned.now facts.old instruction index)) }
 {
-    if is_straight(search, entries, instruction, index) {
+    if is_straight(search, entries, facts.all(), instruction, index) {
         come_behind(plain, pinned, facts, instruction, index)?;
         return Ok(true);
     }
@@ -342,18 +355,19 @@ fn instruction_at(function: &Function, index: usize) -> Instruction
 }
 
 /// The code of a function, each instruction by what is known where it stands, if what the search found is right.
-pub(crate) fn walked(
+fn walked(
     alloc: Global,
     plain: &Plain,
     function: &Function,
     pinned: &[bool],
+    is_short: bool,
 ) -> Result<Option<Vec<Instruction>>, AllocError>
     ensures { IfOk result (λ made. IfSome made (λ code.
         entries_of.IsWalkedBySome plain.now (routine_of function.now) pinned.now code.items)) }
 {
     let mut code = Vec::with_capacity(alloc, function.code.len())?;
     let mut entries = no_entries(alloc, function.code.len())?;
-    let mut search = Search::new(alloc, &function.code)?;
+    let mut search = Search::new(alloc, &function.code, is_short)?;
     let mut facts = Facts::new(alloc);
     come_next(
         plain,
@@ -382,4 +396,20 @@ pub(crate) fn walked(
         }
     }
     Ok(Some(code))
+}
+
+/// The same, by a short search where that finds what is right, as it mostly does.
+pub(crate) fn walked_soon(
+    alloc: Global,
+    plain: &Plain,
+    function: &Function,
+    pinned: &[bool],
+) -> Result<Option<Vec<Instruction>>, AllocError>
+    ensures { IfOk result (λ made. IfSome made (λ code.
+        entries_of.IsWalkedBySome plain.now (routine_of function.now) pinned.now code.items)) }
+{
+    if let Some(code) = walked(alloc, plain, function, pinned, true)? {
+        return Ok(Some(code));
+    }
+    walked(alloc, plain, function, pinned, false)
 }

@@ -52,12 +52,12 @@ abbrev pub is_entered : Option (List Fact) → Bool
 is_entered (Some facts) = true
 is_entered None = false
 
--- an instruction leads nowhere by a jump, and nothing leads by one to the place behind it
-abbrev pub is_straight : (entry : ℕ → Option (List Fact)) → Instruction → (index : ℕ) → Bool
-is_straight entry (instructions.Jump target) index = false
-is_straight entry (instructions.Branch comparison left right target) index = false
-is_straight entry (instructions.Try first handler) index = false
-is_straight entry i index = not (is_entered (entry (index + 1)))
+-- An instruction leads nowhere by a jump, and nothing leads by one to the place behind it. A jump to which no run comes leads nowhere.
+abbrev pub is_straight : (entry : ℕ → Option (List Fact)) → List Fact → Instruction → (index : ℕ) → Bool
+is_straight entry facts (instructions.Jump target) index = is_unreached facts && not (is_entered (entry (index + 1)))
+is_straight entry facts (instructions.Branch comparison left right target) index = false
+is_straight entry facts (instructions.Try first handler) index = false
+is_straight entry facts i index = not (is_entered (entry (index + 1)))
 
 -- the first instructions of a function, so many of them, were checked and simplified; behind them these facts are known
 pub record AreWalked (program : Program) (r : Routine) (pinned : List Bool) (entries : List Entry) (count : ℕ) (code : List Instruction) (facts : List Fact) : Type 0 where

@@ -2,20 +2,14 @@
 use Rattle.std.proofs.Common.{◌≡◌, ◌∙◌, ap, subst}
 use Rattle.std.specs.Prelude.{List, OnOk}
 use Rattle.cyc_simplify.specs.declared.fact.Fact.{Fact}
-use Rattle.cyc_simplify.specs.declared.fact.Touched.{Touched}
-use Rattle.cyc_simplify.specs.declared.fact.Written.{Written}
-use Rattle.cyc_simplify.specs.inside.Facts.{kept, computed, truth_of, remembered}
+use Rattle.cyc_simplify.specs.inside.Facts.{computed, truth_of, remembered}
 use Rattle.cyc_simplify.proofs.effects.compute.Goals as goal
 
 pub returns : goal.returns
 returns c =
     let a = c.args in
-    let keeps =
-    c.keep.ensures
-    ∙ ap (λ (w : Written). kept w c.touched_by.result a.facts.now) c.one.ensures
-    ∙ ap (λ (t : Touched). kept (record { first = a.destination; count = 1 }) t a.facts.now) c.touched_by.ensures in
     let truth =
     c.in_ok-remember_truth.ensures
-    ∙ ap (λ (facts : List Fact). remembered facts (truth_of a.pinned.now a.operator a.destination)) keeps in
+    ∙ ap (λ (facts : List Fact). remembered facts (truth_of a.pinned.now a.operator a.destination)) c.leave_others.ensures in
     subst (λ (facts : List Fact). OnOk c.remember_result.result (c.remember_result.new.facts ≡ remembered facts (computed a.pinned.now a.operator a.destination a.left a.right))) truth
     c.remember_result.ensures

@@ -1,6 +1,7 @@
 -- cyc_simplify/proofs/walk/is_passed/Answers.antt
 use Rattle.std.proofs.Common.{◌≡◌, ◌∙◌, true, List, subst}
 use Rattle.cyc_simplify.specs.declared.entry.Entry.{Entry}
+use Rattle.cyc_simplify.specs.declared.fact.Fact.{Fact}
 use Rattle.cyc_simplify.specs.inside.Entries.{entry_in, is_straight}
 use Rattle.cyc_simplify.proofs.Narrowed.{none_narrowed}
 use Rattle.cyc_simplify.proofs.Straight.{straight_on, straight_checked}
@@ -13,14 +14,16 @@ pub returns-then-is_straight-clause-checked : goal.returns-then-is_straight-clau
 returns-then-is_straight-clause-checked c is_right =
     let a = c.args in
     let straight =
-    subst (λ (entries : List Entry). is_straight (entry_in entries) a.instruction a.index ≡ true) c.deref.ensures.value
-    (c.is_straight.ensures c.if-is_straight.true) in
-    straight_checked (entry_in a.entries.now.items) a.index a.plain.now a.pinned.now a.facts.now a.instruction straight
+    subst (λ (facts : List Fact). is_straight (entry_in a.entries.now.items) facts a.instruction a.index ≡ true) c.all.ensures
+    (subst (λ (entries : List Entry). is_straight (entry_in entries) c.all.result.now a.instruction a.index ≡ true) c.deref.ensures.value
+    (c.is_straight.ensures c.if-is_straight.true)) in
+    straight_checked (entry_in a.entries.now.items) a.facts.now a.index a.plain.now a.pinned.now a.instruction straight
 
 pub returns-then-is_straight-clause-facts : goal.returns-then-is_straight-clause-facts
 returns-then-is_straight-clause-facts c is_right =
     let a = c.args in
     let straight =
-    subst (λ (entries : List Entry). is_straight (entry_in entries) a.instruction a.index ≡ true) c.deref.ensures.value
-    (c.is_straight.ensures c.if-is_straight.true) in
-    c.in_ok-come_behind.ensures ∙ straight_on (entry_in a.entries.now.items) a.index a.instruction straight _
+    subst (λ (facts : List Fact). is_straight (entry_in a.entries.now.items) facts a.instruction a.index ≡ true) c.all.ensures
+    (subst (λ (entries : List Entry). is_straight (entry_in entries) c.all.result.now a.instruction a.index ≡ true) c.deref.ensures.value
+    (c.is_straight.ensures c.if-is_straight.true)) in
+    c.in_ok-come_behind.ensures ∙ straight_on (entry_in a.entries.now.items) a.facts.now a.index a.instruction straight _
