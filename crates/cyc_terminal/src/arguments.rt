@@ -324,41 +324,45 @@ fn code_of<'a>(
 }
 
 /// What is asked for by the words behind the name of a command.
-fn request_of<'a>(alloc: Global, name: &str, matches: &ArgMatches<'a>) -> Result<Request<'a>, Error>
+fn request_of<'a>(
+    alloc: Global,
+    command: &mut Command<'a>,
+    name: &str,
+    matches: &ArgMatches<'a>,
+) -> Result<Request<'a>, Error>
     ensures { IfOk result (IsRequestOf name.now (first_value (found_of matches.now))) }
 {
-    let mut command = command_named(alloc, name)?;
     match name {
         "check" => {
-            let source = file_of(&mut command, matches, "source")?;
+            let source = file_of(command, matches, "source")?;
             Ok(Request::Check {
                 source,
                 is_json: is_given(matches, "json"),
             })
         }
-        "compile" => compile_request(alloc, &mut command, matches),
-        "run" => run_request(alloc, &mut command, matches),
+        "compile" => compile_request(alloc, command, matches),
+        "run" => run_request(alloc, command, matches),
         "disasm" => {
-            let image = file_of(&mut command, matches, "image")?;
+            let image = file_of(command, matches, "image")?;
             Ok(Request::Disassemble { image })
         }
         "explain" => {
-            let code = code_of(alloc, &mut command, matches)?;
+            let code = code_of(alloc, command, matches)?;
             Ok(Request::Explain { code })
         }
         "info" => {
-            let image = file_of(&mut command, matches, "image")?;
+            let image = file_of(command, matches, "image")?;
             Ok(Request::Describe {
                 image,
                 places: matches.get_str("places"),
             })
         }
         "bound" => {
-            let source = file_of(&mut command, matches, "source")?;
+            let source = file_of(command, matches, "source")?;
             Ok(Request::Bound { source })
         }
         "format" => {
-            let source = file_of(&mut command, matches, "source")?;
+            let source = file_of(command, matches, "source")?;
             Ok(Request::Format {
                 source,
                 output: matches.get_str("output"),
@@ -382,7 +386,8 @@ fn request_in<'a>(
     let Some((name, matches)) = matches.subcommand() else {
         return Err(program.error(ErrorKind::MissingSubcommand, "a command is missing")?);
     };
-    request_of(alloc, name, matches)
+    let mut command = command_named(alloc, name)?;
+    request_of(alloc, &mut command, name, matches)
 }
 
 /// What the words ask for, of which the first is the program's name. The error is a mistake in the
