@@ -222,16 +222,20 @@ impl fmt::Display for Summary<'_> {
         }
         let first = self.0.parts().first;
         write!(f, "{}", meaning(fault.code))?;
-        if !first.is_empty() {
-            write!(f, ": {}", Shown(first))?;
-        }
-        let token = token_at(text, fault.line, fault.column);
-        match fault.code {
-            Code::UnexpectedToken if !first.is_empty() => {
-                write!(f, ", found `{}`", Shown(token))
-            }
-            _ if first.is_empty() && is_by_token(text, fault, token) => {
+        if first.is_empty() {
+            let token = token_at(text, fault.line, fault.column);
+            return if is_by_token(text, fault, token) {
                 write!(f, ": {}", Shown(token))
+            } else {
+                Ok(())
+            };
+        }
+        write!(f, ": {}", Shown(first))?;
+        // A token that is not shown is not looked for: that reads the text up to its line.
+        match fault.code {
+            Code::UnexpectedToken => {
+                let token = token_at(text, fault.line, fault.column);
+                write!(f, ", found `{}`", Shown(token))
             }
             _ => Ok(()),
         }
