@@ -24,6 +24,12 @@ pub fn law()
 {
 }
 """,
+    "src/twice.rt": """\
+/// A number in a field that has the name of a function, as the file has.
+pub struct Held {
+    twice: u32,
+}
+""",
     "specs/Rules.antt": """\
 -- Numbers, in which what is abstract is read by nobody who does not unfold it.
 use Rattle.std.specs.Prelude.{ℕ, ◌+◌, ◌≡◌}
@@ -49,6 +55,7 @@ use Rattle.mid.specs.Rules.{double, triple as thrice, opened, Pair, ◌~◌}
 use Rattle.mid.specs.Rules as rules
 use Rattle.mid.specs.Rules.{gone}
 use Rattle.mid.proofs.twice.Met as twice_met
+use Rattle.mid.specs.declared.twice.Held.{Held}
 
 pub of_double : (n : ℕ) → double n ≡ n + n
 of_double n = refl
@@ -92,6 +99,9 @@ of_gone = refl
 pub of_twice : Unit
 of_twice = twice_met.met
 
+pub of_held : Held → Unit
+of_held held = unit
+
 mutual
   pub even : (n : ℕ) → Unit
   even n = odd n
@@ -120,6 +130,8 @@ READ = {
     "of_both": {"opened*", "triple", "double*"},
     "alike": {"◌~◌*", "double*", "Pair*"},
     "of_twice": {"twice", "double*"},
+    # neither a field nor a file is the function of its name
+    "of_held": {"Held*"},
     "even": {"odd*", "of_triple", "triple"},
     "of_kept": {"kept*", "double*", "laws*", "of_double", "of_opened", "opened*", "triple"},
     "of_count": {"count*", "other*"},

@@ -33,6 +33,8 @@ NO_DECLARATION = re.compile(r" *(?:pub )?(?:mod|use|open|infix[lr]?) ")
 IMPORT = re.compile(r"^ *(?:pub |ghost )*use ([^\s{;]+?)(?:\.\{([^}]*)\})?(?: as (\S+?))?;?$", re.MULTILINE)
 UNFOLDED = re.compile(r"^ *unfolding (.*)$|^ *unfoldable (?:pub )?(\S+)", re.MULTILINE)
 WORD = re.compile(r"[^\s(){}\[\],;]+")
+# What stands before the type of a field or a parameter, or before the value that a field gets: it names nothing that is declared.
+FIELD = re.compile(r"\w+:")
 ITEM = re.compile(r"(?:pub(?:\(\w+\))? )?(?:struct|enum|union|const|static|trait) (\w+)")
 # What stands for an argument in the name of an operator.
 HOLE = "◌"
@@ -40,6 +42,8 @@ HOLE = "◌"
 IMPORTED = "use "
 # What stands for a declaration that is named and not found: it may be anything.
 UNKNOWN = ("", IMPORTED + "?"), True
+# What begins the steps of a module of types and constants, which has no function.
+DECLARED = ["specs", "declared"]
 # What is made of a function for others to read, beside what its own proof reads alone.
 STATED = ("Met", "Statement")
 
@@ -222,7 +226,7 @@ class Dependencies:
                 found = list(self.of_module(module, name))
                 is_own = module.split(".")[1:2] and module.split(".")[1] in self.names
                 yield from found or [UNKNOWN] * bool(name and is_own)
-            if path.endswith(SOURCE):
+            if path.endswith(SOURCE) and not FIELD.fullmatch(word):
                 for step in re.findall(r"\w+", word):
                     yield from ((it, False) for key, them in self.items.items() if key[1] == step for it in them)
 
@@ -238,9 +242,10 @@ class Dependencies:
                         yield from self.of_module(*other)
                 return
         is_whole = steps[:1] == ["proofs"] and not set(steps) & set(STATED)
+        is_declared = steps[:2] == DECLARED
         for step in [*steps[1:], *filter(None, [name])]:
             for function in self.cycles.get((crate, step.removeprefix("+")), ()) if step.startswith("+") else (step,):
-                yield from ((it, is_whole) for it in self.items.get((crate, function), ()))
+                yield from ((it, is_whole) for it in self.items.get((crate, function), ()) if self.all[it].is_open or not is_declared)
 
     def holders(self, path, field):
         """The records of a file that have such a field, which a file that imports it names by it alone."""
