@@ -5,6 +5,7 @@
 
 A text is checked, and compiled; what was compiled of it is listed, and run with a small budget. An image is listed and run. No command
 may be ended by a signal, take more than half a second of processor time or 512 MB of memory, or end with a status that is not its own.
+What it writes is cut: a listing is as long as an image of some hundred bytes says that its segments are.
 Which blocks of the program a command executes is told by `qemu-x86_64`: what comes to a new one joins those that are changed. The first
 ones are the examples, the texts of `tests/sound` and of the cases, and the images of `generators/image_makers.py`.
 
@@ -34,6 +35,8 @@ MOST_BYTES = 200_000
 MOST_COPIES = 3_000
 MOST_CHANGES = 6
 SECONDS, MEMORY = 0.5, 512 * 1024 * 1024
+# So many bytes of a file it can write: behind them it is refused for what it writes to.
+MOST_WRITTEN = 16 * 1024 * 1024
 # So long a command is waited for, and so many MB of address space it has.
 WAITED = 20
 STEPS = "200000"
@@ -144,14 +147,15 @@ def changed(content, others, rng, tokens):
 
 def confine():
     resource.setrlimit(resource.RLIMIT_AS, (MEMORY, MEMORY))
+    resource.setrlimit(resource.RLIMIT_FSIZE, (MOST_WRITTEN, MOST_WRITTEN))
 
 
 def ended(words, given):
     """The status of a command, negative where a signal ended it, and its processor time. What never ends is killed."""
-    with tempfile.TemporaryFile() as source:
+    with tempfile.TemporaryFile() as source, tempfile.TemporaryFile() as written:
         source.write(given)
         source.seek(0)
-        process = subprocess.Popen(words, stdin=source, stdout=subprocess.DEVNULL, stderr=subprocess.DEVNULL, preexec_fn=confine)
+        process = subprocess.Popen(words, stdin=source, stdout=written, stderr=subprocess.DEVNULL, preexec_fn=confine)
         killer = threading.Timer(WAITED, process.kill)
         killer.start()
         _, status, used = os.wait4(process.pid, 0)
