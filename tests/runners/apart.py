@@ -39,14 +39,16 @@ class Apart:
         return self.changes[case]
 
     def rounds_of(self, cases):
-        """The cases that are tried together, list by list: each fails at a declaration whose check reads nothing that the others change."""
+        """The cases that are tried together, list by list: each fails at a declaration whose check reads nothing that the others change. Those
+        come first that go with the fewest others: so the lists are fewer."""
         touching = {case: [self.touching(cases, case, self.right.read_by(it)) for it in self.places_of(case.places)] for case in cases}
+        are_apart = lambda both: all(any(not both & them for them in touching[it]) for it in both)
+        partners = {case: sum(are_apart({case, it}) for it in cases) for case in cases}
         rounds = []
-        for case in cases:
+        for case in sorted(cases, key=partners.get):
             for together in rounds:
                 both = {*together, case}
-                are_apart = all(any(not both & them for them in touching[it]) for it in both)
-                if len(together) < MOST and are_apart and self.are_separate(both):
+                if len(together) < MOST and are_apart(both) and self.are_separate(both):
                     together.append(case)
                     break
             else:

@@ -196,11 +196,12 @@ refused: law
 at: of_twice
 """
 # The cases that are tried together: the third one fails where the first changes something, as does the fourth, and one that does not say
-# where it fails is alone. The last one fails where the first changes something, and changes nothing of what those of the second list read.
+# where it fails is alone, and comes first. The last one fails where the first changes something, and changes nothing of what those of the
+# last list read.
 ROUNDS = [
-    ["double_is_once", "opened_is_none"], ["triple_is_double", "pair_is_the_right_one", "twice_is_thrice"], ["opened_is_one"],
+    ["opened_is_one"], ["double_is_once", "opened_is_none"], ["triple_is_double", "pair_is_the_right_one", "twice_is_thrice"],
 ]
-# An error of a run in which the first two are tried, and which of these it is for: not one that reads what both change, nor one that the
+# An error of a run in which the first two cases are tried, and which of these it is for: not one that reads what both change, nor one that the
 # law does not rest on, and neither a note of a goal.
 ERRORS = {
     "`of_double`: the types differ": [True, False], "`of_opened`: the types differ": [False, True], "`of_both`: the types differ": [False, False],
@@ -243,7 +244,7 @@ def tried(folder):
     right.append(is_as("rounds of definitions", ROUNDS, [[case.name for case, _ in together] for together in rounds]))
     alone = wrong.rounds_of(cases, group.bodies, True, tells)
     right.append(is_as("rounds where each is alone", [1] * len(cases), [len(it) for it in alone]))
-    owners = group.owners(rounds[0])
+    owners = group.owners(rounds[1])
     for said, wanted in ERRORS.items():
         error = wrong.Error(LEMMAS, None, said)
         right.append(is_as(f"whose error it is: {said}", wanted, [is_own("law", error) for is_own in owners]))
