@@ -119,9 +119,9 @@ def is_right_body_wanted(folder):
     for said, wanted in BESIDE.items():
         answer = wrong.Answer(1, "\n".join([GOAL, LEFT, f"fn mid::a::kept: {said}", SOME]), "mid", "/crates")
         group = wrong.Group("mid", set(), [], wrong.Settings(folder, folder, {"mid": []}, folder, folder))
-        group.beside, group.ask = "a::kept", lambda cases, functions, kept: (answer, 1.0)
+        group.beside, group.ask = "a::kept", lambda *_: (answer, 1.0)
         turned = bodies.Body("a::f", "a/f", "mid/src/a.rt", 1, 2, frozenset(), None, True)
-        got = group.attempt([(case_on("src/a.rt"), turned)])
+        got = group.attempt([(case_on("src/a.rt"), turned)], False)
         if got != ([wanted], 1.0):
             print(suite.difference(f"a wrong body beside a function that is {said}", ([wanted], 1.0), got))
             right = False

@@ -617,22 +617,22 @@ class Group:
             faults = dict.fromkeys((it for case in self.cases for it in case.refused), next(iter(faults.values())))
         return faults, spent
 
-    def attempt(self, together):
-        """Tries cases together: what is wrong with each, or None; and the seconds that it took. The first to be tried begin with nothing
-        that is kept, where nothing was proved before."""
+    def attempt(self, together, is_first):
+        """Tries cases together: what is wrong with each, or None; and the seconds that it took. They begin with what was proved before, if
+        anything was; and where they are the first, what they prove is kept for the others."""
         cases = [case for case, _ in together]
         is_checked = self.beside and all(turned for _, turned in together)
         functions = sorted({it for case in cases for it in case.refused}) + [self.beside] * bool(is_checked)
         with tempfile.TemporaryDirectory(dir=self.settings.room) as folder:
-            kept = os.path.join(folder, "kept")
+            kept = tempfile.mkdtemp(dir=self.settings.room if is_first else folder)
             if self.seed:
                 linked(self.seed, kept)
-            else:
-                kept = self.seed = tempfile.mkdtemp(dir=self.settings.room)
             try:
                 answer, spent = self.ask(cases, functions, kept)
             except (OSError, ValueError) as error:
                 return [str(error)] * len(together), 0.0
+            if is_first:
+                self.seed = kept
         if is_checked and not answer.holds(self.crate, self.beside):
             return [answer.fault(()) or unproved_of(answer, self.crate, self.beside)] * len(together), spent
         return [judged(case, turned, answer, self.written, is_own) for (case, turned), is_own in zip(together, self.owners(together))], spent
@@ -655,12 +655,12 @@ def unproved_of(answer, crate, function):
 
 
 def linked(seed, folder):
-    """Copies what the prover kept. It replaces such files and changes none, so links do."""
+    """Copies what the prover kept into a folder. It replaces such files and changes none, so links do."""
 
     def copy(one, other):
         return os.link(one, other) if one.endswith(".oantt") else shutil.copy2(one, other)
 
-    shutil.copytree(seed, folder, copy_function=copy)
+    shutil.copytree(seed, folder, copy_function=copy, dirs_exist_ok=True)
 
 
 # ---- what is kept
@@ -744,8 +744,9 @@ class Kept:
                 pass
 
 
-# A task of a lane: the group, and the cases to be tried together, or None where the functions are to be proved as they stand.
-Task = collections.namedtuple("Task", "group together")
+# A task of a lane: the group, and the cases to be tried together, or None where the functions are to be proved as they stand; and whether
+# what it proves is kept for others of the group, which wait for it.
+Task = collections.namedtuple("Task", "group together is_first", defaults=(False,))
 
 
 class Run:
@@ -756,7 +757,7 @@ class Run:
         self.is_alone = is_alone
         self.kept = kept
         self.ready = []
-        # the tasks of groups whose first run is still to keep what the others take
+        # the tasks of groups that wait for the run which keeps what they take
         self.later = {}
         # what is wrong with each case that was tried, and by crate the runs of the prover, and the seconds of processors that they took,
         # for proofs as they stand and for cases
@@ -782,7 +783,7 @@ class Run:
         while running or self.ready or self.waiting:
             while len(running) < lanes and (self.ready or self.waiting):
                 task = (self.ready or self.waiting).pop(0)
-                work = (task.group.attempt, task.together) if task.together else (task.group.prove,)
+                work = (task.group.attempt, task.together, task.is_first) if task.together else (task.group.prove,)
                 running[pool.submit(*work)] = task
             for it in wait(running, return_when=FIRST_COMPLETED).done:
                 self.take(running.pop(it), *it.result())
@@ -795,7 +796,8 @@ class Run:
         if not task.together:
             self.begin(task.group, result)
             return
-        self.ready += self.later.pop(task.group, [])
+        if task.is_first:
+            self.ready += self.later.pop(task.group)
         for (case, turned), fault in zip(task.together, result):
             if fault and len(task.together) > 1:
                 self.ready.append(Task(task.group, [(case, turned)]))
@@ -821,10 +823,11 @@ class Run:
             rounds = []
             for case in cases:
                 self.end(case, str(error))
-        tasks = [Task(group, together) for together in rounds]
-        first = len(tasks) if group.seed else 1
-        self.ready += tasks[:first]
-        self.later[group] = tasks[first:]
+        # Wrong bodies are proved over the same definitions: the first of them proves what the others take. So does the first of all, where
+        # nothing was proved.
+        waiting = [it for it in rounds if it[0][1] or not group.seed]
+        self.ready += [Task(group, it, it in waiting) for it in rounds if it not in waiting[1:]]
+        self.later[group] = [Task(group, it) for it in waiting[1:]]
 
     def end(self, case, fault):
         self.faults[case] = fault

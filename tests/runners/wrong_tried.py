@@ -2,6 +2,7 @@
 import contextlib
 import os
 import shutil
+import threading
 
 import suite  # first: it says where the references and the generators are
 import bodies
@@ -386,14 +387,16 @@ def is_library_made(folder):
 
 
 class Runs:
-    """A group that asks no prover: what it was asked, in order, and how many of its runs were at work when each began."""
+    """A group that asks no prover, in which these files are those of one function: what each run began with, by its file."""
 
-    def __init__(self, seed):
-        self.crate, self.cases, self.bodies, self.seed = "mid", [case_on("src/a.rt"), case_on("src/b.rt"), case_on("src/c.rt")], self, seed
-        self.asked = []
+    def __init__(self, seed, turned):
+        self.crate, self.cases, self.bodies, self.seed = "mid", [case_on("a.rt"), case_on("b.rt"), case_on("c.rt")], self, seed
+        self.turned = turned
+        self.asked = {}
+        self.is_other_begun = threading.Event()
 
     def turned_by(self, case):
-        return None
+        return bodies.Body("f", "f", "f.rt", 1, 2, frozenset(), None, True) if os.path.basename(case.edits[0].path) in self.turned else None
 
     def apart(self):
         return None
@@ -401,21 +404,34 @@ class Runs:
     def prove(self):
         return {}, 0.0
 
-    def attempt(self, together):
-        self.asked.append((together, self.seed))
-        self.seed = "kept"
+    def attempt(self, together, is_first):
+        """Where something was proved before, the first run goes on until one begins that does not wait for it."""
+        self.asked[os.path.basename(together[0][0].edits[0].path)] = self.seed
+        if not is_first:
+            self.is_other_begun.set()
+        elif self.seed:
+            self.is_other_begun.wait(60)
+        self.seed = "kept" if is_first else self.seed
         return [None] * len(together), 1.0
 
 
+# What was proved before the runs of a group, the files that are of one function, and what each run began with.
+BEGUN = [
+    (None, [], {"a.rt": None, "b.rt": "kept", "c.rt": "kept"}),
+    ("seed", [], {"a.rt": "seed", "b.rt": "seed", "c.rt": "seed"}),
+    ("seed", ["a.rt", "c.rt"], {"a.rt": "seed", "b.rt": "seed", "c.rt": "kept"}),
+]
+
+
 def is_first_run_kept():
-    """Whether the first run of a group that has no seed ends before its others begin, which then take what it kept."""
+    """Whether the first run of wrong bodies, and of a group that has no seed, ends before those begin that take what it kept."""
     right = True
-    for seed, wanted in ((None, [None, "kept", "kept"]), ("seed", ["seed", "kept", "kept"])):
-        group = Runs(seed)
+    for seed, turned, wanted in BEGUN:
+        group = Runs(seed, turned)
         with contextlib.redirect_stdout(None):
             run_of = wrong.Run([group], False)
-            run_of.on(1 if seed else 3)
-        got = [it for _, it in group.asked]
+            run_of.on(3)
+        got = group.asked
         if got != wanted or list(run_of.faults.values()) != [None] * 3 or run_of.costs["mid"] != [3, 0.0, 3.0]:
             print(suite.difference("what the runs of a group begin with", wanted, got))
             right = False
@@ -446,7 +462,7 @@ def is_refusal_kept(folder):
     both = [refused, let_through]
     groups, first, kept = known_in("clone", both)
     groups[0].prove = lambda: ({}, 0.0)
-    groups[0].attempt = lambda together: ([None if case is refused else "it is not refused" for case, _ in together], 1.0)
+    groups[0].attempt = lambda together, is_first: ([None if case is refused else "it is not refused" for case, _ in together], 1.0)
     with contextlib.redirect_stdout(None):
         wrong.Run(groups, False, kept).on(1)
     got = {"before": first, "in another clone": known_in("other", both)[1], "anew": known_in("clone", both, True)[1]}
