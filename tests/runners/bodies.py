@@ -24,8 +24,13 @@ ITEM = re.compile(r"^pub (?:(?:const|final|unsafe|ghost) )*(?:fn|struct|enum|uni
 # A function with a body: its path in the crate, the folder of its proof in `proofs`, its file, the numbers of the body's first line and of
 # the one behind it, the words in it, the number of the line that says which cycle of calls it is in, or None, whether the path is
 # sure: that of a method of a trait with parameters may have more of them in it; whether its body is to do what a clause of its own says;
-# and whether it is to do what a contract says of another crate's call.
-Body = collections.namedtuple("Body", "function proof path first behind words cycle is_sure is_promised is_public", defaults=(False, False))
+# whether it is to do what a contract says of another crate's call; the number of the line that its text begins with, where it may stand
+# once more under another name, or None; and the function that it is a copy of, or None.
+Body = collections.namedtuple(
+    "Body", "function proof path first behind words cycle is_sure is_promised is_public starts of", defaults=(False, False, None, None)
+)
+# What a copy of a function has behind its name, before its number.
+AGAIN = "_again_"
 
 
 def opening(lines, head, indent):
@@ -37,6 +42,26 @@ def opening(lines, head, indent):
         if lines[at].endswith("{") and re.match(indent + "[^ /]", lines[at]):
             return at
     return None
+
+
+def beginning(lines, head, indent):
+    """The line with which the text of a function begins, whose head is this one: its documentation and its attributes stand above."""
+    above = (indent + "///", indent + "#[")
+    return next((at for at in range(head, 0, -1) if not lines[at - 1].startswith(above)), 0)
+
+
+def again(body, number):
+    """The copy of a function with this number, which stands behind it."""
+    return body._replace(function=f"{body.function}{AGAIN}{number}", proof=f"{body.proof}{AGAIN}{number}", of=body)
+
+
+def text_again(text, copy):
+    """The text of a copy of a function, where the text of the file is this up to its end."""
+    lines = text.splitlines(keepends=True)[copy.starts:]
+    head = next(at for at, line in enumerate(lines) if HEAD.match(line))
+    names = (it.function.split("::")[-1] for it in (copy.of, copy))
+    lines[head] = lines[head].replace(*(f"fn {it}" for it in names), 1)
+    return "".join(lines)
 
 
 def without_parameters(text):
@@ -113,7 +138,9 @@ def bodies_in(path, text, types, reached=frozenset(), traits=frozenset()):
             is_public = is_called and has_promise(lines, at, opens, head[1] and owner)
             is_sure = not head[1] or owner.is_sure
             path_of = "::".join([*above, head[2]])
-            found.append(Body(path_of, proof, path, opens + 1, closes, words, cycle, is_sure, is_promised, is_public))
+            has_own_name = cycle is None and not (head[1] and (owner.trait or owner.of))
+            starts = beginning(lines, at, head[1]) if has_own_name else None
+            found.append(Body(path_of, proof, path, opens + 1, closes, words, cycle, is_sure, is_promised, is_public, starts))
         cycle, is_of_tests = None, False
     return found
 
@@ -183,7 +210,7 @@ class Bodies:
         above, name = os.path.split(body.proof)
         own = os.path.join(above, f"+{name}")
         there = [os.path.isdir(os.path.join(self.crates, crate, "proofs", it)) for it in (body.proof, own)]
-        return body._replace(proof=own) if there[1] or not there[0] and name in body.words else body
+        return body._replace(proof=own, starts=None) if there[1] or not there[0] and name in body.words else body
 
     def beside(self, functions):
         """All functions but these and those of their cycles, where their paths are sure."""

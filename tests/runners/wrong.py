@@ -9,11 +9,12 @@ place the prover is asked for them, and for nothing else: what it would refuse e
 no check reads, or that only takes away a name which a proof has, fails, since no contract was tried.
 
 A proof rests on what other functions promise, and on no other body. So the proofs of the crate's other functions are left out, which
-`rt ci` has proved, and wrong bodies of several functions are tried together. So are wrong definitions that can be told apart (apart.py).
-What is not refused so is tried once more alone; with `--alone` each is. With `--write` the files of cases say afterwards where those
-definitions are refused that were tried alone. Of the crates below, the libraries are taken that `rt ci` leaves in `crates/NAME/out`. Where a case
-changes a file of another crate, that crate and those between are taken as they are written, and what refuses it must be a proof of a
-crate that it does not change.
+`rt ci` has proved, and wrong bodies of several functions are tried together. Further ones of the same function are tried in copies of it,
+which have other names and its proof: one copy more is as the function stands, and where that is not proved those in copies do not count.
+Wrong definitions are tried together that can be told apart (apart.py). What is not refused so is tried once more alone; with `--alone`
+each is. With `--write` the files of cases say afterwards where those definitions are refused that were tried alone. Of the crates below,
+the libraries are taken that `rt ci` leaves in `crates/NAME/out`. Where a case changes a file of another crate, that crate and those between
+are taken as they are written, and what refuses it must be a proof of a crate that it does not change.
 
 As they stand the functions are proved here, but for those that `rt ci` has just proved and of which a case changes the body alone: what
 it leaves of their crate is newer then than all that this is made of. Each run has another function beside them then, as it stands, which
@@ -46,7 +47,7 @@ from concurrent.futures import FIRST_COMPLETED, ThreadPoolExecutor, wait
 import suite  # first: it says where the references and the generators are
 import in_trees
 from apart import Apart, place_of
-from bodies import HEAD, Bodies, traits_of
+from bodies import HEAD, Bodies, again, text_again, traits_of
 from sources import in_order, stands_on
 
 CASES = os.path.join(suite.TESTS, "wrong")
@@ -136,11 +137,12 @@ class Case:
         return {it.path.split(os.sep)[0] for it in self.edits}
 
 
-def texts_with(cases, crates, left_out=()):
-    """The texts of files in a folder of crates where cases are in their places, and the bodies of these functions are left out, by the
-    files' paths. What a case replaces stands there once, and no two replace the same. In a body that is left out they replace nothing."""
+def texts_with(cases, crates, left_out=(), copies=()):
+    """The texts of files in a folder of crates where cases are in their places, the bodies of these functions are left out, and these copies
+    of functions stand behind them, each with the edits of a case, by the files' paths. What a case replaces stands there once, and no two
+    replace the same. In a body that is left out they replace nothing."""
     texts, outs, places = {}, collections.defaultdict(list), collections.defaultdict(list)
-    for path in {it.path for it in [*left_out, *(edit for case in cases for edit in case.edits)]}:
+    for path in {it.path for it in [*left_out, *(edit for case in cases for edit in case.edits), *(copy for copy, _ in copies)]}:
         with open(os.path.join(crates, path), encoding="utf-8") as file:
             texts[path] = file.read()
     for body in left_out:
@@ -151,21 +153,35 @@ def texts_with(cases, crates, left_out=()):
         if body.cycle is not None:
             outs[body.path].append((starts[body.cycle], starts[body.cycle + 1], ""))
     for edit in (edit for case in cases for edit in case.edits):
-        old = "\n".join(edit.old)
-        if texts[edit.path].count(old) != 1:
-            raise ValueError(f"{edit.path} has {texts[edit.path].count(old)} times: {old}")
-        before, gone, come = edit.core()
-        start = texts[edit.path].index(old) + sum(len(line) + 1 for line in edit.old[:before])
-        end = start + len("\n".join(gone))
+        start, end, new = place_in(texts[edit.path], edit)
         if not any(first <= start and end <= last for first, last, _ in outs[edit.path]):
-            places[edit.path].append((start, end, "\n".join(come)))
-    for path in texts:
-        last = len(texts[path])
-        for start, end, new in sorted([*outs[path], *places[path]], reverse=True):
-            if end > last:
-                raise ValueError(f"two cases replace the same in {path}")
-            texts[path], last = texts[path][:start] + new + texts[path][end:], start
-    return texts
+            places[edit.path].append((start, end, new))
+    for copy, edits in copies:
+        text = texts[copy.path]
+        end = sum(map(len, text.splitlines(keepends=True)[:copy.behind + 1]))
+        own = put_in(text[:end], [place_in(text, it) for it in edits], copy.path)
+        places[copy.path].append((end, end, "\n" + text_again(own, copy)))
+    return {path: put_in(text, [*outs[path], *places[path]], path) for path, text in texts.items()}
+
+
+def place_in(text, edit):
+    """Where in a text an edit puts something in the place of something, and what."""
+    old = "\n".join(edit.old)
+    if text.count(old) != 1:
+        raise ValueError(f"{edit.path} has {text.count(old)} times: {old}")
+    before, gone, come = edit.core()
+    start = text.index(old) + sum(len(line) + 1 for line in edit.old[:before])
+    return start, start + len("\n".join(gone)), "\n".join(come)
+
+
+def put_in(text, places, path):
+    """The text of a file with what these places get."""
+    last = len(text)
+    for start, end, new in sorted(places, reverse=True):
+        if end > last:
+            raise ValueError(f"two cases replace the same in {path}")
+        text, last = text[:start] + new + text[end:], start
+    return text
 
 
 def cases_in(path):
@@ -286,10 +302,14 @@ def show_misplaced(cases):
 # ---- which wrong bodies are tried together
 
 
+# So many proofs of a function cost what a run of the prover does before its first proof, about.
+RUN = 4
+
+
 def rounds_of(cases, bodies, is_alone, apart=None):
-    """The cases that are tried together, list by list: each changes the body of a function that no other one changes. Functions of a cycle
-    of calls have one proof, in which each goal has the name of its own: none of these has the name of another. With each case stands its
-    function, or None where it changes something else: such cases are tried together that can be told apart."""
+    """The cases that are tried together, list by list: each changes the body of a function that no other one changes, or of a copy of that.
+    Functions of a cycle of calls have one proof, in which each goal has the name of its own: none of these has the name of another. With
+    each case stands its function, or None where it changes something else: such cases are tried together that can be told apart."""
     rounds, others = [], []
     turns = [(case, bodies.turned_by(case)) for case in cases]
     wider = [case for case, turned in turns if not turned]
@@ -308,7 +328,24 @@ def rounds_of(cases, bodies, is_alone, apart=None):
                 break
         else:
             rounds.append(({goals}, [(case, turned)]))
-    return [together for _, together in rounds] + others
+    return fewer([together for _, together in rounds]) + others
+
+
+def fewer(rounds):
+    """Such lists of wrong bodies, of which each has another one of some functions of the list before. The last lists go, where it costs less
+    to try theirs on copies of these functions, and to prove one more copy of each as it stands."""
+    can_go = next((at for at, it in enumerate(reversed(rounds[1:])) if not all(map(is_copied, it))), max(0, len(rounds) - 1))
+    last = min(range(len(rounds) - can_go, len(rounds) + 1), key=lambda it: RUN * it + len((rounds + [[]])[it]))
+    if not 0 < last < len(rounds):
+        return rounds
+    copies = [(case, again(turned, at)) for at, together in enumerate(rounds[last:], last + 1) for case, turned in together]
+    return [*rounds[:last - 1], rounds[last - 1] + copies]
+
+
+def is_copied(it):
+    """Whether a wrong body can stand in a copy of its function."""
+    case, turned = it
+    return turned.starts is not None and turned.function != MAIN and all(edit.path == turned.path for edit in case.edits)
 
 
 def name_of(function):
@@ -392,7 +429,7 @@ def judged(case, turned, answer, between=(), is_own=None):
     fault = answer.fault({it.path for it in case.edits})
     if fault:
         return fault
-    for function in case.refused:
+    for function in [turned.function] if turned else case.refused:
         fault = fault or judged_of(case, function, turned, answer, between, is_own)
     return fault
 
@@ -543,9 +580,10 @@ class Group:
         """How much there is to prove, about: the bytes of its sources."""
         return sum(os.path.getsize(os.path.join(self.settings.crates, it)) for it in self.sources())
 
-    def fill(self, folder, cases, functions):
-        """Makes a folder of crates that has those which are taken as they are written, with cases in their places. The bodies and the
-        proofs of other functions than these are left out: a proof rests on what they promise, and `rt ci` has proved that."""
+    def fill(self, folder, cases, functions, copies=()):
+        """Makes a folder of crates that has those which are taken as they are written, with cases in their places, and copies of functions
+        with the edits of others. The bodies and the proofs of other functions than these are left out: a proof rests on what they promise,
+        and `rt ci` has proved that."""
         for name in self.written:
             for part in PARTS:
                 there = os.path.join(self.settings.crates, name, part)
@@ -562,11 +600,24 @@ class Group:
             os.makedirs(there, exist_ok=True)
             with open(os.path.join(there, "Proof.antt"), "w", encoding="utf-8") as file:
                 file.write("-- It is left out.\n")
-        for path, text in texts_with(cases, self.settings.crates, left_out).items():
+        for path, text in texts_with(cases, self.settings.crates, left_out, copies).items():
             with open(os.path.join(folder, path), "w", encoding="utf-8") as file:
                 file.write(text)
+        for copy, _ in copies:
+            self.fill_again(folder, copy)
         if MAIN not in functions:
             make_library(os.path.join(folder, self.crate))
+
+    def fill_again(self, folder, copy):
+        """Gives a copy of a function the proof of that one, which names its modules by their paths."""
+        modules = [f"{self.crate}.proofs.{it.replace(os.sep, '.')}." for it in (copy.of.proof, copy.proof)]
+        there, new = (os.path.join(at, self.crate, "proofs", it.proof) for at, it in ((self.settings.crates, copy.of), (folder, copy)))
+        for name in filter(lambda it: os.path.isfile(os.path.join(there, it)), os.listdir(there) if os.path.isdir(there) else ()):
+            os.makedirs(new, exist_ok=True)
+            with open(os.path.join(there, name), encoding="utf-8") as file:
+                text = file.read().replace(*modules)
+            with open(os.path.join(new, name), "w", encoding="utf-8") as file:
+                file.write(text)
 
     def words(self, crates, kept, functions):
         """The prover's words for these functions."""
@@ -588,11 +639,11 @@ class Group:
         # Files of proofs are read where the whole crate is asked for.
         return words if any(map(is_file, functions)) else words + [word for it in functions for word in ("--only", it)]
 
-    def ask(self, cases, functions, kept):
-        """The prover's answer for these functions, with cases in their places, and the seconds of processors that it took. In a folder the
-        prover keeps what it proves."""
+    def ask(self, cases, functions, kept, copies=()):
+        """The prover's answer for these functions, with cases in their places and copies, and the seconds of processors that it took. In a
+        folder the prover keeps what it proves."""
         with tempfile.TemporaryDirectory(dir=self.settings.room) as crates:
-            self.fill(crates, cases, functions)
+            self.fill(crates, cases, functions, copies)
             how = {"stdin": subprocess.DEVNULL, "stdout": subprocess.PIPE, "stderr": subprocess.STDOUT, "text": True, "errors": "replace"}
             with subprocess.Popen(self.words(crates, kept, functions), cwd=os.path.join(crates, self.crate), **how) as process:
                 RUNNING.add(process)
@@ -620,22 +671,29 @@ class Group:
     def attempt(self, together, is_first):
         """Tries cases together: what is wrong with each, or None; and the seconds that it took. They begin with what was proved before, if
         anything was; and where they are the first, what they prove is kept for the others."""
-        cases = [case for case, _ in together]
+        cases = [case for case, turned in together if not copy_in(turned)]
+        copies = [(turned, case.edits) for case, turned in together if copy_in(turned)]
+        right = {copy.of: again(copy.of, 1) for copy, _ in copies}
+        copies += [(it, []) for it in right.values()]
         is_checked = self.beside and all(turned for _, turned in together)
-        functions = sorted({it for case in cases for it in case.refused}) + [self.beside] * bool(is_checked)
+        functions = sorted({it for case, _ in together for it in case.refused} | {copy.function for copy, _ in copies})
+        functions += [self.beside] * bool(is_checked)
         with tempfile.TemporaryDirectory(dir=self.settings.room) as folder:
             kept = tempfile.mkdtemp(dir=self.settings.room if is_first else folder)
             if self.seed:
                 linked(self.seed, kept)
             try:
-                answer, spent = self.ask(cases, functions, kept)
+                answer, spent = self.ask(cases, functions, kept, copies)
             except (OSError, ValueError) as error:
                 return [str(error)] * len(together), 0.0
             if is_first:
                 self.seed = kept
         if is_checked and not answer.holds(self.crate, self.beside):
             return [answer.fault(()) or unproved_of(answer, self.crate, self.beside)] * len(together), spent
-        return [judged(case, turned, answer, self.written, is_own) for (case, turned), is_own in zip(together, self.owners(together))], spent
+        faults = [judged(case, turned, answer, self.written, is_own) for (case, turned), is_own in zip(together, self.owners(together))]
+        unproved = {it for it, copy in right.items() if not answer.holds(self.crate, copy.function)}
+        wanted = [unproved & {copy_in(turned)} for _, turned in together]
+        return [unproved_of(answer, self.crate, right[it.pop()].function) if it else fault for it, fault in zip(wanted, faults)], spent
 
     def owners(self, together):
         """For each of cases that are tried together what says whether an error is for it, or None where each that counts is."""
@@ -647,6 +705,11 @@ class Group:
             home_of = lambda it: None if is_file(it) else homes.get(it, it.replace("::", os.sep))
             return [lambda function, error, case=case: is_for(case, home_of(function), error) for case, _ in together]
         return [is_goal_of if turned and proofs[turned.proof] > 1 else None for _, turned in together]
+
+
+def copy_in(turned):
+    """The function that a wrong body is in a copy of, or None."""
+    return turned and turned.of
 
 
 def unproved_of(answer, crate, function):
@@ -800,7 +863,7 @@ class Run:
             self.ready += self.later.pop(task.group)
         for (case, turned), fault in zip(task.together, result):
             if fault and len(task.together) > 1:
-                self.ready.append(Task(task.group, [(case, turned)]))
+                self.ready.append(Task(task.group, [(case, copy_in(turned) or turned)]))
                 continue
             if self.kept and not fault:
                 self.kept.add(task.group, case)

@@ -285,6 +285,98 @@ def are_rounds_right(folder):
     return got == ROUNDS and alone == [1] * len(cases)
 
 
+# What the file has where `half` stands, with two wrong bodies of that: one in its place, and one in a copy behind one that is right.
+COPIED = """\
+/// Half of a number.
+pub fn half(n: u32) -> u32
+    ensures { result ≡ n / 2 }
+{
+    part(n, 3)
+}
+
+/// Half of a number.
+pub fn half_again_1(n: u32) -> u32
+    ensures { result ≡ n / 2 }
+{
+    part(n, 2)
+}
+
+/// Half of a number.
+pub fn half_again_2(n: u32) -> u32
+    ensures { result ≡ n / 2 }
+{
+    part(n, 4)
+}
+
+pub trait Parted {
+"""
+ANSWERS = "use Rattle.low.proofs.half.Goals as goal\nuse Rattle.low.proofs.half_sums.Goals\n"
+# What the prover says of `half` and its copies, each of which has a goal left where it is not proved, and of which cases something is wrong.
+LEFT = "note: src/lib.rt:9:1: it is not proved that what the function ensures holds when it returns (`returns`)\n"
+SAID = [
+    ({"half": LEFT, "half_again_1": "", "half_again_2": LEFT}, [None, None]),
+    ({"half": LEFT, "half_again_1": "", "half_again_2": ""}, [None, "not refused by half_again_2"]),
+    ({"half": "", "half_again_1": "", "half_again_2": LEFT}, ["not refused by half", None]),
+    ({"half": LEFT, "half_again_1": LEFT, "half_again_2": LEFT}, [None, "half_again_1 as it stands: not proved"]),
+]
+# Of lists of so many wrong bodies, each of which has another one of functions in the list before, those that are tried.
+FEWER = [([9, 3, 1], [13]), ([9, 5], [9, 5]), ([9, 5, 2], [16]), ([9, 8, 3, 1], [9, 12]), ([9], [9]), ([], [])]
+
+
+def are_copies_right(folder):
+    """Whether a function with several wrong bodies stands in a run several times, with its proof, and is judged by each of its copies."""
+    crates, there = os.path.join(folder, "crates"), os.path.join(folder, "copied")
+    os.makedirs(os.path.join(crates, "low", "proofs", "half"))
+    with open(os.path.join(crates, "low", "proofs", "half", "Answers.antt"), "w", encoding="utf-8") as file:
+        file.write(ANSWERS)
+    cases = [it for it in wrong.cases_in(os.path.join(folder, "low.cases")) if it.refused == ["half"]]
+    group = wrong.Group("low", set(), cases, wrong.Settings(folder, crates, {"low": []}, crates, folder))
+    together = wrong.rounds_of(cases, group.bodies, False)[0]
+    got, asked = {}, []
+
+    def ask(cases, functions, kept, copies):
+        asked.append(functions)
+        if len(asked) == 1:
+            group.fill(there, cases, functions, copies)
+        lines = (f"{said}fn low::{it}: {'not proved' if said else 'proved'}" for it, said in SAID[len(asked) - 1][0].items())
+        return wrong.Answer(1, "\n".join([*lines, SOME]), "low", crates), 1.0
+
+    group.ask = ask
+    wanted = {"answers": [it for _, it in SAID], "asked": [["half", "half_again_1", "half_again_2"]] * len(SAID)}
+    got["answers"] = [group.attempt(together, False)[0] for _ in SAID]
+    got["asked"] = asked
+    with open(os.path.join(there, "low", "src", "lib.rt"), encoding="utf-8") as file:
+        got["text"], wanted["text"] = file.read()[:len(COPIED)], COPIED
+    with open(os.path.join(there, "low", "proofs", "half_again_2", "Answers.antt"), encoding="utf-8") as file:
+        got["proof"], wanted["proof"] = file.read(), ANSWERS.replace("half.Goals", "half_again_2.Goals")
+    got["others"], wanted["others"] = sorted(it.function for it in group.bodies.all if it.starts is None), ["Parted::more", "even", "odd"]
+    sizes = lambda rounds: [len(it) for it in rounds]
+    got["fewer"], wanted["fewer"] = [sizes(wrong.fewer([together[:1] * it for it in them])) for them, _ in FEWER], [it for _, it in FEWER]
+    if got != wanted:
+        print(suite.difference("wrong bodies in copies", wanted, got))
+    return got == wanted
+
+
+def is_copy_tried_alone():
+    """Whether a wrong body that a copy of its function does not refuse is tried once more in its place."""
+    own = bodies.Body("f", "f", "f.rt", 1, 2, frozenset(), None, True, starts=0)
+    group, asked = Runs("seed", []), []
+
+    def attempt(together, _):
+        asked.append([turned.function for _, turned in together])
+        return ["not refused" if turned.of else None for _, turned in together], 1.0
+
+    group.attempt = attempt
+    with contextlib.redirect_stdout(None):
+        run_of = wrong.Run([], False)
+        run_of.ready = [wrong.Task(group, [(group.cases[0], own), (group.cases[1], bodies.again(own, 2))])]
+        run_of.on(1)
+    got, wanted = (asked, list(run_of.faults.values())), ([["f", "f_again_2"], ["f"]], [None, None])
+    if got != wanted:
+        print(suite.difference("a wrong body that its copy does not refuse", wanted, got))
+    return got == wanted
+
+
 def are_missing_found(folder):
     """Whether the public functions of a crate that have no wrong body are told."""
     crates, path = os.path.join(folder, "public"), os.path.join(folder, "high.cases")
@@ -498,5 +590,5 @@ def are_lanes_right():
 
 def tried(folder):
     """Whether each of that is as it should be."""
-    right = [are_rounds_right(folder), are_missing_found(folder), are_lanes_right(), are_proofs_taken(folder)]
-    return [*right, is_library_made(folder), is_first_run_kept(), is_refusal_kept(folder)]
+    right = [are_rounds_right(folder), are_copies_right(folder), is_copy_tried_alone(), are_missing_found(folder), are_lanes_right()]
+    return [*right, are_proofs_taken(folder), is_library_made(folder), is_first_run_kept(), is_refusal_kept(folder)]
