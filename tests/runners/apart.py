@@ -23,14 +23,28 @@ def place_of(error):
 
 
 class Apart:
-    """Tells apart the cases of some crates in a folder. `texts_with` gives the texts of files, by their paths, with cases in their places."""
+    """Tells apart the cases of some crates in a folder. `texts_with` gives the texts of files, by their paths, with cases in their places,
+    and `home_of` the folder of a function's proof, or None where a file of proofs is to be refused."""
 
-    def __init__(self, crates, names, texts_with):
+    def __init__(self, crates, names, texts_with, home_of):
         self.crates = crates
         self.names = names
         self.texts_with = texts_with
+        self.home_of = home_of
         self.right = Dependencies(crates, names)
+        self.is_counted = self.counting(self.right)
         self.changes = {}
+
+    def counting(self, dependencies):
+        """Tells of a case, a function or file that must be refused, and a declaration whether an error there counts: whether the function's
+        proof uses it, or it stands in the file."""
+        used = functools.cache(dependencies.behind)
+
+        def is_counted(case, refused, place):
+            home = self.home_of(refused)
+            return place[0] == os.path.join(case.crate, refused) if home is None else place in used(case.crate, home)
+
+        return is_counted
 
     def changes_of(self, case):
         """What a case changes."""
@@ -39,10 +53,10 @@ class Apart:
         return self.changes[case]
 
     def rounds_of(self, cases):
-        """The cases that are tried together, list by list: each fails at a declaration whose check reads nothing that the others change. Those
-        come first that go with the fewest others: so the lists are fewer."""
-        touching = {case: [self.touching(cases, case, self.right.read_by(it)) for it in self.places_of(case.places)] for case in cases}
-        are_apart = lambda both: all(any(not both & them for them in touching[it]) for it in both)
+        """The cases that are tried together, list by list: of what must refuse it each has a declaration at which it fails, and whose check
+        reads nothing that the others change. Those come first that go with the fewest others: so the lists are fewer."""
+        touching = {case: [list(self.touching_at(cases, case, it)) for it in case.refused] for case in cases}
+        are_apart = lambda both: all(any(not both & them for them in places) for it in both for places in touching[it])
         partners = {case: sum(are_apart({case, it}) for it in cases) for case in cases}
         rounds = []
         for case in sorted(cases, key=partners.get):
@@ -54,6 +68,12 @@ class Apart:
             else:
                 rounds.append([case])
         return rounds
+
+    def touching_at(self, cases, case, refused):
+        """Of each declaration that counts for what must be refused, and at which a case fails, which of the other cases touch it."""
+        for it in self.places_of(case.places):
+            if self.is_counted(case, refused, it):
+                yield self.touching(cases, case, self.right.read_by(it))
 
     def places_of(self, names):
         """The declarations of proofs that have these names."""
@@ -72,15 +92,12 @@ class Apart:
         return True
 
     def errors_told(self, cases):
-        """Tells for a case of these, that are tried together, and the folder of a function's proof, or None where a file is to be refused,
-        whether an error is for that case."""
+        """Tells for a case of these, that are tried together, and a function or file that must be refused whether an error is for that."""
         wrong = Dependencies(self.crates, self.names, self.texts_with(cases))
-        used = functools.cache(wrong.behind)
+        is_counted = self.counting(wrong)
 
-        def is_for(case, proof, error):
+        def is_for(case, refused, error):
             place = place_of(error)
-            if place not in wrong.all or proof is not None and place not in used(case.crate, proof):
-                return False
-            return not self.touching(cases, case, wrong.read_by(place))
+            return place in wrong.all and is_counted(case, refused, place) and not self.touching(cases, case, wrong.read_by(place))
 
         return is_for

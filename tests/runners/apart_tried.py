@@ -113,11 +113,11 @@ pub unused : double 0 ≡ 0
 unused = refl
 """,
     "proofs/law/Answers.antt": """\
-use Rattle.mid.proofs.Lemmas.{of_double, of_opened, of_both, alike}
+use Rattle.mid.proofs.Lemmas.{of_double, of_opened, of_both, alike, even, of_twice}
 use Rattle.mid.proofs.law.Goals as goal
 
 pub returns : goal.returns
-returns c = (of_double, of_opened, of_both, alike, even)
+returns c = (of_double, of_opened, of_both, alike, even, of_twice)
 """,
 }
 RULES, LEMMAS, SOURCE = "mid/specs/Rules.antt", "mid/proofs/Lemmas.antt", "mid/src/lib.rt"
@@ -194,12 +194,21 @@ old: result ≡ double n
 new: result ≡ triple n
 refused: law
 at: of_twice
+
+== kept_is_the_same
+tests: kept
+file: proofs/Lemmas.antt
+old: kept n = double n
+new: kept n = n
+refused: law
+at: of_kept
 """
 # The cases that are tried together: the third one fails where the first changes something, as does the fourth, and one that does not say
-# where it fails is alone, and comes first. The last one fails where the first changes something, and changes nothing of what those of the
-# last list read.
+# where it fails, or fails where the law does not rest on, is alone, and comes first. The last one but for that fails where the first changes
+# something, and changes nothing of what those of the last list read.
 ROUNDS = [
-    ["opened_is_one"], ["double_is_once", "opened_is_none"], ["triple_is_double", "pair_is_the_right_one", "twice_is_thrice"],
+    ["opened_is_one"], ["kept_is_the_same"],
+    ["double_is_once", "opened_is_none"], ["triple_is_double", "pair_is_the_right_one", "twice_is_thrice"],
 ]
 # An error of a run in which the first two cases are tried, and which of these it is for: not one that reads what both change, nor one that the
 # law does not rest on, and neither a note of a goal.
@@ -244,7 +253,7 @@ def tried(folder):
     right.append(is_as("rounds of definitions", ROUNDS, [[case.name for case, _ in together] for together in rounds]))
     alone = wrong.rounds_of(cases, group.bodies, True, tells)
     right.append(is_as("rounds where each is alone", [1] * len(cases), [len(it) for it in alone]))
-    owners = group.owners(rounds[1])
+    owners = group.owners(rounds[2])
     for said, wanted in ERRORS.items():
         error = wrong.Error(LEMMAS, None, said)
         right.append(is_as(f"whose error it is: {said}", wanted, [is_own("law", error) for is_own in owners]))
@@ -254,7 +263,7 @@ def tried(folder):
     cases[0].shown, cases[4].shown = ["of_both", "alike"], ["of_opened"]
     wrong.write_places(crates, "mid", [cases[0], cases[4], cases[5]])
     got = [it.places for it in wrong.cases_in(os.path.join(crates, "mid.cases"))]
-    right.append(is_as("where cases are refused", [["of_both", "alike"], ["of_opened"], ["of_triple"], ["alike"], ["of_opened"], ["of_twice"]], got))
-    changed = tells.changes_of(cases[-1])
+    right.append(is_as("where cases are refused", [["of_both", "alike"], ["of_opened"], ["of_triple"], ["alike"], ["of_opened"], ["of_twice"], ["of_kept"]], got))
+    changed = tells.changes_of(cases[5])
     right.append(is_as("what a case changes", {((RULES, "more"), True), ((RULES, "more"), False), ((SOURCE, "twice"), True), ((SOURCE, "twice"), False)}, changed))
     return right

@@ -31,6 +31,7 @@ Before the last line, `N passed, M failed`, stands what it took, and how many ca
 import argparse
 import collections
 import contextlib
+import functools
 import hashlib
 import itertools
 import os
@@ -525,14 +526,22 @@ class Group:
     def apart(self):
         """What tells its wrong definitions apart, where there are several that say where they are refused."""
         if not self.told_apart and sum(bool(it.places) for it in self.cases) > 1:
-            self.told_apart = Apart(self.settings.crates, self.written, self.texts_with)
+            self.told_apart = self.tells()
         return self.told_apart
 
+    def tells(self):
+        """What tells its wrong definitions apart. A law with nothing in its body has its proof where its path says."""
+        homes = {it.function: it.proof for it in self.bodies.all}
+        home_of = lambda it: None if is_file(it) else homes.get(it, it.replace("::", os.sep))
+        return Apart(self.settings.crates, self.written, self.texts_with, home_of)
+
     def order_places(self):
-        """Puts where its cases are refused that were tried alone in order: first what reads least."""
-        tells = Apart(self.settings.crates, self.written, self.texts_with)
+        """Puts where its cases are refused that were tried alone in order: first what counts for all that must be refused, and what reads
+        least."""
+        tells = self.tells()
         for case in self.cases:
-            case.shown.sort(key=lambda name: min((len(tells.right.read_by(it)) for it in tells.places_of([name])), default=0))
+            reads = lambda it: (not all(tells.is_counted(case, refused, it) for refused in case.refused), len(tells.right.read_by(it)))
+            case.shown.sort(key=lambda name: min(map(reads, tells.places_of([name])), default=(False, 0)))
 
     def texts_with(self, cases):
         """The texts of files with these cases in their places, as a run has them that tries these."""
@@ -700,10 +709,7 @@ class Group:
         proofs = collections.Counter(turned and turned.proof for _, turned in together)
         if not together[0][1] and len(together) > 1:
             is_for = self.told_apart.errors_told([case for case, _ in together])
-            # a law with nothing in its body has its proof where its path says
-            homes = {it.function: it.proof for it in self.bodies.all}
-            home_of = lambda it: None if is_file(it) else homes.get(it, it.replace("::", os.sep))
-            return [lambda function, error, case=case: is_for(case, home_of(function), error) for case, _ in together]
+            return [functools.partial(is_for, case) for case, _ in together]
         return [is_goal_of if turned and proofs[turned.proof] > 1 else None for _, turned in together]
 
 
