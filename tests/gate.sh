@@ -53,11 +53,14 @@ if ! sh tests/install.sh; then
 fi
 sources=$(python3 tools/sources.py look)
 add "proofs" rt ci
-# `make build` and `make demo` take what was proved and built here, while the sources are the same.
-[ "$failed" -ne 0 ] || python3 tools/sources.py note "$sources"
+# `make build` and `make demo` take what was proved and built here, while the sources are the same; and wrong bodies take that all is proved.
+proved=
+if [ "$failed" -eq 0 ] && python3 tools/sources.py note "$sources"; then
+  proved=$sources
+fi
 add "scripts" python3 tests/runners/scripts.py
 add "self tests" python3 tests/runners/self_test.py
-add "wrong bodies" python3 tests/runners/wrong.py
+add "wrong bodies" python3 tests/runners/wrong.py --proved "$proved"
 add "command line" python3 tests/runners/run.py
 add "whole language" python3 tests/runners/run.py --whole
 add "codes" python3 tests/runners/codes.py

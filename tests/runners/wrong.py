@@ -17,7 +17,8 @@ the libraries are taken that `rt ci` leaves in `crates/NAME/out`. Where a case c
 are taken as they are written, and what refuses it must be a proof of a crate that it does not change.
 
 As they stand the functions are proved here, but for those that `rt ci` has just proved and of which a case changes the body alone: what
-it leaves of their crate is newer then than all that this is made of. Each run has another function beside them then, as it stands, which
+it leaves of their crate is newer then than all that this is made of; or the sources are as they were before it began, which the gate says
+with `--proved`, since what was kept of a proof may be older than a clone. Each run has another function beside them then, as it stands, which
 must be proved: so the runs themselves show that a right body is proved where a wrong one is refused. Where each function of the crate has
 a wrong body, one of them is proved as it stands before. With `--right` all are proved here.
 
@@ -49,7 +50,7 @@ import suite  # first: it says where the references and the generators are
 import in_trees
 from apart import Apart, place_of
 from bodies import HEAD, Bodies, again, text_again, traits_of
-from sources import in_order, stands_on
+from sources import in_order, look, stands_on
 
 CASES = os.path.join(suite.TESTS, "wrong")
 PARTS = ("src", "specs", "proofs")
@@ -499,8 +500,8 @@ def make_library(crate):
 # The file of a library that has the sum of its others.
 FORMAT = "format"
 # Where the prover and its libraries are, the crates, what each stands on, a folder with the libraries that are built of them, and one for
-# what is made here; and whether functions are taken for proved that `rt ci` has proved.
-Settings = collections.namedtuple("Settings", "kit crates graph built room is_trusting", defaults=(True,))
+# what is made here; whether functions are taken for proved that `rt ci` has proved, and whether those are all, whatever is newer.
+Settings = collections.namedtuple("Settings", "kit crates graph built room is_trusting is_noted", defaults=(True, False))
 # The prover's processes, which end where the script is ended, and whether that has been.
 RUNNING = set()
 IS_ENDED = threading.Event()
@@ -552,10 +553,13 @@ class Group:
         return os.path.join(self.settings.built, crate, "out", "rlib", f"{crate}.rlib")
 
     def is_proved(self):
-        """Whether what `rt ci` leaves of the crate, its library or its program, is newer than all that it is made of."""
+        """Whether what `rt ci` leaves of the crate, its library or its program, is newer than all that it is made of, or it is said that all
+        is proved."""
+        if not self.settings.is_trusting or self.written != [self.crate]:
+            return False
         left = [os.path.join(self.library(self.crate), FORMAT), os.path.join(self.settings.built, self.crate, "out", self.crate)]
         made = [os.path.getmtime(it) for it in left if os.path.isfile(it)]
-        return bool(made) and self.settings.is_trusting and self.written == [self.crate] and max(self.changes()) < max(made)
+        return self.settings.is_noted or bool(made) and max(self.changes()) < max(made)
 
     def changes(self):
         """When the crate's files were changed, and the libraries were made that it stands on."""
@@ -956,6 +960,7 @@ def main():
     built = os.path.join(suite.ROOT, "crates")
     parser.add_argument("--built", default=built, metavar="FOLDER", help="the crates whose libraries are taken")
     parser.add_argument("--right", action="store_true", help="proves all functions as they stand first, also what `rt ci` has proved")
+    parser.add_argument("--proved", default="", metavar="LOOK", help="what `sources.py look` said before `rt ci` began, which has just proved all")
     parser.add_argument("--anew", action="store_true", help="tries also what an earlier run on this machine refused")
     parser.add_argument("--missing", action="store_true", help="lists the public functions that have no wrong body, and tries none")
     parser.add_argument("--private", action="store_true", help="lists the cases that private functions alone refuse, and tries none")
@@ -977,7 +982,8 @@ def main():
     refused = {head[0] for head, _ in in_trees.programs_in("refused")}
     with tempfile.TemporaryDirectory(prefix="wrong-") as room:
         crates = os.path.join(suite.ROOT, "crates")
-        settings = Settings(kit, crates, stands_on(suite.ROOT), os.path.abspath(options.built), room, not options.right)
+        is_noted = options.built == built and look(suite.ROOT) == options.proved
+        settings = Settings(kit, crates, stands_on(suite.ROOT), os.path.abspath(options.built), room, not options.right, is_noted)
         kept = Kept(kept_folder(), kit)
         is_anew = options.anew or options.right or options.alone
         of_crates = {it.crate for it in cases}

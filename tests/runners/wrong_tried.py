@@ -392,7 +392,8 @@ def are_missing_found(folder):
 
 
 # When the file of a crate was changed, and when its library and that below it were made, if they were: the functions that are proved as
-# they stand for a case that turns the body of `half` and one that turns what `third` rests on, and the one that each run proves beside.
+# they stand for a case that turns the body of `half` and one that turns what `third` rests on, and the one that each run proves beside. They
+# are as in the first of these where it is said that all is proved.
 STANDING = [
     ({"source": 1, "low": 2, "mid": 3}, (["third"], "part")),
     ({"source": 1, "low": 2}, (["half", "third"], None)),
@@ -419,9 +420,10 @@ def are_proofs_taken(folder):
             file.write(TURNS)
         cases = [it for it in wrong.cases_in(path) if it.name in ("half_is_a_third", "third_is_a_fourth")]
         settings = wrong.Settings(folder, crates, {"low": [], "mid": ["low"]}, crates, folder)
-        group, other = (wrong.Group("mid", set(), cases, it) for it in (settings, settings._replace(is_trusting=False)))
-        got = group.unproved(), group.beside
-        if got != wanted or other.unproved() != ["half", "third"] or other.beside:
+        noted = settings._replace(is_noted=True)
+        every = (settings, noted, settings._replace(is_trusting=False), noted._replace(is_trusting=False))
+        got, said, *others = ((it.unproved(), it.beside) for it in (wrong.Group("mid", set(), cases, it) for it in every))
+        if got != wanted or said != STANDING[0][1] or others != [(["half", "third"], None)] * 2:
             print(suite.difference(f"what is proved as it stands, with {times}", wanted, got))
             right = False
     # Where each function has a wrong body, one of them is proved; and where that one is not, no case counts.
