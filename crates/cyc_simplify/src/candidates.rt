@@ -1,6 +1,10 @@
 //! Which functions are worth a look. Nothing is promised of it: any function may stay as it is.
+ghost use Rattle.std.specs.Prelude.{◌<◌, length};
+
 use crate::jumps::is_end;
-use crate::known::{are_same_operands, is_any_slot, is_same_operator, is_same_word};
+use crate::known::{
+    are_same_operands, is_any_slot, is_same_comparison, is_same_operator, is_same_word,
+};
 use cyc_plain::{Comparison, Instruction, Operand, Request};
 
 /// Slots to which other slots were moved since the last call, from the first to the last.
@@ -39,26 +43,62 @@ fn with_copies(copies: Copies, destination: usize, count: usize) -> Copies {
     }
 }
 
-/// The copies behind an instruction. What is copied for a call is not looked at: it is to stand there.
-fn copies_behind(copies: Copies, instruction: Instruction) -> Copies {
-    match instruction {
+/// What code has copied and read since the last call. What is copied for a call is not looked at: it is to stand there.
+#[derive(Clone, Copy)]
+struct Seen {
+    copies: Copies,
+    /// The bits of the globals whose words are known.
+    globals: u64,
+}
+
+fn nothing_seen() -> Seen {
+    Seen {
+        copies: no_copies(),
+        globals: 0,
+    }
+}
+
+/// A bit for a global, which others may have too.
+fn bit_of(global: usize) -> u64 {
+    1 << (global % 64)
+}
+
+fn see_copies(seen: Seen, copies: Copies) -> Seen {
+    Seen {
+        copies,
+        globals: seen.globals,
+    }
+}
+
+fn see_global(seen: Seen, global: usize) -> Seen {
+    Seen {
+        copies: seen.copies,
+        globals: seen.globals | bit_of(global),
+    }
+}
+
+/// What was seen behind an instruction.
+fn seen_behind(seen: Seen, instruction: &Instruction) -> Seen {
+    match *instruction {
         Instruction::Move {
             destination,
             source,
         } => {
             if is_any_slot(source) {
-                with_copy(copies, destination)
+                see_copies(seen, with_copy(seen.copies, destination))
             } else {
-                copies
+                seen
             }
         }
         Instruction::MoveWords {
             destination,
             count,
             ..
-        } => with_copies(copies, destination, count),
-        Instruction::Call { .. } => no_copies(),
-        _ => copies,
+        } => see_copies(seen, with_copies(seen.copies, destination, count)),
+        Instruction::LoadGlobal { global, .. } => see_global(seen, global),
+        Instruction::StoreGlobal { global, .. } => see_global(seen, global),
+        Instruction::Call { .. } => nothing_seen(),
+        _ => seen,
     }
 }
 
@@ -69,84 +109,26 @@ fn is_copy(copies: Copies, operand: Operand) -> bool {
     }
 }
 
-/// Whether an instruction reads a copy, so that it may read the slot that was copied.
-fn reads_copy(copies: Copies, instruction: Instruction) -> bool {
-    match instruction {
-        Instruction::Move { source, .. } => is_copy(copies, source),
-        Instruction::Unary { operand, .. } => is_copy(copies, operand),
-        Instruction::Binary { left, right, .. } => is_copy(copies, left) || is_copy(copies, right),
-        Instruction::Branch { left, right, .. } => is_copy(copies, left) || is_copy(copies, right),
-        Instruction::Load { address, .. } => is_copy(copies, address),
-        Instruction::LoadByte { address, .. } => is_copy(copies, address),
-        Instruction::Store {
-            address,
-            source,
-            ..
-        } => is_copy(copies, address) || is_copy(copies, source),
-        Instruction::StoreByte {
-            address,
-            source,
-            ..
-        } => is_copy(copies, address) || is_copy(copies, source),
-        Instruction::StoreGlobal { source, .. } => is_copy(copies, source),
-        Instruction::Ask {
-            request: Request::Allocate { handle, words, .. },
-        } => is_copy(copies, handle) || is_copy(copies, words),
-        _ => false,
-    }
+/// Whether one of two operands is a copy, so that the slot that was copied may be read.
+fn has_copy(copies: Copies, left: Operand, right: Operand) -> bool {
+    is_copy(copies, left) || is_copy(copies, right)
 }
 
 /// Whether a slot is tested, and an exception thrown if the test fails. An index is tested by a branch round what tells which.
-fn is_check(code: &[Instruction], instruction: Instruction) -> bool {
-    match instruction {
-        Instruction::Branch {
-            comparison: Comparison::LessUnsigned,
-            ..
-        } => true,
-        Instruction::Branch {
-            left,
-            right,
-            target,
-            ..
-        } => (is_any_slot(left) || is_any_slot(right)) && is_end(code, target),
-        _ => false,
-    }
-}
-
-/// Whether an operator has a word for its operand, as a constant with a sign.
-fn is_of_word(instruction: Instruction) -> bool {
-    match instruction {
-        Instruction::Unary { operand, .. } => !is_any_slot(operand),
-        _ => false,
-    }
-}
-
-/// A bit for a global, which others may have too.
-fn bit_of(global: usize) -> u64 {
-    1 << (global % 64)
-}
-
-/// The bits of the globals whose words are known behind an instruction, since the last call.
-fn globals_behind(globals: u64, instruction: Instruction) -> u64 {
-    match instruction {
-        Instruction::LoadGlobal { global, .. } => globals | bit_of(global),
-        Instruction::StoreGlobal { global, .. } => globals | bit_of(global),
-        Instruction::Call { .. } => 0,
-        _ => globals,
-    }
-}
-
-/// Whether a global is loaded whose word may be known.
-fn reads_global(globals: u64, instruction: Instruction) -> bool {
-    match instruction {
-        Instruction::LoadGlobal { global, .. } => globals & bit_of(global) != 0,
-        _ => false,
-    }
+fn is_check(
+    code: &[Instruction],
+    comparison: Comparison,
+    left: Operand,
+    right: Operand,
+    target: usize,
+) -> bool {
+    is_same_comparison(comparison, Comparison::LessUnsigned)
+        || ((is_any_slot(left) || is_any_slot(right)) && is_end(code, target))
 }
 
 /// Whether two instructions compute or load the same.
-fn are_same(one: Instruction, other: Instruction) -> bool {
-    match (one, other) {
+fn are_same(one: &Instruction, other: &Instruction) -> bool {
+    match (*one, *other) {
         (
             Instruction::Binary {
                 operator,
@@ -176,8 +158,52 @@ fn are_same(one: Instruction, other: Instruction) -> bool {
                 ..
             },
         ) => is_same_word(address, offset, second, other_offset),
-        (Instruction::LoadGlobal { global, .. }, Instruction::LoadGlobal { global: second, .. }) =>
-            { global == second }
+        _ => false,
+    }
+}
+
+/// Whether the instruction before it computes or loads the same.
+fn is_again(code: &[Instruction], index: usize) -> bool
+    requires { index < length code.now }
+{
+    index > 0 && are_same(&code[index - 1], &code[index])
+}
+
+/// Whether an instruction may be a check, read a slot that was copied or a global anew, compute or load what the one before it did, or have
+/// a word for its operand, as a constant with a sign.
+fn may_gain(code: &[Instruction], seen: Seen, index: usize) -> bool
+    requires { index < length code.now }
+{
+    let copies = seen.copies;
+    match code[index] {
+        Instruction::Move { source, .. } => is_copy(copies, source),
+        Instruction::Unary { operand, .. } => !is_any_slot(operand) || is_copy(copies, operand),
+        Instruction::Binary { left, right, .. } => {
+            has_copy(copies, left, right) || is_again(code, index)
+        }
+        Instruction::Branch {
+            comparison,
+            left,
+            right,
+            target,
+        } => has_copy(copies, left, right) || is_check(code, comparison, left, right, target),
+        Instruction::Load { address, .. } => is_copy(copies, address) || is_again(code, index),
+        Instruction::LoadByte { address, .. } => is_copy(copies, address),
+        Instruction::Store {
+            address,
+            source,
+            ..
+        } => has_copy(copies, address, source),
+        Instruction::StoreByte {
+            address,
+            source,
+            ..
+        } => has_copy(copies, address, source),
+        Instruction::LoadGlobal { global, .. } => seen.globals & bit_of(global) != 0,
+        Instruction::StoreGlobal { source, .. } => is_copy(copies, source),
+        Instruction::Ask {
+            request: Request::Allocate { handle, words, .. },
+        } => has_copy(copies, handle, words),
         _ => false,
     }
 }
@@ -185,21 +211,12 @@ fn are_same(one: Instruction, other: Instruction) -> bool {
 /// Whether code may test, move, compute or load something once more, or compute what is known: it has a check, reads a copy of a slot
 /// or a global anew, computes one thing twice in a row, or has a constant with a sign.
 pub(crate) fn is_candidate(code: &[Instruction]) -> bool {
-    let mut copies = no_copies();
-    let mut globals = 0;
-    let mut last = Instruction::Jump { target: 0 };
-    for instruction in code {
-        if is_check(code, *instruction)
-            || reads_copy(copies, *instruction)
-            || reads_global(globals, *instruction)
-            || is_of_word(*instruction)
-            || are_same(last, *instruction)
-        {
+    let mut seen = nothing_seen();
+    for index in 0..code.len() {
+        if may_gain(code, seen, index) {
             return true;
         }
-        copies = copies_behind(copies, *instruction);
-        globals = globals_behind(globals, *instruction);
-        last = *instruction;
+        seen = seen_behind(seen, &code[index]);
     }
     false
 }
