@@ -184,7 +184,7 @@ fn adopt_at(guesses: &mut Vec<Entry>, entries: &mut Vec<Entry>, place: usize)
 pub(crate) fn adopt(guesses: &mut Vec<Entry>, entries: &mut Vec<Entry>, first: usize, end: usize)
     ensures { (index : ℕ) → index < first → entries_of.AreNarrowed index (entries_of.entry_in entries.old.items) (entries_of.entry_in entries.new.items) }
 {
-    for place in first..end {
+    for place in first..end.min(guesses.len()) {
         adopt_at(guesses, entries, place);
     }
 }
