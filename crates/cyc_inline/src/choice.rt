@@ -10,7 +10,7 @@ ghost use Rattle.cyc_inline.specs.inside.Sites.{chosen_call, place_in};
 ghost use Rattle.cyc_inline.specs.inside.Emission.{AreChosen, AreLeafs, IsChosenBy, IsNeed, IsSmallCall, call_size, front_by, leads_by, twin_by};
 
 use crate::limits::MOST_GROWTH;
-use crate::naming::Twins;
+use crate::needing::Twins;
 use crate::site::{Call, chosen_call, inside_size};
 use crate::tables::place_in;
 use crate::twinning::{lead_count, twin_slot};

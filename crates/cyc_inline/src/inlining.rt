@@ -42,19 +42,25 @@ fn has_any(leafs: &[usize]) -> bool {
     false
 }
 
-/// Whether there may be something to do.
-fn has_some(work: Work) -> bool {
+/// The number of the first function to which there may be something to do, or how many functions there are.
+fn first_of(search: &mut Search, plain: &Plain, work: Work) -> Result<usize, AllocError> {
     match work {
-        Work::Calls { leafs } => has_any(leafs),
-        Work::Twins => true,
+        Work::Calls { leafs } => {
+            if has_any(leafs) {
+                Ok(0)
+            } else {
+                Ok(plain.functions().len())
+            }
+        }
+        Work::Twins => search.first_needing(plain),
     }
 }
 
-/// By how many words a program may become larger, if there may be something to do.
-fn spare_for(plain: &Plain, work: Work, room: usize) -> usize
+/// By how many words a program may become larger, if there may be something to do: from this function on.
+fn spare_for(plain: &Plain, first: usize, room: usize) -> usize
     ensures { (result ≡ 0) ⊎ ((sum_by size plain.now.functions + result ≤ room) × (sum_by size plain.now.functions + result ≤ limits.MOST_SIZE)) }
 {
-    if has_some(work) {
+    if first < plain.functions().len() {
         spare_of(plain, room)
     } else {
         0
@@ -71,12 +77,13 @@ fn left_of(change: &Option<Made>, spare: usize) -> usize
     }
 }
 
-/// A function that stands for the one of this number, if another does.
+/// A function that stands for the one of this number, if another does: to those before the first nothing is done.
 fn change_of(
     alloc: Global,
     search: &mut Search,
     plain: &Plain,
     work: Work,
+    first: usize,
     number: usize,
     spare: usize,
 ) -> Result<Option<Made>, AllocError>
@@ -85,6 +92,9 @@ fn change_of(
     requires number { number < length plain.now.functions }
     ensures { IfOk result (IsChange plain.now number spare) }
 {
+    if number < first {
+        return Ok(None);
+    }
     match work {
         Work::Calls { leafs } => make(alloc, plain, leafs, number, spare),
         Work::Twins => make_twins(alloc, search, plain, number, spare),
@@ -104,10 +114,11 @@ fn changes_of(
 {
     let count = plain.functions().len();
     let mut changes = Vec::with_capacity(alloc, count)?;
-    let mut spare = spare_for(plain, work, room);
     let mut search = Search::new(alloc);
+    let first = first_of(&mut search, plain, work)?;
+    let mut spare = spare_for(plain, first, room);
     for number in 0..count {
-        let change = change_of(alloc, &mut search, plain, work, number, spare)?;
+        let change = change_of(alloc, &mut search, plain, work, first, number, spare)?;
         spare = left_of(&change, spare);
         changes.push(change)?;
     }

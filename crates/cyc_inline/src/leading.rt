@@ -160,7 +160,7 @@ impl Search {
         0
     }
 
-    /// What is still a candidate behind the code.
+    /// What is still a candidate behind the loops is none any more.
     pub(crate) fn settle_all(&mut self) -> Result<(), AllocError> {
         for at in 0..self.candidates.len() {
             if let Some(candidate) = self.candidates.get(at) {
@@ -168,6 +168,7 @@ impl Search {
                 self.settle(candidate)?;
             }
         }
+        self.candidates.clear();
         Ok(())
     }
 

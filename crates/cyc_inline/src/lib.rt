@@ -13,6 +13,7 @@ mod limits;
 mod making;
 mod moving;
 mod naming;
+mod needing;
 mod origin;
 mod replacing;
 mod shapes;

@@ -8,7 +8,8 @@ ghost use Rattle.cyc_inline.specs.inside.Changes.{IsChange};
 use crate::caller::{Caller, opened_places};
 use crate::choice::{Choice, choose, choose_twins, larger};
 use crate::emission::Emission;
-use crate::naming::{Search, twins_of};
+use crate::naming::Search;
+use crate::needing::twins_of;
 use crate::origin::Origin;
 use crate::sizes::code_size;
 use crate::tables::place_in;
@@ -151,7 +152,7 @@ pub(crate) fn make_twins(
     requires number { number < length plain.now.functions }
     ensures { IfOk result (IsChange plain.now number spare) }
 {
-    if let Some(twins) = twins_of(alloc, search, plain, plain.function(number))? {
+    if let Some(twins) = twins_of(alloc, search, plain, number, plain.function(number))? {
         if let Some(choice) = choose_twins(alloc, plain, number, twins) {
             return opened_in(alloc, plain, number, &choice, spare);
         }

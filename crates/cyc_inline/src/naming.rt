@@ -4,9 +4,7 @@
 use crate::leading::Candidate;
 use crate::shapes::{LOAD, LOAD_GLOBAL, Shape, Value, bucket_of, is_same_shape, is_slot, kind_of};
 use crate::writing::{Slots, pinned_by, slots_from, stores, written_by};
-use cyc_plain::{
-    BinaryOperator, Function, Instruction, LAYOUT_WORDS, MOST_FRAME_WORDS, Operand, Plain,
-};
+use cyc_plain::{BinaryOperator, Function, Instruction, Operand, Plain};
 use std::alloc::{AllocError, Global};
 
 /// So many expressions of one bucket are compared at most.
@@ -14,15 +12,6 @@ const MOST_COMPARED: usize = 8;
 
 /// A function of so many instructions at most is small: what it computes may be worth a slot outside of loops too.
 const MOST_SMALL: usize = 256;
-
-/// How many slots a function has with those that its expressions get, for each of its instructions which of them its twin
-/// is for, or 0, and its leads.
-#[derive(Drop)]
-pub(crate) struct Twins {
-    pub(crate) slots: usize,
-    pub(crate) wanted: Vec<usize>,
-    pub(crate) leads: Vec<Vec<Instruction>>,
-}
 
 /// An expression. Times are numbers of instructions, from 1 on.
 #[derive(Clone, Copy)]
@@ -38,7 +27,7 @@ pub(crate) struct Expression {
     /// The slot that got it last.
     holder: usize,
     /// Whether it was computed again where the holder had another word, or is computed in front of a loop.
-    is_needed: bool,
+    pub(crate) is_needed: bool,
     /// The slot of its own, or 0.
     pub(crate) slot: usize,
 }
@@ -62,11 +51,11 @@ const UNWRITTEN: Held = Held {
 
 /// What is known of an instruction.
 #[derive(Clone, Copy)]
-struct Place {
+pub(crate) struct Place {
     /// The last instruction that jumps back to it, and 1 more, or 0.
     end: usize,
     /// The number of its expression, and 1 more, or 0.
-    seen: usize,
+    pub(crate) seen: usize,
     /// The number of the newest expression of the bucket of its index, and 1 more, or 0. There are as many buckets as instructions.
     newest: usize,
 }
@@ -82,7 +71,7 @@ const UNSEEN: Place = Place {
 #[derive(Drop)]
 pub(crate) struct Search {
     held: Vec<Held>,
-    places: Vec<Place>,
+    pub(crate) places: Vec<Place>,
     pub(crate) expressions: Vec<Expression>,
     /// What may be computed in front of a loop that is not over, and what is computed in front of one.
     pub(crate) candidates: Vec<Candidate>,
@@ -94,27 +83,16 @@ pub(crate) struct Search {
     worth: usize,
     /// The last instruction of the loops so far, and 1 more, or 0.
     looped: usize,
+    /// From this instruction on nothing comes to be needed: it stands behind every loop, and behind a small function.
+    pub(crate) decided: usize,
     /// Whether an expression is needed.
-    has_needed: bool,
+    pub(crate) has_needed: bool,
+    /// The number of the function that this is known of, and 1 more, or 0 where that is not told.
+    pub(crate) told: usize,
 }
 
-fn is_small(function: &Function) -> bool {
+pub(crate) fn is_small(function: &Function) -> bool {
     function.code.len() <= MOST_SMALL
-}
-
-/// Whether code jumps back.
-fn has_loop(code: &[Instruction]) -> bool {
-    for (index, instruction) in code.iter().enumerate() {
-        match instruction {
-            Instruction::Jump { target } | Instruction::Branch { target, .. } => {
-                if *target <= index {
-                    return true;
-                }
-            }
-            _ => {}
-        }
-    }
-    false
 }
 
 impl Search {
@@ -129,14 +107,16 @@ impl Search {
             begun: 1,
             worth: 0,
             looped: 0,
+            decided: 0,
             has_needed: false,
+            told: 0,
         }
     }
 
     // ---- the tables of a function
 
     /// Forgets the function before, and begins with another.
-    fn begin(&mut self, function: &Function) -> Result<(), AllocError> {
+    pub(crate) fn begin(&mut self, function: &Function) -> Result<(), AllocError> {
         self.held.clear();
         self.held.resize(function.slots, UNWRITTEN)?;
         self.places.clear();
@@ -152,6 +132,7 @@ impl Search {
             0
         };
         self.looped = 0;
+        self.decided = self.worth;
         self.has_needed = false;
         self.note_ends(&function.code);
         Ok(())
@@ -163,9 +144,7 @@ impl Search {
             match instruction {
                 Instruction::Jump { target } | Instruction::Branch { target, .. } => {
                     if *target <= index {
-                        if let Some(place) = self.places.get_mut(*target) {
-                            place.end = index.wrapping_add(1);
-                        }
+                        self.end_at(*target, index.wrapping_add(1));
                     }
                 }
                 Instruction::AddressOf { .. } | Instruction::Try { .. } => {
@@ -174,6 +153,14 @@ impl Search {
                 _ => {}
             }
         }
+    }
+
+    /// A loop begins with an instruction, and ends in front of another.
+    fn end_at(&mut self, head: usize, end: usize) {
+        if let Some(place) = self.places.get_mut(head) {
+            place.end = end;
+        }
+        self.decided = later(self.decided, end);
     }
 
     fn pin(&mut self, slots: Slots) {
@@ -221,27 +208,41 @@ impl Search {
         }
     }
 
-    /// What a slot has: what it got last, if that is as it was, or else itself.
-    fn value_in(&self, slot: usize) -> Value {
-        if let Some(held) = self.held.get(slot) {
-            if held.written >= self.begun && self.changed(held.value) <= held.written {
-                return held.value;
-            }
+    /// What a slot of which this is known has: what it got last, if that is as it was, or else itself.
+    fn value_by(&self, held: &Held, slot: usize) -> Value {
+        if held.written >= self.begun && self.changed(held.value) <= held.written {
+            held.value
+        } else {
+            Value::Slot { number: slot }
         }
-        Value::Slot { number: slot }
     }
 
+    /// What a slot has that nothing else reaches.
+    fn free_in(&self, slot: usize) -> Option<Value> {
+        let held = self.held.get(slot)?;
+        if held.is_pinned {
+            None
+        } else {
+            Some(self.value_by(held, slot))
+        }
+    }
+
+    /// What an operand is that nothing else reaches.
+    fn free_of(&self, operand: Operand) -> Option<Value> {
+        match operand {
+            Operand::Word { word } => Some(Value::Word { word }),
+            Operand::Slot { number } => self.free_in(number),
+        }
+    }
+
+    /// What an operand is. A slot that something else reaches got nothing that is known.
     fn value_of(&self, operand: Operand) -> Value {
         match operand {
             Operand::Word { word } => Value::Word { word },
-            Operand::Slot { number } => self.value_in(number),
-        }
-    }
-
-    fn is_free(&self, operand: Operand) -> bool {
-        match operand {
-            Operand::Word { .. } => true,
-            Operand::Slot { number } => !self.is_pinned(number),
+            Operand::Slot { number } => match self.free_in(number) {
+                Some(value) => value,
+                None => Value::Slot { number },
+            },
         }
     }
 
@@ -254,16 +255,12 @@ impl Search {
         right: Operand,
     ) -> Option<Shape> {
         let kind = kind_of(operator)?;
-        let shape = Shape {
-            kind,
-            left: self.value_of(left),
-            right: self.value_of(right),
-        };
-        let is_step = is_slot(shape.left, destination) || is_slot(shape.right, destination);
-        if is_step || !self.is_free(left) || !self.is_free(right) {
+        let left = self.free_of(left)?;
+        let right = self.free_of(right)?;
+        if is_slot(left, destination) || is_slot(right, destination) {
             None
         } else {
-            Some(shape)
+            Some(Shape { kind, left, right })
         }
     }
 
@@ -400,27 +397,28 @@ impl Search {
 
     /// A slot is written, and has this value then.
     fn write(&mut self, slot: usize, value: Value, time: usize) {
-        if self.is_pinned(slot) {
+        let mut is_pinned = true;
+        if let Some(held) = self.held.get_mut(slot) {
+            is_pinned = held.is_pinned;
+            if !is_pinned {
+                held.written = time;
+                held.value = value;
+            }
+        }
+        if is_pinned {
             self.stored = time;
-        } else if let Some(held) = self.held.get_mut(slot) {
-            held.written = time;
-            held.value = value;
         }
     }
 
     /// The words of one slot after another come to others.
     fn copy(&mut self, destination: usize, source: usize, count: usize, time: usize) {
         for word in 0..count {
-            let from = source.wrapping_add(word);
-            let value = self.value_in(from);
-            let value = if self.is_pinned(from) {
-                Value::Slot {
-                    number: destination.wrapping_add(word),
-                }
-            } else {
-                value
+            let slot = destination.wrapping_add(word);
+            let value = match self.free_in(source.wrapping_add(word)) {
+                Some(value) => value,
+                None => Value::Slot { number: slot },
             };
-            self.write(destination.wrapping_add(word), value, time);
+            self.write(slot, value, time);
         }
     }
 
@@ -430,6 +428,36 @@ impl Search {
             let slot = slots.first.wrapping_add(word);
             self.write(slot, Value::Slot { number: slot }, time);
         }
+    }
+
+    /// An operator gives a slot a word.
+    fn operate(
+        &mut self,
+        operator: BinaryOperator,
+        destination: usize,
+        left: Operand,
+        right: Operand,
+        index: usize,
+    ) -> Result<(), AllocError> {
+        match self.shape_of(operator, destination, left, right) {
+            Some(shape) => self.compute(shape, index, destination),
+            None => {
+                self.renew(slots_from(destination, 1), index.wrapping_add(1));
+                Ok(())
+            }
+        }
+    }
+
+    /// A slot gets the word at an address.
+    fn load(
+        &mut self,
+        destination: usize,
+        address: Operand,
+        offset: u32,
+        index: usize,
+    ) -> Result<(), AllocError> {
+        let shape = self.loaded_from(address, offset);
+        self.compute(shape, index, destination)
     }
 
     /// What is known in front of an instruction: where a loop begins with it, no name is good.
@@ -443,7 +471,7 @@ impl Search {
     }
 
     /// One instruction more of this code.
-    fn look(
+    pub(crate) fn look(
         &mut self,
         plain: &Plain,
         code: &[Instruction],
@@ -458,18 +486,12 @@ impl Search {
                 destination,
                 left,
                 right,
-            } => match self.shape_of(operator, destination, left, right) {
-                Some(shape) => self.compute(shape, index, destination)?,
-                None => self.renew(slots_from(destination, 1), time),
-            },
+            } => self.operate(operator, destination, left, right, index)?,
             Instruction::Load {
                 destination,
                 address,
                 offset,
-            } => {
-                let shape = self.loaded_from(address, offset);
-                self.compute(shape, index, destination)?;
-            }
+            } => self.load(destination, address, offset, index)?,
             Instruction::LoadGlobal {
                 destination,
                 global,
@@ -495,37 +517,6 @@ impl Search {
         }
         Ok(())
     }
-
-    // ---- what is wanted
-
-    /// Expressions that are needed get slots, while a frame has room. Answers how many slots there are then.
-    fn give_slots(&mut self, slots: usize) -> usize {
-        let mut next = slots;
-        for number in 0..self.expressions.len() {
-            if let Some(expression) = self.expressions.get_mut(number) {
-                if expression.is_needed && next < MOST_FRAME_WORDS - LAYOUT_WORDS {
-                    expression.slot = next;
-                    next += 1;
-                }
-            }
-        }
-        next
-    }
-
-    /// For each instruction the slot of its expression, or 0.
-    fn wanted(&self, alloc: Global) -> Result<Vec<usize>, AllocError> {
-        let mut wanted = Vec::with_capacity(alloc, self.places.len())?;
-        for place in &self.places {
-            let mut slot = 0;
-            if place.seen > 0 {
-                if let Some(expression) = self.expressions.get(place.seen - 1) {
-                    slot = expression.slot;
-                }
-            }
-            wanted.push(slot)?;
-        }
-        Ok(wanted)
-    }
 }
 
 /// What a load of a global computes.
@@ -539,38 +530,4 @@ fn loaded_global(global: usize) -> Shape {
 
 fn later(one: usize, other: usize) -> usize {
     if one < other { other } else { one }
-}
-
-/// Which expressions of a function get slots of their own, if some do.
-pub(crate) fn twins_of(
-    alloc: Global,
-    search: &mut Search,
-    plain: &Plain,
-    function: &Function,
-) -> Result<Option<Twins>, AllocError> {
-    if function.frame_count > MOST_FRAME_WORDS {
-        return Ok(None);
-    }
-    if !is_small(function) && !has_loop(&function.code) {
-        return Ok(None);
-    }
-    search.begin(function)?;
-    for (index, instruction) in function.code.iter().enumerate() {
-        search.look(plain, &function.code, instruction, index)?;
-    }
-    search.settle_all()?;
-    if !search.has_needed {
-        return Ok(None);
-    }
-    let slots = search.give_slots(function.slots);
-    if slots == function.slots {
-        return Ok(None);
-    }
-    let wanted = search.wanted(alloc)?;
-    let leads = search.led(alloc, &function.code)?;
-    Ok(Some(Twins {
-        slots,
-        wanted,
-        leads,
-    }))
 }
