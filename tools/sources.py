@@ -1,12 +1,12 @@
 #!/usr/bin/env python3
-"""What the crates stand on, what programs are made of, and which of these were proved and built of that.
+"""Computes the dependencies of crates and the sources of programs, and records which programs were proved and built from them.
 
     python3 tools/sources.py look
     python3 tools/sources.py note LOOK
 
-`note` writes to out/proved.sum that the programs in crates/NAME/out are of the sources as they stand, and that these were proved: for
-each program the sum of all that the proofs of its crates read, and its own. Who has just proved all says so. The word that `look` prints
-is taken before the proofs begin: where a source was touched since, nothing is noted, and the status is 1.
+`note` records in out/proved.sum that the programs in crates/NAME/out were built from the current sources, and that these were proved. It
+writes for each program the checksum of all files that the proofs of its crates read, and its own checksum. It is called after everything
+was proved. LOOK is the output of `look` from before the proofs: if a source was touched since, nothing is recorded, and the status is 1.
 """
 import hashlib
 import os
@@ -15,7 +15,7 @@ import subprocess
 import sys
 
 ROOT = os.path.dirname(os.path.dirname(os.path.abspath(__file__)))
-# What a proof reads of a crate, of its folder.
+# The parts of a crate's folder that a proof reads.
 PARTS = ("src", "specs", "proofs", "c")
 
 
@@ -23,19 +23,19 @@ PARTS = ("src", "specs", "proofs", "c")
 
 
 def stands_on(root):
-    """The crates, each with the names of what it stands on."""
+    """Returns the crates, each with the names of its dependencies."""
     return {line.split(":")[0].split()[0]: line.split(":")[1].split() for line in lines_of(root)}
 
 
 def lines_of(root):
-    """The lines of crates.txt that are of a crate, with no comment."""
+    """Returns the lines of crates.txt about a crate, without comments."""
     with open(os.path.join(root, "crates.txt"), encoding="utf-8") as file:
         lines = [line.partition("#")[0].strip() for line in file]
     return [line for line in lines if ":" in line]
 
 
 def in_order(crate, graph):
-    """The crates that a crate stands on, each behind those that it stands on itself, and the crate last."""
+    """Returns the crates that a crate depends on, dependencies first, and the crate last."""
     found = []
 
     def visit(it):
@@ -49,17 +49,17 @@ def in_order(crate, graph):
 
 
 def program_of(root, crate):
-    """Where a crate's program lies once it is built."""
+    """Returns the path of a crate's program once it is built."""
     return os.path.join(root, "crates", crate, "out", crate)
 
 
 def programs_in(root):
-    """The crates that are programs."""
+    """Returns the crates that are programs."""
     return [crate for crate in stands_on(root) if os.path.exists(os.path.join(root, "crates", crate, "src", "main.rt"))]
 
 
 def copy_to(room, crates, copy=shutil.copy2):
-    """Copies these crates to a folder, file by file, which is then a repository of them alone."""
+    """Copies these crates to a folder, which is then a repository with only them."""
     os.mkdir(os.path.join(room, ".git"))
     shutil.copy(os.path.join(ROOT, "HANDLES"), room)
     with open(os.path.join(room, "crates.txt"), "w", encoding="utf-8") as file:
@@ -75,16 +75,16 @@ def copy_to(room, crates, copy=shutil.copy2):
         )
 
 
-# ---- what programs are made of
+# ---- the sources of programs
 
 
 def toolchain():
-    """What names the toolchain that proves and builds."""
+    """Returns a description of the toolchain that proves and builds."""
     return subprocess.run(["rt", "version"], capture_output=True, check=True).stdout
 
 
 def paths_of(root, crate):
-    """The folders and files that a proof reads of a crate, in order."""
+    """Returns the folders and files of a crate that a proof reads, in order."""
     found = []
     for part in PARTS:
         for folder, folders, names in os.walk(os.path.join(root, "crates", crate, part)):
@@ -99,7 +99,8 @@ def sum_of_file(path):
 
 
 def sum_of(root, program):
-    """The sum of all that the proofs of a program's crates read: their files and lines of crates.txt, HANDLES, and the toolchain."""
+    """Returns the checksum of all that the proofs of a program's crates read: their files and lines of crates.txt, HANDLES, and the
+    toolchain."""
     crates = sorted(in_order(program, stands_on(root)))
     whole = hashlib.sha256(toolchain())
     whole.update(repr([line for line in lines_of(root) if line.split(":")[0].split()[0] in crates]).encode())
@@ -110,7 +111,7 @@ def sum_of(root, program):
 
 
 def look(root):
-    """A word that is another one where a source was touched meanwhile, also where it was changed back."""
+    """Returns a word that changes whenever a source is touched, even if the change is undone."""
     whole = hashlib.sha256(toolchain())
     paths = [os.path.join(root, name) for name in ("crates.txt", "HANDLES")]
     for path in paths + [path for crate in stands_on(root) for path in paths_of(root, crate)]:
@@ -119,11 +120,11 @@ def look(root):
     return whole.hexdigest()
 
 
-# ---- which of them were proved and built
+# ---- proved and built programs
 
 
 def noted_in(root):
-    """What is noted of programs: the sum of the sources of each, and its own."""
+    """Returns the recorded checksums of programs: of the sources of each, and its own."""
     try:
         with open(os.path.join(root, "out", "proved.sum"), encoding="ascii") as file:
             return {name: sums for name, *sums in map(str.split, file)}
@@ -132,7 +133,7 @@ def noted_in(root):
 
 
 def note(root, sums):
-    """Notes that the programs that lie in the tree were built of sources with these sums, and that these were proved."""
+    """Records that the programs in the tree were built from sources with these checksums, and that these were proved."""
     noted = noted_in(root) | {program: [it, sum_of_file(program_of(root, program))] for program, it in sums.items()}
     os.makedirs(os.path.join(root, "out"), exist_ok=True)
     path = os.path.join(root, "out", "proved.sum")
@@ -142,7 +143,7 @@ def note(root, sums):
 
 
 def is_built(root, program):
-    """Whether a program lies in the tree that was built of the sources as they stand, which were proved."""
+    """Returns true if the program in the tree was built from the current sources, which were proved."""
     path = program_of(root, program)
     return os.path.isfile(path) and noted_in(root).get(program) == [sum_of(root, program), sum_of_file(path)]
 

@@ -1,50 +1,57 @@
 #!/usr/bin/env python3
-"""Says what the gate's parts cost: by crate, its proof, its tests and its wrong bodies.
+"""Measures the costs of the gate's parts, for each crate its proof, its tests and its wrong bodies, and the memory of proofs.
 
     python3 tests/runners/gate_table.py measure RECORD TABLE NAME COMMAND [WORD ..]
     python3 tests/runners/gate_table.py show RECORD RESULT
+    python3 tests/runners/gate_table.py memory RECORD
     python3 tests/runners/gate_table.py publish TABLE
 
-`measure` runs a command, ends as it ends, and appends to the file RECORD what it cost: the seconds on the clock, and those of
-processors, of the whole command and of the checks that the prover does in it. `show` prints the table of what was recorded,
-with the commit that it is of and the RESULT, `N passed, M failed`. `publish` puts such a table into docs/FIGURES.md, if the gate went
-from its beginning to its end, nothing failed, and nothing was changed in the commit.
-While the command runs, the file TABLE has the table as far as it goes, so that a gate that is stopped leaves one.
+`measure` runs a command, ends with its status, and appends its costs to the file RECORD: wall-clock and processor seconds of the whole
+command and of each check by the prover. `show` prints the table of the record, with its commit and the RESULT, `N passed, M failed`.
+`memory` prints the most megabytes that the proof of each crate took. `publish` puts the table into docs/FIGURES.md, if the gate was
+complete, nothing failed, and the commit was unmodified. It also copies the output of `memory`, which the gate writes to memory.txt beside
+the table, into tests/memory.txt for tools/jobs.py. While the command runs, the file TABLE contains the table so far, so that a stopped gate
+leaves one.
 
-The prover's processes are looked at once a second. Their words say which crate each is of, and which part of the gate: of
-a check that ends between two looks, what it did since the last one is not seen. The sums are of the operating system, exact.
+The prover's processes are sampled once a second. Their command lines identify the crate and the part of the gate. The last fraction of a
+second of a check may be missed; the totals come from the operating system and are exact.
+
+Memory is sampled less often. Memory shared by several processes of a check is counted once (`Pss`).
 """
 import datetime
 import json
 import os
 import re
 import resource
+import shutil
 import subprocess
 import sys
 import threading
 import time
 from collections import namedtuple
 
-# How often the processes are looked at, in seconds.
+# The seconds between two samples of the processes.
 EVERY = 1.0
-# After how many looks the table so far is written.
-LOOKS_A_TABLE = 20
+# The numbers of samples after which the table so far is written, and memory is sampled.
+LOOKS_A_TABLE, LOOKS_A_SIZE = 20, 4
 PARTS = ("proof", "tests", "wrong bodies")
+# The parts that `rt ci` runs in parallel, whose memory is recorded.
+MEASURED = PARTS[:2]
 TICK = os.sysconf("SC_CLK_TCK")
 
-# A process: its number, its parent's, when it was started (in ticks), the seconds of processors that it and the children that it
-# waited for have used, and the words of its command.
+# A process: its number, its parent's number, its start time in ticks, the processor seconds of it and of its awaited children, and its
+# command line.
 Process = namedtuple("Process", "pid parent started seconds words")
 
 
 def process_of(line):
-    """The process that a line `PID PARENT STARTED SECONDS WORD ..` writes."""
+    """Returns the process described by a line `PID PARENT STARTED SECONDS WORD ..`."""
     pid, parent, started, seconds, *words = line.split()
     return Process(int(pid), int(parent), int(started), float(seconds), words)
 
 
 def running():
-    """The processes that run now."""
+    """Returns the processes that are running."""
     found = []
     for name in os.listdir("/proc"):
         if not name.isdigit():
@@ -61,8 +68,17 @@ def running():
     return found
 
 
+def size_of(pid):
+    """Returns the memory of a process in bytes, with its share of shared memory; 0 if it has ended."""
+    try:
+        with open(f"/proc/{pid}/smaps_rollup", encoding="ascii") as file:
+            return next((int(line.split()[1]) * 1024 for line in file if line.startswith("Pss:")), 0)
+    except OSError:
+        return 0
+
+
 def part_of(words):
-    """The crate that the prover's command is of, and the part of the gate; None for another command."""
+    """Returns the crate that a command of the prover checks, and the part of the gate; None for another command."""
     if len(words) < 2 or os.path.basename(words[0]) != "rattle" or words[1] not in ("check", "build"):
         return None
     if "--crate-name" not in words[:-1]:
@@ -70,40 +86,46 @@ def part_of(words):
     crate = words[words.index("--crate-name") + 1]
     if "--test" in words:
         return crate, PARTS[1]
-    # A proof leaves a library or a checked program, and the check of a wrong body leaves nothing.
+    # A proof writes a library or a checked program, and the check of a wrong body writes nothing.
     return crate, PARTS[0] if "-o" in words else PARTS[2]
 
 
 class Account:
-    """What the checks below one process cost, as far as they were seen."""
+    """The observed costs of the checks below one process."""
 
     def __init__(self, root):
         self.root = root
-        # the processes below it that were there at the last look: numbers come again in time, but not with the same start
+        # the processes below the first one at the last sample; process numbers are reused, but not with the same start time
         self.known = set()
-        # by the check's crate and part: seconds of processors, by the process that does it, and seconds on the clock
+        # for each crate and part: the processor seconds, by process, and the wall-clock seconds
         self.spent = {}
         self.lasted = {}
+        # the most bytes that the processes of a check were seen to take together
+        self.peaks = {}
 
-    def take(self, processes, since):
-        """Takes a look at the processes, so many seconds after the last one."""
+    def take(self, processes, since, size=None):
+        """Samples the processes, so many seconds after the last sample, and their memory if `size` is given."""
         by_number = {it.pid: it for it in processes}
         below = {}
         for it in processes:
             below.setdefault(it.parent, []).append(it)
-        seen = set()
+        seen, sizes = set(), {}
         for it in self.ours(processes, below):
             part = part_of(it.words)
+            if part and size:
+                sizes[part] = sizes.get(part, 0) + size(it.pid)
             above = by_number.get(it.parent)
-            # A check's own helpers have its words, and are counted with it.
+            # A check's own helper processes have the same command line, and are counted with it.
             if part and not (above and part_of(above.words) == part):
                 self.spent.setdefault(part, {})[it.pid, it.started] = used(it, below)
                 seen.add(part)
         for part in seen:
             self.lasted[part] = self.lasted.get(part, 0.0) + since
+        for part, bytes_now in sizes.items():
+            self.peaks[part] = max(self.peaks.get(part, 0), bytes_now)
 
     def ours(self, processes, below):
-        """The processes below the first one, and those that were so when they were seen last."""
+        """Returns the processes below the first one, and those that were below it at the last sample."""
         left = [it for it in processes if it.pid == self.root or (it.pid, it.started) in self.known]
         found = {it.pid: it for it in left}
         while left:
@@ -115,33 +137,41 @@ class Account:
         return found.values()
 
     def rows(self):
-        """For each crate and part the seconds of processors and on the clock."""
+        """Returns for each crate and part the processor seconds and the wall-clock seconds."""
         return [
             [*part, round(sum(spent.values()), 1), round(self.lasted[part], 1)]
             for part, spent in self.spent.items()
         ]
 
+    def sizes(self):
+        """Returns for each crate the peak memory in megabytes of its proof or the check of its tests."""
+        found = {}
+        for (crate, part), most in self.peaks.items():
+            if part in MEASURED:
+                found[crate] = max(found.get(crate, 0), -(-most // 2**20))
+        return found
+
 
 def used(process, below):
-    """The seconds of processors of a process and all that it started."""
+    """Returns the processor seconds of a process and all that it started."""
     return process.seconds + sum(used(it, below) for it in below.get(process.pid, []))
 
 
 def measure(record, shown, name, words):
-    """Runs a command, and appends what it cost to the record. Writes the table so far to a file while it runs."""
+    """Runs a command, and appends its costs to the record. Writes the table so far to a file while the command runs."""
     started = time.monotonic()
     command = subprocess.Popen(words)
     account, done = Account(command.pid), threading.Event()
 
     def cost(processors):
         clock = round(time.monotonic() - started, 1)
-        return {"name": name, "processors": round(processors, 1), "clock": clock, "checks": account.rows()}
+        return {"name": name, "processors": round(processors, 1), "clock": clock, "checks": account.rows(), "memory": account.sizes()}
 
     def watch():
         last, looks = started, 0
         while not done.wait(EVERY):
             now = time.monotonic()
-            account.take(running(), now - last)
+            account.take(running(), now - last, size_of if looks % LOOKS_A_SIZE == 0 else None)
             last, looks = now, looks + 1
             if looks % LOOKS_A_TABLE == 0:
                 so_far = cost(sum(row[2] for row in account.rows()))
@@ -159,7 +189,7 @@ def measure(record, shown, name, words):
 
 
 def recorded(record):
-    """What the record has of each command."""
+    """Returns the costs of each command in the record."""
     if not os.path.exists(record):
         return []
     with open(record, encoding="utf-8") as file:
@@ -167,19 +197,19 @@ def recorded(record):
 
 
 def lines_now(wholes):
-    """The lines of the table of what was recorded on this machine, today."""
+    """Returns the lines of the record's table, for this machine and today."""
     return table(wholes, len(os.sched_getaffinity(0)), datetime.date.today())
 
 
 def write_table(path, wholes, remark):
-    """Writes the table to a file, with a remark before it."""
+    """Writes the table to a file, after a remark."""
     os.makedirs(os.path.dirname(path) or ".", exist_ok=True)
     with open(path, "w", encoding="utf-8") as file:
         file.write("\n".join([remark, "", *lines_now(wholes)]) + "\n")
 
 
 def table(wholes, cores, day):
-    """The lines of the table of what was recorded."""
+    """Returns the lines of the record's table."""
     costs, order = {}, []
     for whole in wholes:
         for crate, part, processors, clock in whole["checks"]:
@@ -210,14 +240,30 @@ def table(wholes, cores, day):
     return lines
 
 
+MEMORY_HEAD = """\
+# The most memory that the proof of each crate took, in MB of 2^20 bytes, as the gate measured it. tools/jobs.py reads it, and
+# `tests/runners/gate_table.py publish` writes it.
+"""
+
+
+def memory(wholes):
+    """Returns the text of the memory table for a record."""
+    sizes = {}
+    for whole in wholes:
+        for crate, size in whole["memory"].items():
+            sizes[crate] = max(sizes.get(crate, 0), size)
+    return MEMORY_HEAD + "".join(f"{crate} {sizes[crate]}\n" for crate in sorted(sizes))
+
+
 def commit():
-    """The commit that stands here, by what it says first, and whether anything was changed in it."""
+    """Returns the commit that is checked out, with its subject, and whether files are modified."""
     said = [subprocess.run(["git", *words], capture_output=True, text=True).stdout.strip() for words in (["log", "-1", "--format=%s"], ["status", "--porcelain"])]
     return f"The commit: {said[0]}" + (" (with changes)" if said[1] else "")
 
 
-FIGURES = os.path.join(os.path.dirname(os.path.abspath(__file__)), "..", "..", "docs", "FIGURES.md")
-# What docs/FIGURES.md has of a gate: all from the head of its part to the end of the table.
+ROOT = os.path.join(os.path.dirname(os.path.abspath(__file__)), "..", "..")
+FIGURES, MEMORY = os.path.join(ROOT, "docs", "FIGURES.md"), os.path.join(ROOT, "tests", "memory.txt")
+# The section of docs/FIGURES.md about a gate: from its heading to the end of the table.
 PUBLISHED = re.compile(r"(?<=\n## The gate\n\n).*?\n(?=\n(?!\|)[^|]*\n## )", re.S)
 SAID = re.compile(r"""(?P<table>\| \| Proof .*?)\n
 Seconds of .*
@@ -228,7 +274,7 @@ The commit: (?P<commit>.*)
 
 
 def published(shown):
-    """The part of docs/FIGURES.md that says what a gate took, of the table that it left; None where it does not show one whole gate."""
+    """Returns the section of docs/FIGURES.md for a gate's table; None unless the table is of one whole gate."""
     said = SAID.fullmatch(shown)
     if not said or said["commit"].endswith(" (with changes)"):
         return None
@@ -242,7 +288,7 @@ what the gate left in `out/gate.md` (`tests/runners/gate_table.py publish`).
 
 
 def publish(path):
-    """Puts the table that a gate left into docs/FIGURES.md."""
+    """Copies a gate's table into docs/FIGURES.md."""
     with open(path, encoding="utf-8") as file:
         part = published(file.read())
     if part is None:
@@ -255,6 +301,9 @@ def publish(path):
         return 1
     with open(FIGURES, "w", encoding="utf-8") as file:
         file.write(text)
+    measured = os.path.join(os.path.dirname(path), "memory.txt")
+    if os.path.exists(measured):
+        shutil.copy(measured, MEMORY)
     return 0
 
 
@@ -263,6 +312,9 @@ def main(words):
         return measure(words[1], words[2], words[3], words[4:])
     if words[:1] == ["show"] and len(words) == 3:
         print("\n".join([*lines_now(recorded(words[1])), commit(), words[2]]))
+        return 0
+    if words[:1] == ["memory"] and len(words) == 2:
+        print(memory(recorded(words[1])), end="")
         return 0
     if words[:1] == ["publish"] and len(words) == 2:
         return publish(words[1])
