@@ -1,9 +1,9 @@
--- What tests say together, and what comes of one that holds.
+-- Conjunctions of tests, and the facts that a true test gives.
 use Rattle.std.proofs.Common.{◌≡◌, Bool, true, false, not, ◌&&◌, Option, Some, None, refl, sym, ◌||◌, true≢false, ◌∙◌, ℕ, cond}
 use Rattle.std.specs.Option.{is_some}
 use Rattle.std.specs.Prelude.{MatchBool}
 
--- ---- and
+-- ---- conjunction
 
 pub and_left : (a b : Bool) → (a && b) ≡ true → a ≡ true
 and_left true b h = refl
@@ -35,13 +35,13 @@ pub not_and_itself : (b : Bool) → (not b && b) ≡ false
 not_and_itself true = refl
 not_and_itself false = refl
 
--- ---- not
+-- ---- negation
 
 pub not_not : (b : Bool) → not (not b) ≡ b
 not_not true = refl
 not_not false = refl
 
--- what would come of a test does not, so the test fails
+-- if a true test would make a false test true, it is false too
 pub false_from_false : (a b : Bool) → (a ≡ true → b ≡ true) → b ≡ false → a ≡ false
 false_from_false true b h k = let e : b ≡ true = h refl in absurd (cc)
 false_from_false false b h k = refl
@@ -62,21 +62,21 @@ anything_from_false_is_true e = absurd (true≢false (sym e))
 pub never_true_and_false : {b : Bool} → b ≡ true → b ≡ false → ⊥
 never_true_and_false first second = let e : true ≡ false = sym first ∙ second in cc
 
--- ---- equality of tests
+-- ---- equality of boolean tests
 
--- tests that hold together are the same
+-- two tests that imply each other are equal
 pub same_tests : (a b : Bool) → (a ≡ true → b ≡ true) → (b ≡ true → a ≡ true) → a ≡ b
 same_tests true b to from = sym (to refl)
 same_tests false true to from = from refl
 same_tests false false to from = refl
 
--- ---- whether something is there
+-- ---- options: a test for a value
 
 pub some_there : {A : Type 0} (o : Option A) → is_some o ≡ true → (x : A) × (o ≡ Some x)
 some_there None h = absurd (let e : false ≡ true = h in cc)
 some_there (Some x) h = (x, refl)
 
--- ---- or
+-- ---- disjunction
 
 pub or_false_right : (b : Bool) → (b || false) ≡ b
 or_false_right true = refl
@@ -108,7 +108,7 @@ pub or_false_parts : (a b : Bool) → (a || b) ≡ false → (a ≡ false) × (b
 or_false_parts true b none = absurd (let e : true ≡ false = none in cc)
 or_false_parts false b none = (refl, none)
 
--- where the first does not hold, the second does
+-- if a disjunction holds and its first part does not, its second part does
 pub or_right_without_left : (c d : Bool) → not c ≡ true → c || d ≡ true → d ≡ true
 or_right_without_left true d e h = absurd (cc)
 or_right_without_left false d e h = h
@@ -117,7 +117,7 @@ pub not_or_parts : (a b : Bool) → not (a || b) ≡ true → (not a ≡ true) �
 not_or_parts true b e = absurd (let k : false ≡ true = e in cc)
 not_or_parts false b e = (refl, e)
 
--- ---- a choice by a test
+-- ---- a conditional and its test
 
 pub cond-not : (b : Bool) (x y : ℕ) → cond (not b) x y ≡ cond b y x
 cond-not true x y = refl

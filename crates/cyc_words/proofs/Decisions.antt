@@ -1,11 +1,11 @@
--- Where what is accepted and what is refused leave no choice, an answer that is right decides.
+-- If an input has at most one correct result, a call with a correct result satisfies `Decides`.
 use Rattle.std.proofs.Common.{◌≡◌, ◌⊎◌, inl, inr, ⊎_elim, subst, refl, Result, Ok, Err}
 use Rattle.std.specs.Prelude.{IfOk, IfErr, MatchResult}
 use Rattle.cyc_words.specs.declared.fault.Fault.{Fault}
 use Rattle.cyc_words.specs.Fault.{memory_fault}
 use Rattle.cyc_words.specs.Decision.{Decides}
 
--- there is one answer at most: one thing accepted, or one fault
+-- an input has at most one correct outcome: one accepted value, or one fault
 pub record IsDecided {A : Type 0} (Accepted : A → Type 0) (Refused Faulty : Fault → Type 0) : Type 0 where
   pub one : (a b : A) → Accepted a → Accepted b → a ≡ b
   pub same : (f g : Fault) → Refused f → Faulty g → f ≡ g
@@ -28,7 +28,7 @@ module _ {X A : Type 0} (Accepted : A → Type 0) (Gives : A → X → Type 0) (
   decides result accepted refused =
       record { accepted = accepted; refused = refused; accepts = accepts result accepted refused; refuses = refuses result accepted refused }
 
--- where what was accepted is read off the answer
+-- a correct result decides also if the accepted value is a view of the result
 pub decides_by_view : {X A : Type 0} (view : X → A) (Accepted : A → Type 0) (Refused Faulty : Fault → Type 0) → IsDecided Accepted Refused Faulty
     → (result : Result X Fault) → IfOk result (λ x. Accepted (view x)) → IfErr result (λ f. (f ≡ memory_fault) ⊎ Refused f)
     → Decides Accepted (λ a x. view x ≡ a) Refused Faulty result

@@ -1,4 +1,4 @@
--- Alike endings are equal, and the other way round.
+-- Two endings are alike exactly if they are equal.
 use Rattle.std.proofs.Common.{◌≡◌, refl, ap, subst}
 use Rattle.cyc_words.specs.Ending.{Ending, Returned, Uncaught, Full, Alike}
 

@@ -1,4 +1,4 @@
--- The item under a number, in a list that is put together, changed or mapped.
+-- The item at an index, in a list that was appended to, updated or mapped.
 use Rattle.std.proofs.Common.{◌≡◌, ℕ, zero, suc, ◌<◌, List, [], ◌∷◌, length, None, Some, slice_get, arith, Option, ◌++◌, ◌+◌, ap, ◌∙◌, subst, ◌-◌, length-append, refl, sym, inl, inr, get_or, ◌≤◌, Bool, true, replicate, false, set, map}
 use Rattle.std.specs.Prelude.{slice_index_or, ◌⊎◌, slice_index, ◌≢◌}
 use Rattle.std.proofs.lemmas.Grind.{common_steps}
@@ -7,7 +7,7 @@ use Rattle.std.proofs.lemmas.List.{get_or-replicate, get_or_past, length-replica
 use Rattle.std.proofs.lemmas.Option.{same_Some}
 use Rattle.cyc_words.proofs.Options.{same_from_some}
 
--- ---- where there is one
+-- ---- an item exists exactly below the length
 
 pub below_from_slice_get : {X : Type 0} (xs : List X) (k : ℕ) (x : X) → slice_get xs k ≡ Some x → k < length xs
 below_from_slice_get [] k x at = absurd (let e : None ≡ Some x = at in cc)
@@ -22,7 +22,7 @@ never_at_length (y ∷ xs) (suc n) x found same = never_at_length xs n x found (
 pub below_from_slice_index_or : (text : List (Option ℕ)) (number word : ℕ) → slice_index_or text number None ≡ Some word → number < length text
 below_from_slice_index_or text number word here = grind (arith, common_steps)
 
--- ---- in lists that are put together
+-- ---- items of a concatenation
 
 pub slice_get_front : {A : Type 0} (front back : List A) (k : ℕ) (x : A) → slice_get front k ≡ Some x → slice_get (front ++ back) k ≡ Some x
 slice_get_front {A} [] back k x is = absurd (let e : None ≡ Some x = is in cc)
@@ -35,20 +35,20 @@ slice_get_back (y ∷ front) back k =
     let next : suc (length front) + k ≡ suc (length front + k) = omega arith in
     ap (slice_get (y ∷ (front ++ back))) next ∙ slice_get_back front back k
 
-pub slice_get_behind : {A : Type 0} (xs ys : List A) (k j : ℕ) (x : A) → j ≡ length xs + k → slice_get ys k ≡ Some x → slice_get (xs ++ ys) j ≡ Some x
-slice_get_behind [] ys k j x at e = subst (λ i. slice_get ys i ≡ Some x) (let same : k ≡ j = omega arith in same) e
-slice_get_behind (y ∷ xs) ys k zero x at e = absurd (omega arith)
-slice_get_behind (y ∷ xs) ys k (suc j) x at e = slice_get_behind xs ys k j x (omega arith) e
+pub slice_get_after : {A : Type 0} (xs ys : List A) (k j : ℕ) (x : A) → j ≡ length xs + k → slice_get ys k ≡ Some x → slice_get (xs ++ ys) j ≡ Some x
+slice_get_after [] ys k j x at e = subst (λ i. slice_get ys i ≡ Some x) (let same : k ≡ j = omega arith in same) e
+slice_get_after (y ∷ xs) ys k zero x at e = absurd (omega arith)
+slice_get_after (y ∷ xs) ys k (suc j) x at e = slice_get_after xs ys k j x (omega arith) e
 
-pub slice_get_last_behind : {X : Type 0} (xs ys : List X) → 0 < length ys → slice_get (xs ++ ys) (length (xs ++ ys) - 1) ≡ slice_get ys (length ys - 1)
-slice_get_last_behind xs ys some = behind_all xs (length ys - 1) (length (xs ++ ys) - 1) (omega (arith, length-append xs ys, some))
+pub slice_get_last_after : {X : Type 0} (xs ys : List X) → 0 < length ys → slice_get (xs ++ ys) (length (xs ++ ys) - 1) ≡ slice_get ys (length ys - 1)
+slice_get_last_after xs ys some = following_all xs (length ys - 1) (length (xs ++ ys) - 1) (omega (arith, length-append xs ys, some))
   where
-    behind_all : (zs : _) (n m : ℕ) → m ≡ length zs + n → slice_get (zs ++ ys) m ≡ slice_get ys n
-    behind_all [] n m is = ap (slice_get ys) (omega (arith, is))
-    behind_all (z ∷ zs) n zero is = absurd (omega (arith, is))
-    behind_all (z ∷ zs) n (suc m) is = behind_all zs n m (omega (arith, is))
+    following_all : (zs : _) (n m : ℕ) → m ≡ length zs + n → slice_get (zs ++ ys) m ≡ slice_get ys n
+    following_all [] n m is = ap (slice_get ys) (omega (arith, is))
+    following_all (z ∷ zs) n zero is = absurd (omega (arith, is))
+    following_all (z ∷ zs) n (suc m) is = following_all zs n m (omega (arith, is))
 
--- what is found behind one item more was there before, or is the new one
+-- an item of a list with one item appended is an old item or the new one
 pub slice_get_last_cases : {A : Type 0} (xs : List A) (y : A) (i : ℕ) (x : A) → slice_get (xs ++ y ∷ []) i ≡ Some x
     → (slice_get xs i ≡ Some x) ⊎ ((i ≡ length xs) × (x ≡ y))
 slice_get_last_cases [] y zero x found = inr (refl, sym (same_from_some found))
@@ -84,7 +84,7 @@ slice_index_or_beyond [] slot above = refl
 slice_index_or_beyond (b ∷ pinned) zero above = absurd (omega arith)
 slice_index_or_beyond (b ∷ pinned) (suc slot) above = slice_index_or_beyond pinned slot (omega arith)
 
--- ---- in lists of one item
+-- ---- items of a constant list
 
 pub slice_get_replicate : {A : Type 0} (count : ℕ) (x : A) (k : ℕ) → k < count → slice_get (replicate count x) k ≡ Some x
 slice_get_replicate zero x k below = absurd (omega (arith, below))
@@ -112,8 +112,8 @@ slice_index_zeros n k = elim (cases_lt k n) [
   | inr past ↦ get_or_past (replicate n 0) k 0 (omega (arith, past, length-replicate {A = ℕ} n 0))
 ]
 
-pub slice_index_zeros_behind : (globals : List ℕ) (count k : ℕ) → k < length globals + count → slice_index (globals ++ replicate count 0) k ≡ slice_index globals k
-slice_index_zeros_behind globals count k within = elim (cases_lt k (length globals)) [
+pub slice_index_zeros_after : (globals : List ℕ) (count k : ℕ) → k < length globals + count → slice_index (globals ++ replicate count 0) k ≡ slice_index globals k
+slice_index_zeros_after globals count k within = elim (cases_lt k (length globals)) [
   | inl below ↦ get_or_append_left globals (replicate count 0) 0 k below
   | inr past ↦
       get_or-append_right globals (replicate count 0) (length globals) k 0 refl past
@@ -121,7 +121,7 @@ slice_index_zeros_behind globals count k within = elim (cases_lt k (length globa
       ∙ sym (get_or_past globals k 0 past)
 ]
 
--- ---- where one is replaced
+-- ---- items after an update
 
 pub slice_get-set_same : {A : Type 0} (xs : List A) (i : ℕ) (x y : A) → slice_get xs i ≡ Some x → slice_get (set xs i y) i ≡ Some y
 slice_get-set_same [] i x y found = absurd (let e : None ≡ Some x = found in cc)
@@ -135,7 +135,7 @@ slice_get-set_other (a ∷ xs) zero (suc j) y other = refl
 slice_get-set_other (a ∷ xs) (suc i) zero y other = refl
 slice_get-set_other (a ∷ xs) (suc i) (suc j) y other = slice_get-set_other xs i j y (λ e. other (ap suc e))
 
--- what is found after an item was replaced is the new one, or was there before
+-- an item of an updated list is the new item or an old one
 pub slice_get-set_cases : {A : Type 0} (xs : List A) (i j : ℕ) (x y z : A) → slice_get xs i ≡ Some x → slice_get (set xs i y) j ≡ Some z
     → ((j ≡ i) × (z ≡ y)) ⊎ ((j ≢ i) × (slice_get xs j ≡ Some z))
 slice_get-set_cases [] i j x y z there found = absurd (let e : None ≡ Some x = there in cc)
@@ -169,7 +169,7 @@ set-back (a ∷ xs) zero (suc j) x y z d other there is = ap (λ b. b ∷ set xs
 set-back (a ∷ xs) (suc i) zero x y z d other there is = ap (λ ys. y ∷ ys) (set-again xs i x z d (omega (arith, there)) is)
 set-back (a ∷ xs) (suc i) (suc j) x y z d other there is = ap (λ ys. a ∷ ys) (set-back xs i j x y z d (λ e. other (ap suc e)) (omega (arith, there)) is)
 
--- ---- in images
+-- ---- items of a mapped list
 
 pub slice_get-map : {A : Type 0} {B : Type 0} (f : A → B) (xs : List A) (i : ℕ) (x : A) → slice_get xs i ≡ Some x → slice_get (map f xs) i ≡ Some (f x)
 slice_get-map f [] i x found = absurd (let e : None ≡ Some x = found in cc)

@@ -1,11 +1,11 @@
--- Items of lists, and what is left of a list behind them.
+-- Items of lists, and the rest of a list after them.
 use Rattle.std.proofs.Common.{◌≡◌, ℕ, zero, suc, ◌+◌, ◌<◌, List, [], ◌∷◌, ◌++◌, length, drop, get_or, Option, Some, None, refl, sym, ap, ◌∙◌, arith, ◌-◌, reverse, take, ◌≤◌, append_assoc, replicate, map, append-nil}
 use Rattle.std.specs.List.{slice_get, AllByRecursion}
 use Rattle.std.proofs.lemmas.List.{drop_more, length-append, reverse-append, take-append-drop, length-reverse, length-drop, drop_at, drop-drop, take_all, take_more}
 use Rattle.std.specs.Prelude.{flat_map}
 use Rattle.std.proofs.lemmas.Grind.{flat_map-append}
 
--- ---- what is left
+-- ---- the rest of a list after its first items
 
 pub drop_next : {A : Type 0} (k : ℕ) (xs : List A) → drop 1 (drop k xs) ≡ drop (suc k) xs
 drop_next zero xs = refl
@@ -17,7 +17,7 @@ drop_one_more k xs =
     let next : suc k ≡ k + 1 = omega arith in
     drop_next k xs ∙ ap (λ (n : ℕ). drop n xs) next
 
--- the item that a loop has read is the first of what was left
+-- the item that a loop has read is the first item of the unread rest
 pub drop_read : {A : Type 0} (xs : List A) (i : ℕ) (x : A) → i < length xs → x ≡ get_or xs i x → drop i xs ≡ x ∷ drop (i + 1) xs
 drop_read xs i x lt is = drop_more xs i x lt ∙ ap (λ y. y ∷ drop (i + 1) xs) (sym is)
 
@@ -57,7 +57,7 @@ read_before_drop zero input = ([], refl)
 read_before_drop (suc count) [] = ([], refl)
 read_before_drop (suc count) (b ∷ input) = let (read, is) = read_before_drop count input in (b ∷ read, ap (λ l. b ∷ l) is)
 
--- ---- the item under a number
+-- ---- the item at an index
 
 pub slice_get_last : {A : Type 0} (xs : List A) (x : A) → slice_get (xs ++ x ∷ []) (length xs) ≡ Some x
 slice_get_last [] x = refl
@@ -73,19 +73,19 @@ slice_get_below [] i lt = absurd (omega (arith, lt))
 slice_get_below (y ∷ ys) zero lt = (y, refl)
 slice_get_below (y ∷ ys) (suc i) lt = slice_get_below ys i (omega (arith, lt))
 
--- what is there in a list of options is within its length
+-- in a list of options, an index with a present value is less than the length
 pub get_or_within : {A : Type 0} (xs : List (Option A)) (n : ℕ) (y : A) → get_or xs n None ≡ Some y → n < length xs
 get_or_within [] n y e = cc
 get_or_within (x ∷ xs) zero y e = omega arith
 get_or_within (x ∷ xs) (suc n) y e = omega (arith, get_or_within xs n y e)
 
--- ---- all items
+-- ---- predicates that hold of all items
 
 pub all_append : {A : Type 0} (P : A → Type 0) (xs ys : List A) → AllByRecursion P xs → AllByRecursion P ys → AllByRecursion P (xs ++ ys)
 all_append P [] ys all more = more
 all_append P (x ∷ xs) ys (first, rest) more = (first, all_append P xs ys rest more)
 
--- ---- what was taken
+-- ---- prefixes of a list
 
 pub take_whole : {X : Type 0} (xs : List X) → take (length xs) xs ≡ xs
 take_whole [] = refl
@@ -95,7 +95,7 @@ pub take_all_but_last : (xs : List ℕ) (y : ℕ) → take (length xs) (xs ++ y 
 take_all_but_last [] y = refl
 take_all_but_last (x ∷ xs) y = ap (λ (l : List ℕ). x ∷ l) (take_all_but_last xs y)
 
--- what is left where the last item is take_popped
+-- removing the last item of a list restores the list before it was pushed
 pub take_popped : (old now after : List ℕ) (f count : ℕ) → now ≡ old ++ f ∷ [] → count ≡ length now → after ≡ take (count - 1) now → after ≡ old
 take_popped old now after f count is counted taken =
     let e : count - 1 ≡ length old = omega (arith, counted, ap (λ (l : List ℕ). length l) is, length-append old (f ∷ [])) in
@@ -123,7 +123,7 @@ pub get_or_first : (text front rest : List ℕ) → text ≡ front ++ rest → 0
 get_or_first text [] rest whole some = absurd (omega arith)
 get_or_first text (b ∷ bs) rest whole some = ap (λ l. get_or l 0 0) (sym whole)
 
--- ---- parts put together
+-- ---- lists built by several appends
 
 pub push_then_append : (old first second : List ℕ) (a : ℕ) (rest : List ℕ) → first ≡ old ++ a ∷ [] → second ≡ first ++ rest → second ≡ old ++ a ∷ rest
 push_then_append old first second a rest one two = two ∙ ap (λ (xs : List ℕ). xs ++ rest) one ∙ append_assoc old (a ∷ []) rest
@@ -139,7 +139,7 @@ pub append_two_parts : (new middle old a b whole : List ℕ) → whole ≡ a ++ 
 append_two_parts new middle old a b whole is first second =
     second ∙ ap (λ (l : List ℕ). l ++ b) first ∙ append_assoc old a b ∙ ap (λ (l : List ℕ). old ++ l) (sym is)
 
--- what is left to append, behind one part of it
+-- after one part of a text was appended, appending the remaining parts gives the whole text
 pub append_goes_on : {A : Type 0} (all old new next rest whole : List A) → new ≡ old ++ next → whole ≡ next ++ rest → old ++ whole ≡ all → new ++ rest ≡ all
 append_goes_on {A} all old new next rest whole is parts before =
     ap (λ (l : List A). l ++ rest) is ∙ append_assoc old next rest ∙ ap (λ (l : List A). old ++ l) (sym parts) ∙ before
@@ -155,7 +155,7 @@ pub append_take_next : (front bytes : List ℕ) (i : ℕ) → i < length bytes �
 append_take_next front bytes i within =
     append_assoc front (take i bytes) (get_or bytes i 0 ∷ []) ∙ ap (λ l. front ++ l) (sym (take_more bytes i 0 within))
 
--- two lists that are equal are equal in fronts of one length, and behind them
+-- equal concatenations with first parts of equal length have equal first and second parts
 pub same_fronts : {X : Type 0} (a b x y : List X) → length a ≡ length b → a ++ x ≡ b ++ y → (a ≡ b) × (x ≡ y)
 same_fronts [] [] x y len e = (refl, e)
 same_fronts [] (c ∷ b) x y len e = absurd (omega arith)
@@ -194,7 +194,7 @@ length-insert x (y ∷ xs) ys = ap suc (length-insert x xs ys)
 pub length_in_two : (taken : ℕ) (read rest : List ℕ) → taken ≡ length read → taken + length rest ≡ length (read ++ rest)
 length_in_two taken read rest reads = ap (λ n. n + length rest) reads ∙ sym (length-append read rest)
 
--- ---- images
+-- ---- mapped lists
 
 pub map_last : {A B : Type 0} (f : A → B) (xs : List A) (x : A) → map f (xs ++ x ∷ []) ≡ map f xs ++ f x ∷ []
 map_last f [] x = refl

@@ -1,4 +1,4 @@
--- How a step is matched: by no step below, by one, or by two.
+-- How a step above is matched: by no step below, by one, or by two.
 use Rattle.std.proofs.Common.{◌≡◌, ◌<◌, List, [], ◌∷◌, refl, sym, subst, arith}
 use Rattle.std.specs.Prelude.{Contains}
 use Rattle.cyc_words.specs.Seen.{ComesTo}
@@ -7,22 +7,22 @@ use Rattle.cyc_words.specs.Simulation.{Running, Machine}
 use Rattle.cyc_words.specs.inside.Following.{Matching, IsOnTheWay, IsMatchedStep, IsStepped}
 
 module _ (above below : Machine) (m : Matching above below) where
-  -- on the way before anything of the step is seen, and after all of it is
+  -- A state below is between two matches if it shows what the upper state shows before the step, or after the step.
   pub way_before : (s : above.State) (t : below.State) → below.status t ≡ Running → below.seen t ≡ above.seen s → IsOnTheWay above below s t
   way_before s t running seen = record {
     goes_on = running;
     ahead = subst (ComesTo (above.seen s)) (sym seen) (ComesTo-refl (above.seen s));
-    behind = (0, s, refl, seen);
+    following = (0, s, refl, seen);
   }
 
   pub way_after : (s next : above.State) (t : below.State) → above.Step s next → ComesTo (above.seen s) (above.seen next) → below.status t ≡ Running → below.seen t ≡ above.seen next → IsOnTheWay above below s t
   way_after s next t step grows running seen = record {
     goes_on = running;
     ahead = subst (ComesTo (above.seen s)) (sym seen) grows;
-    behind = (1, next, (next, step, refl), seen);
+    following = (1, next, (next, step, refl), seen);
   }
 
-  -- a step above, whose result the state below matches
+  -- a step above was taken, and its result matches this state below
   abbrev Matched : above.State → below.State → Type 0
   Matched s t = (next : above.State) × above.Step s next × m.Matches next t
 

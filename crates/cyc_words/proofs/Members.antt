@@ -1,4 +1,4 @@
--- What holds of all items of a list, or of one of them.
+-- Facts about all items of a list, or about some item.
 use Rattle.std.proofs.Common.{List, [], ◌∷◌, arith, ◌≡◌, ◌⊎◌, inl, inr, ℕ, ◌<◌, length, get_or, sym, Some, slice_get, subst, ◌++◌, zero, suc, None, set, Any, refl, map}
 use Rattle.std.specs.Prelude.{Contains, All}
 use Rattle.std.proofs.lemmas.List.Elements.{Contains-push, Contains-append_left, Contains-append_right, Contains-push_cases, Contains-append_cases}
@@ -27,7 +27,7 @@ Contains-cons_cases x xs y h =
 pub Contains-read : (callees : List ℕ) (i callee : ℕ) → i < length callees → callee ≡ get_or callees i callee → Contains callees callee
 Contains-read callees i callee less at = (i, less, sym at)
 
--- ---- all items, by their numbers
+-- ---- predicates of all items, by index
 
 pub All_at : {X : Type 0} (P : X → Type 0) (xs : List X) (k : ℕ) (x : X) → All P xs → slice_get xs k ≡ Some x → P x
 All_at P xs k x all at = subst P (get_or_from_slice_get xs k x x at) (all k x (below_from_slice_get xs k x at))
@@ -35,7 +35,7 @@ All_at P xs k x all at = subst P (get_or_from_slice_get xs k x x at) (all k x (b
 pub All_by_number : {X : Type 0} (P : X → Type 0) (xs : List X) → ((k : ℕ) (x : X) → slice_get xs k ≡ Some x → P x) → All P xs
 All_by_number P xs each = λ k d below. each k (get_or xs k d) (slice_get-get_or xs k d below)
 
--- ---- all items, by recursion
+-- ---- predicates of all items, by recursion
 
 pub all_append_parts : (P : ℕ → Type 0) (xs ys : List ℕ) → AllByRecursion P (xs ++ ys) → AllByRecursion P xs × AllByRecursion P ys
 all_append_parts P [] ys h = (tt, h)
@@ -68,7 +68,7 @@ All_from_recursion P [] all k d below = absurd (omega arith)
 All_from_recursion P (x ∷ xs) (one, rest) zero d below = one
 All_from_recursion P (x ∷ xs) (one, rest) (suc k) d below = All_from_recursion P xs rest k d (omega arith)
 
--- ---- one item
+-- ---- predicates of some item
 
 pub Any-cons : {X : Type 0} (P : X → Type 0) (x : X) (xs : List X) → Any P (x ∷ xs) → P x ⊎ Any P xs
 Any-cons P x xs (zero, y, within, is, holds) = inl (subst P (sym is) holds)

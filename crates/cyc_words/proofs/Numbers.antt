@@ -1,4 +1,4 @@
--- Order of numbers, and tests of it.
+-- Lemmas on the order of numbers and on its tests.
 use Rattle.std.proofs.Common.{◌≡◌, ◌≢◌, ℕ, suc, ◌<◌, ◌≤◌, true, false, nat_eq, arith, zero, refl, ap, inl, inr, sym, ◌∙◌, ◌+◌, Bool, cond, max, ◌*◌, pred, ◌/◌, div-mul-le_self, ◌%◌, ◌^◌, bit_and}
 use Rattle.std.specs.Prelude.{nat_lt, ◌==◌, if◌then◌else◌, ◌⊎◌, nat_le, ◌&&◌, ◌-◌, not}
 use Rattle.std.proofs.lemmas.Bool.{cond-true, eq-eqb, cases_lt, leb-true, ltb-true, false_from_ne_true, le-leb, ne_eqb, eqb-true, not_from_false, cases_eq}
@@ -26,7 +26,7 @@ below_next n = omega arith
 pub at_most_itself : (n : ℕ) → n ≤ n
 at_most_itself n = omega arith
 
--- what is below at most zero is nothing, and what is below at most the next number is at most this one
+-- No number is below 0, and a number below the successor of m is at most m.
 pub none_below : (k m : ℕ) → k < m → m ≤ 0 → ⊥
 none_below k m less few = omega (arith, less, few)
 
@@ -92,7 +92,7 @@ le_suc_moved first count total e = omega (arith, e)
 pub below_total : (first count total : ℕ) → first + suc count ≤ total → first < total
 below_total first count total e = omega (arith, e)
 
--- a number is in a range, before it, or behind it
+-- a number is in a range, before it, or after it
 pub cases_within : (first count word : ℕ) → ((first ≤ word) × (word < first + count)) ⊎ ((word < first) ⊎ (first + count ≤ word))
 cases_within first count word = elim (cases_lt word first) [
   | inl below ↦ inr (inl below)
@@ -114,7 +114,7 @@ ord_max-max a b = go (nat_cmp b a) (ranked b a (nat_cmp b a) refl)
     go Equal h = omega (arith, h)
     go Greater h = omega (arith, h)
 
--- ---- tests, by what they take
+-- ---- from a relation to its test
 
 pub lt-nat_lt : (m n : ℕ) → m < n → nat_lt m n ≡ true
 lt-nat_lt m n h = grind (arith, nat_tests)
@@ -128,7 +128,7 @@ nat_lt-true m n h = grind (arith, nat_tests)
 pub nat_eq-false : (m n : ℕ) → nat_eq m n ≡ false → m ≢ n
 nat_eq-false m n h same = let e = eq-eqb m n same in cc
 
--- ---- a choice by equality
+-- ---- a conditional on equality
 
 pub when_equal : {A : Type 0} (m n : ℕ) (x y : A) → m ≡ n → (if m == n then x else y) ≡ x
 when_equal m n x y same = cond-true (m == n) x y (eq-eqb m n same)
@@ -162,8 +162,8 @@ plus_comm d r = omega arith
 pub plus_in_front : (q x y r : ℕ) → x + r ≡ y → (q + x) + r ≡ q + y
 plus_in_front q x y r e = omega (arith, e)
 
-pub plus_suc_behind : (q x y : ℕ) → x ≡ suc y → q + x ≡ suc (q + y)
-plus_suc_behind q x y e = omega (arith, e)
+pub plus_suc_after : (q x y : ℕ) → x ≡ suc y → q + x ≡ suc (q + y)
+plus_suc_after q x y e = omega (arith, e)
 
 pub balance_in_front : (q x y a b : ℕ) → x + a ≡ y + b → (q + x) + a ≡ (q + y) + b
 balance_in_front q x y a b e = omega (arith, e)
@@ -196,7 +196,7 @@ multiples_below m n z less low =
     let next : suc m * z ≡ m * z + z = suc-mul m z in
     omega (arith, most, next, low)
 
--- two multiples of a number less than it apart are one
+-- two multiples of a number are equal if they differ by less than that number
 pub multiples_same : (m n z : ℕ) → m * z < n * z + z → n * z < m * z + z → m ≡ n
 multiples_same m n z low high = elim (cases_lt m n) [
   | inl less ↦ absurd (multiples_below m n z less high)
@@ -251,14 +251,14 @@ remainder_of_word n below = mod-eq_of_lt below
 pub remainder_of_byte : (word : ℕ) → word < 256 → word % 256 ≡ word
 remainder_of_byte word small = omega (arith, small)
 
--- the last of the four bytes from a multiple of four
+-- if x is a multiple of four, then x + 3 leaves the remainder 3
 pub last_byte_of_word : (x : ℕ) → x % 4 ≡ 0 → (x + 3) % 4 ≡ 3
 last_byte_of_word x even = omega (arith, even)
 
 pub bit_and_255 : (a : ℕ) → bit_and a 255 ≡ a % 256
 bit_and_255 a = and_numeral a 254 refl
 
--- ---- tests, by what they say
+-- ---- from a true test to the relation
 
 pub nat_eq-true : (m n : ℕ) → nat_eq m n ≡ true → m ≡ n
 nat_eq-true m n e = grind (arith, nat_tests)
@@ -308,7 +308,7 @@ other_from_eqb a b none same = let e : true ≡ false = sym (eq-eqb a b same) �
 pub not_eqb_other : (a b : ℕ) → (a ≡ b → ⊥) → not (a == b) ≡ true
 not_eqb_other a b apart = not_from_false (a == b) (false_from_ne_true (a == b) (λ e. apart (eqb-true a b e)))
 
--- two numbers that are equal to a third
+-- two numbers that are equal to a third are equal
 pub same_from_eqb : (register m n : ℕ) → (register == m) ≡ true → (register == n) ≡ true → m ≡ n
 same_from_eqb register m n first other = sym (eqb-true register m first) ∙ eqb-true register n other
 

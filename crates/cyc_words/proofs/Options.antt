@@ -1,11 +1,11 @@
--- What an option is, and what is known where it is made.
+-- The cases of an option, and conditionals that return one.
 use Rattle.std.proofs.Common.{◌≡◌, Option, None, Some, refl, inl, inr, sym, ◌∙◌, ℕ, Bool, false, ap, true, cond, suc, option_map, ◌<◌, List, [], ◌∷◌, ◌++◌, length, arith, IfSome, Result, Ok, Err, OnOk}
 use Rattle.std.specs.Prelude.{◌⊎◌, is_some, unwrap_or}
 use Rattle.std.proofs.lemmas.Bool.{true≢false}
 use Rattle.std.specs.Option.{option_or}
 use Rattle.std.proofs.lemmas.List.{length_push}
 
--- ---- none and some
+-- ---- the two cases of an option
 
 pub none_or_some : {A : Type 0} (o : Option A) → (o ≡ None) ⊎ ((x : A) × (o ≡ Some x))
 none_or_some None = inl refl
@@ -26,7 +26,7 @@ false_from_some_false has e = sym (ap (λ (o : Option Bool). elim o [ None ↦ f
 pub anything_from_none_is_some : (number : ℕ) → None ≡ Some number → (P : Type 0) → P
 anything_from_none_is_some number e P = cc
 
--- ---- tests
+-- ---- the test for a present value
 
 pub none_from_is_some : {A : Type 0} (o : Option A) → is_some o ≡ false → o ≡ None
 none_from_is_some None e = refl
@@ -36,7 +36,7 @@ pub some_from_is_some : (o : Option ℕ) → is_some o ≡ true → (n : ℕ) ×
 some_from_is_some None there = absurd (true≢false (sym there))
 some_from_is_some (Some n) there = (n, refl)
 
--- ---- a choice
+-- ---- a conditional that returns an option
 
 pub cond-some_same : (b : Bool) (k l : ℕ) → cond b (Some k) None ≡ Some l → k ≡ l
 cond-some_same true k l h = cc

@@ -15,12 +15,12 @@ pub IsPrefix-trans : (xs ys zs : List ℕ) → IsPrefix xs ys → IsPrefix ys zs
 IsPrefix-trans xs ys zs h k =
     (h.0 ++ k.0, k.1 ∙ ap (λ (l : List ℕ). l ++ k.0) h.1 ∙ append_assoc xs h.0 k.0)
 
--- what is put in front of both
+-- putting one list of bytes before both lists keeps the prefix relation
 pub IsPrefix-append_both : (front xs ys : List ℕ) → IsPrefix xs ys → IsPrefix (front ++ xs) (front ++ ys)
 IsPrefix-append_both front xs ys h =
     (h.0, ap (λ (l : List ℕ). front ++ l) h.1 ∙ sym (append_assoc front xs h.0))
 
--- two lists that are each a prefix of the other are one list
+-- two lists that are prefixes of each other are equal
 pub IsPrefix-antisym : (xs ys : List ℕ) → IsPrefix xs ys → IsPrefix ys xs → xs ≡ ys
 IsPrefix-antisym [] [] h k = refl
 IsPrefix-antisym [] (y ∷ ys) h k = let e : [] ≡ (y ∷ ys) ++ k.0 = k.1 in cc

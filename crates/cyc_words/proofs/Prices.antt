@@ -1,11 +1,11 @@
--- What lists of places cost.
+-- The cost of a list of places at a given price.
 use Rattle.std.proofs.Common.{◌≡◌, ◌≢◌, ℕ, zero, suc, ◌+◌, ◌*◌, ◌≤◌, List, [], ◌∷◌, length, refl, sym, ap, ◌∙◌, arith, inl, inr}
 use Rattle.std.specs.Prelude.{◌⊎◌, sum_by, Contains, flat_map}
 use Rattle.std.specs.List.{AllByRecursion}
 use Rattle.std.proofs.lemmas.List.Sums.{sum_by-append, sum_by-cons}
 use Rattle.cyc_words.specs.Distinct.{IsDistinct}
 
--- being an element, by recursion
+-- membership in a list, defined by recursion
 abbrev IsIn : {X : Type 0} → X → List X → Type 0
 IsIn x [] = ⊥
 IsIn x (y ∷ ys) = (y ≡ x) ⊎ IsIn x ys
@@ -19,7 +19,7 @@ all_in : {X : Type 0} (own places : List X) → AllByRecursion (Contains own) pl
 all_in own [] all = tt
 all_in own (p ∷ places) (first, rest) = (is_in p own first, all_in own places rest)
 
--- the list without one element, which it has
+-- the list with one occurrence of a member removed
 without : {X : Type 0} (x : X) (ys : List X) → IsIn x ys → List X
 without x [] h = absurd h
 without x (y ∷ ys) (inl e) = ys
@@ -51,11 +51,11 @@ sum_in price own (p ∷ places) (others, distinct) (first, rest) =
     let fewer = sum_in price left places distinct (all_kept p own places first others rest) in
     omega (arith, fewer, sum_by-cons price p places, sum_without price p own first)
 
--- places of a list, none twice, cost no more than the list
+-- distinct places of a list cost at most as much as the whole list
 pub sum_by-distinct : {X : Type 0} (price : X → ℕ) (own places : List X) → IsDistinct places → AllByRecursion (Contains own) places → sum_by price places ≤ sum_by price own
 sum_by-distinct price own places distinct inside = sum_in price own places distinct (all_in own places inside)
 
--- a price of pieces is that of their elements
+-- the cost of a concatenation of lists is the sum of the costs of the lists
 pub sum_by-flat_map : {X Y : Type 0} (price : Y → ℕ) (own : X → List Y) (xs : List X) → sum_by price (flat_map own xs) ≡ sum_by (λ x. sum_by price (own x)) xs
 sum_by-flat_map price own [] = refl
 sum_by-flat_map price own (x ∷ xs) =
@@ -66,7 +66,7 @@ pub sum_by-one : {X : Type 0} (xs : List X) → sum_by (λ x. 1) xs ≡ length x
 sum_by-one [] = refl
 sum_by-one {X} (x ∷ xs) = omega (arith, sum_by-cons (λ (y : X). 1) x xs, sum_by-one xs)
 
--- what costs at most so much each
+-- if each item costs at most `most`, a list costs at most its length times `most`
 pub sum_by-at_most : {X : Type 0} (price : X → ℕ) (most : ℕ) (xs : List X) → ((x : X) → price x ≤ most) → sum_by price xs ≤ length xs * most
 sum_by-at_most price most [] each = omega arith
 sum_by-at_most price most (x ∷ xs) each =

@@ -1,4 +1,4 @@
--- Tests of the items of a list, and where the first is that meets one.
+-- Tests of the items of a list, and the index of the first item that passes a test.
 use Rattle.std.proofs.Common.{◌≡◌, inl, inr, Bool, true, List, [], ◌∷◌, sym, subst, ◌||◌, map, refl, ap, false, reverse, ◌∙◌, ◌++◌, ⊎_elim, ◌+◌, not, cond, Some, slice_get, length, ℕ, take, ◌≤◌, arith}
 use Rattle.std.specs.Prelude.{Contains}
 use Rattle.std.specs.List.{list_any, list_all, position_or_len, prefix_len}
@@ -12,9 +12,9 @@ use Rattle.std.proofs.lemmas.Slice.Eq.{bytes_eq-Decides}
 use Rattle.cyc_words.proofs.Members.{Contains-head, Contains-tail, Contains-empty, Contains-cons_cases}
 use Rattle.cyc_words.proofs.Booleans.{or_comm, or_false_right}
 
--- ---- tests of items
+-- ---- a test of all or of some items
 
--- the last one first
+-- a test of some item may check the last item first
 pub any_last_first : {A : Type 0} (test : A → Bool) (xs : List A) (x : A) → list_any test (xs ++ x ∷ []) ≡ (test x || list_any test xs)
 any_last_first test xs x =
     list_any-append test xs (x ∷ []) ∙ ap (λ (b : Bool). list_any test xs || b) (or_false_right (test x)) ∙ or_comm (list_any test xs) (test x)
@@ -65,7 +65,7 @@ any-push_turned test ps q = list_any-append test ps (q ∷ []) ∙ by_tests (lis
     by_tests false true = refl
     by_tests false false = refl
 
--- ---- the first that meets a test
+-- ---- the first item that passes a test
 
 pub position-found : {X : Type 0} (p : X → Bool) (xs : List X) → list_any p xs ≡ true → (x : X) × (slice_get xs (position_or_len p xs) ≡ Some x) × (p x ≡ true)
 position-found p [] any = absurd (true≢false (sym any))
@@ -96,7 +96,7 @@ position-append p (x ∷ xs) ys any =
     (λ fails. ap (λ n. cond (not (p x)) (1 + n) 0) (position-append p xs ys (ap (λ b. b || list_any p xs) (sym fails) ∙ any)))
     (cases_Bool (p x))
 
--- ---- the front that meets a test
+-- ---- the longest prefix whose items pass a test
 
 pub prefix_len-passes : (p : ℕ → Bool) (text : List ℕ) → list_all p (take (prefix_len p text) text) ≡ true
 prefix_len-passes p [] = refl
@@ -116,7 +116,7 @@ prefix_len-at_least p text front rest e passes = subst (λ t. length front ≤ p
         let here : prefix_len p ((b ∷ bs) ++ rest) ≡ 1 + prefix_len p (bs ++ rest) = cond-true (p b) (1 + prefix_len p (bs ++ rest)) 0 parts.0 in
         omega (arith, here, within bs parts.1)
 
--- ---- equality of texts
+-- ---- equality of byte strings
 
 pub bytes_eq-itself : (text : List ℕ) → bytes_eq text text ≡ true
 bytes_eq-itself text = (bytes_eq-Decides text text).1 refl

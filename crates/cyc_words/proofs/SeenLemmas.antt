@@ -1,4 +1,4 @@
--- The order in which what is seen of a run comes.
+-- The order of observations along a run.
 use Rattle.std.proofs.Common.{◌≡◌, ℕ, List, [], ◌++◌, refl, sym, ap, ◌∙◌, append_assoc}
 use Rattle.cyc_words.specs.Seen.{Seen, showing, ComesTo}
 use Rattle.cyc_words.proofs.PrefixLemmas.{IsPrefix-refl, IsPrefix-trans}
@@ -12,6 +12,6 @@ ComesTo-trans s t u first later = (
   (first.1.0 ++ later.1.0, first.1.1 ∙ ap (λ (l : List ℕ). first.1.0 ++ l) later.1.1 ∙ sym (append_assoc first.1.0 later.1.0 u.rest)),
 )
 
--- what is seen is the same where both of its parts are
+-- observations with equal output and equal unread input are equal
 pub seen_same : (output other rest left : List ℕ) → output ≡ other → rest ≡ left → showing output rest ≡ showing other left
 seen_same output other rest left same_output same_rest = λ i. record { output = same_output i; rest = same_rest i }

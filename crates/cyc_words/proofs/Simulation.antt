@@ -1,5 +1,4 @@
--- The general part of simulations: runs and paths, from matched steps to whole runs, passes in a row, and what comes of
--- them in the end.
+-- General lemmas on simulations: runs and paths, from matched steps to whole runs, composition of passes, and full preservation.
 use Rattle.std.proofs.Common.{◌≡◌, ℕ, zero, suc, ◌+◌, ◌*◌, ◌-◌, ◌≤◌, ◌<◌, List, [], ◌∷◌, ◌++◌, length, refl, sym, ap, subst, ◌∙◌, arith, inl, inr, append_assoc, append-nil, mul-le-mul_right}
 use Rattle.std.specs.Prelude.{◌⊎◌, sum_by, flat_map}
 use Rattle.std.proofs.lemmas.Bool.{cases_lt}
@@ -22,11 +21,11 @@ pub Path-append : (m : Machine) (ps qs : List m.Place) (s t u : m.State) → Pat
 Path-append m [] qs s t u first second = subst (λ x. Path m qs x u) first second
 Path-append m (p ∷ ps) qs s t u (mid, at, step, rest) second = (mid, at, step, Path-append m ps qs mid t u rest second)
 
--- one more step behind a path
+-- a path extended by one more step at its end is a path
 pub Path-step : (m : Machine) (ps : List m.Place) (s t u : m.State) → Path m ps s t → m.Step t u → Path m (ps ++ m.place t ∷ []) s u
 Path-step m ps s t u path step = Path-append m ps (m.place t ∷ []) s t u path (u, refl, step, refl)
 
--- a run meets places, and a path is a run
+-- each run is a path through some places, and each path is a run
 pub Path-from_run : (m : Machine) (n : ℕ) (s t : m.State) → Run m n s t → (places : List m.Place) × (length places ≡ n) × Path m places s t
 Path-from_run m zero s t run = ([], refl, run)
 Path-from_run m (suc n) s t (mid, step, rest) =
@@ -36,7 +35,7 @@ pub Run-from_path : (m : Machine) (places : List m.Place) (s t : m.State) → Pa
 Run-from_path m [] s t path = path
 Run-from_path m (p ∷ places) s t (mid, at, step, rest) = (mid, step, Run-from_path m places mid t rest)
 
--- a run cut in two
+-- a run of i + j steps is a run of i steps followed by one of j steps
 pub Run-split : (m : Machine) (i j : ℕ) (s u : m.State) → Run m (i + j) s u → (t : m.State) × Run m i s t × Run m j t u
 Run-split m zero j s u run = (s, refl, subst (λ n. Run m n s u) (omega arith) run)
 Run-split m (suc i) j s u run =
@@ -44,7 +43,7 @@ Run-split m (suc i) j s u run =
     let (t, first, second) = Run-split m i j mid u rest in
     (t, (mid, step, first), second)
 
--- laws of whole runs
+-- ---- laws of lawful machines, for whole runs
 pub Run-grows : (m : Machine) → IsLawful m → (n : ℕ) (s t : m.State) → Run m n s t → ComesTo (m.seen s) (m.seen t)
 Run-grows m lawful zero s t run = subst (λ x. ComesTo (m.seen s) (m.seen x)) (sym run) (ComesTo-refl (m.seen s))
 Run-grows m lawful (suc n) s t (mid, step, rest) =
@@ -67,7 +66,7 @@ pub NeverFails-later : (m : Machine) (places : List m.Place) (s t : m.State) →
 NeverFails-later m places s t never path n u run =
     never (length places + n) u (Run-append m (length places) n s t u (Run-from_path m places s t path) run)
 
--- no status is another
+-- the constructors of `Status` differ
 pub running_ended : (ending : Ending) → Running ≡ Ended ending → ⊥
 running_ended ending e = cc
 
@@ -85,31 +84,31 @@ status_cases Failed = inr (inr refl)
 -- ---- from matched steps to whole runs
 
 module _ (above below : Machine) (m : Matching above below) (steps : Steps above below m) (laws : IsLawful below) (before : List below.Place) (start : above.State) (never : NeverFails above start) where
-  -- what the steps above from these places, and those before them, may cost
+  -- the cost allowed for the steps above from these places, and for the places before the first step
   abbrev allowed : (below.Place → ℕ) → List above.Place → ℕ
   allowed price places = sum_by price before + sum_by (λ (p : above.Place). sum_by price (m.own p)) places
 
   abbrev Shown : List below.Place → below.State → Type 0
   Shown met now = IsUnderWay above below before m.own start met now ⊎ IsOver above below start now
 
-  -- the runs have come to states that match
+  -- both runs have reached states that match
   record IsMatched (places : List above.Place) (state : above.State) (met : List below.Place) (here : below.State) : Type 0 where
     pub path : Path above places start state
     pub matches : m.Matches state here
     pub paid : (price : below.Place → ℕ) → sum_by price met ≤ allowed price places
 
-  -- the run below is in the midst of a step, and these of its places are still to come
+  -- the run below is in the middle of a step, and the places `back` of that step are still to come
   record IsInside (places : List above.Place) (state : above.State) (met back : List below.Place) : Type 0 where
     pub path : Path above places start state
     pub running : above.status state ≡ Running
     pub paid : (price : below.Place → ℕ) → sum_by price met + sum_by price back ≤ allowed price places + sum_by price (m.own (above.place state))
 
-  -- what is left of the run below, if it is shorter than this, is shown from every match on
+  -- each continuation of the run below with fewer steps than this is explained, from every match on
   abbrev Continues : ℕ → Type 0
   Continues n = (places : List above.Place) (state : above.State) (met : List below.Place) (here : below.State) (rest : List below.Place) (now : below.State)
       → IsMatched places state met here → length rest < n → Path below rest here now → Shown (met ++ rest) now
 
-  -- the step is done, and the runs match again
+  -- the step below is complete, so the runs match again
   arrives : (places : List above.Place) (state : above.State) (met all : List below.Place) (here : below.State) → IsInside places state met [] → (next : IsMatchedStep above below m state all here) → IsMatched (places ++ above.place state ∷ []) next.next met here
   arrives places state met all here inside next = record {
     path = Path-step above places start state next.next inside.path next.step;
@@ -120,7 +119,7 @@ module _ (above below : Machine) (m : Matching above below) (steps : Steps above
         omega (arith, inside.paid price, last, one);
   }
 
-  -- a place of the step is met
+  -- the run below visits the next place of the step
   meets : (places : List above.Place) (state : above.State) (met : List below.Place) (q r : below.Place) (back : List below.Place) → q ≡ r → IsInside places state met (q ∷ back) → IsInside places state (met ++ r ∷ []) back
   meets places state met q r back same inside = record {
     path = inside.path;
@@ -133,11 +132,11 @@ module _ (above below : Machine) (m : Matching above below) (steps : Steps above
         omega (arith, inside.paid price, more, one, first, equal);
   }
 
-  -- the run below stops here, in the midst of a step or just before it
+  -- the run below stops at this place, in the middle of a step or just before it
   stops : (places : List above.Place) (state : above.State) (met : List below.Place) (q : below.Place) (back : List below.Place) (now : below.State)
       → IsInside places state met (q ∷ back) → below.place now ≡ q → IsOnTheWay above below state now → Shown met now
   stops places state met q back now inside stands way =
-      let (n, later, run, shows) = way.behind in
+      let (n, later, run, shows) = way.following in
       inl (record {
         places = places;
         state = state;
@@ -145,14 +144,14 @@ module _ (above below : Machine) (m : Matching above below) (steps : Steps above
         running = inside.running;
         goes_on = way.goes_on;
         ahead = way.ahead;
-        behind = (length places + n, later, Run-append above (length places) n start state later (Run-from_path above places start state inside.path) run, shows);
+        following = (length places + n, later, Run-append above (length places) n start state later (Run-from_path above places start state inside.path) run, shows);
         cost = λ price.
             let first = sum_by-cons price q back in
             let equal : price (below.place now) ≡ price q = ap price stands in
             omega (arith, inside.paid price, first, equal);
       })
 
-  -- places met, moved from one side of a list to the other
+  -- moving a visited place from one list to the other keeps the claim
   moved : (met : List below.Place) (r : below.Place) (rest : List below.Place) (now : below.State) → Shown ((met ++ r ∷ []) ++ rest) now → Shown (met ++ r ∷ rest) now
   moved met r rest now shown = subst (λ (l : List below.Place). Shown l now) (append_assoc met (r ∷ []) rest) shown
 
@@ -168,7 +167,7 @@ module _ (above below : Machine) (m : Matching above below) (steps : Steps above
       moved met r rest now
       (during n continues places state (met ++ r ∷ []) back all mid rest now (meets places state met q r back (sym stands ∙ met_here) inside) (goes mid step) (omega arith) path)
 
-  -- a step begins: it has no places and is done at once, or it has some
+  -- a step above begins: if it owns no places below it is complete at once, otherwise its first place is visited
   begins : (n : ℕ) → Continues n → (places : List above.Place) (state : above.State) (met all : List below.Place) (here : below.State) (rest : List below.Place) (now : below.State)
       → ((next : above.State) → m.weight next < m.weight state → IsMatched (places ++ above.place state ∷ []) next met here → Shown (met ++ rest) now)
       → IsInside places state met all → Comes below (IsOnTheWay above below state) (IsMatchedStep above below m state all) all here
@@ -182,7 +181,7 @@ module _ (above below : Machine) (m : Matching above below) (steps : Steps above
       moved met r rest now
       (during n continues places state (met ++ r ∷ []) back (q ∷ back) mid rest now (meets places state met q r back (sym stands ∙ met_here) inside) (goes mid step) (omega arith) path)
 
-  -- the run above is under way, and its next step is matched
+  -- the run above is still running, so its next step is matched
   goes_on : (n : ℕ) → Continues n → (places : List above.Place) (state : above.State) (met : List below.Place) (here : below.State) (rest : List below.Place) (now : below.State)
       → ((next : above.State) → m.weight next < m.weight state → IsMatched (places ++ above.place state ∷ []) next met here → Shown (met ++ rest) now)
       → IsMatched places state met here → above.status state ≡ Running → length rest < suc n → Path below rest here now → Shown (met ++ rest) now
@@ -199,7 +198,7 @@ module _ (above below : Machine) (m : Matching above below) (steps : Steps above
       })
       stepped.comes short path
 
-  -- the run above has ended, so the run below has, and stays
+  -- the run above has ended, so the run below has ended too and stays as it is
   ends : (places : List above.Place) (state : above.State) (met : List below.Place) (here : below.State) (rest : List below.Place) (now : below.State) (ending : Ending)
       → IsMatched places state met here → above.status state ≡ Ended ending → Path below rest here now → Shown (met ++ rest) now
   ends places state met here rest now ending matched ended path =
@@ -232,7 +231,7 @@ module _ (above below : Machine) (m : Matching above below) (steps : Steps above
   continues (suc n) places state met here rest now matched short path =
       turns n (continues n) (suc (m.weight state)) places state met here rest now (omega arith) matched short path
 
-  -- what is shown from a match at the start, after the places before the first step
+  -- the claim for the initial places, which are visited before the first match
   comes_first : (met back : List below.Place) (here : below.State) (rest : List below.Place) (now : below.State) → above.status start ≡ Running
       → ((price : below.Place → ℕ) → sum_by price met + sum_by price back ≤ sum_by price before)
       → Comes below (IsOnTheWay above below start) (m.Matches start) back here → Path below rest here now → Shown (met ++ rest) now
@@ -257,18 +256,18 @@ module _ (above below : Machine) (m : Matching above below) (steps : Steps above
       omega (arith, paid price, more, one, first, equal))
       (goes mid step) path)
 
-  -- Each run below follows one above: the start comes, from the places before the first step, to a match.
+  -- Each run below follows a run above, if the places before the first step lead to a match with the start.
   pub simulates : (from : below.State) → above.status start ≡ Running → Comes below (IsOnTheWay above below start) (m.Matches start) before from → Follows above below before m.own start from
   simulates from running comes = record {
     runs = λ met now path. comes_first [] before from met now running (λ price. omega arith) comes path;
   }
 
--- ---- passes in a row
+-- ---- composition of two passes
 
--- what a run shows may be seen above
+-- an observation that a run below may show may also be shown above
 may_show : (above below : Machine) (before : List below.Place) (own : above.Place → List below.Place) (start : above.State) (met : List below.Place) (now : below.State)
     → IsUnderWay above below before own start met now ⊎ IsOver above below start now → MayShow above start (below.seen now)
-may_show above below before own start met now (inl u) = u.behind
+may_show above below before own start met now (inl u) = u.following
 may_show above below before own start met now (inr o) = (length o.places, o.state, Run-from_path above o.places start o.state o.path, o.seen)
 
 module _ (above middle below : Machine) (before_middle : List middle.Place) (own_middle : above.Place → List middle.Place) (before_below : List below.Place) (own_below : middle.Place → List below.Place) (start : above.State) (between : middle.State) (from : below.State) where
@@ -290,7 +289,7 @@ module _ (above middle below : Machine) (before_middle : List middle.Place) (own
 
   goes : Follows above middle before_middle own_middle start between → (met : List below.Place) (now : below.State) → (u : IsUnderWay middle below before_below own_below between met now) → Upper u.places u.state → Whole met now
   goes first met now u (inl v) =
-      let (n, later, run, shows) = u.behind in
+      let (n, later, run, shows) = u.following in
       let (places, long, path) = Path-from_run middle n between later run in
       inl (record {
         places = v.places;
@@ -299,7 +298,7 @@ module _ (above middle below : Machine) (before_middle : List middle.Place) (own
         running = v.running;
         goes_on = u.goes_on;
         ahead = ComesTo-trans (above.seen v.state) (middle.seen u.state) (below.seen now) v.ahead u.ahead;
-        behind = subst (MayShow above start) (sym shows) (may_show above middle before_middle own_middle start places later (first.runs places later path));
+        following = subst (MayShow above start) (sym shows) (may_show above middle before_middle own_middle start places later (first.runs places later path));
         cost = λ price.
             let lower = u.cost price in
             let upper = v.cost (λ (q : middle.Place). sum_by price (own_below q)) in
@@ -327,12 +326,12 @@ module _ (above middle below : Machine) (before_middle : List middle.Place) (own
   together first met now (inl u) = goes first met now u (first.runs u.places u.state u.path)
   together first met now (inr o) = over met now o (first.runs o.places o.state o.path)
 
-  -- Two passes in a row: a step's own places are the own places of its own places.
+  -- Two simulations compose: the own places of a step are the own places, in the second pass, of its own places in the first.
   pub in_a_row : Follows above middle before_middle own_middle start between → Follows middle below before_below own_below between from
       → Follows above below (before_below ++ flat_map own_below before_middle) (λ p. flat_map own_below (own_middle p)) start from
   in_a_row first second = record { runs = λ met now path. together first met now (second.runs met now path) }
 
--- ---- what comes of it in the end
+-- ---- full preservation from a simulation
 
 fewer : (k n each : ℕ) → k < n → k * each + each ≤ (n + 1) * each
 fewer k n each less =
@@ -341,7 +340,7 @@ fewer k n each less =
     omega (arith, times, more)
 
 module _ (above below : Machine) (laws : IsLawful above) (before : List below.Place) (own : above.Place → List below.Place) (start : above.State) (from : below.State) (follows : Follows above below before own start from) where
-  -- the run above after n steps, where it is known after k: cut short, or at rest
+  -- the run above after n steps, given its state after k steps: an earlier state, or the given one if it has ended
   abbrev After : ℕ → below.State → Type 0
   After n now = (state : above.State) × Run above n start state × ComesTo (above.seen state) (below.seen now)
       × ((ending : Ending) → above.status state ≡ Ended ending → (below.status now ≡ Ended ending) × (below.seen now ≡ above.seen state))
@@ -365,7 +364,7 @@ module _ (above below : Machine) (laws : IsLawful above) (before : List below.Pl
   ahead_over : (now : below.State) (o : IsOver above below start now) → ComesTo (above.seen o.state) (below.seen now)
   ahead_over now o = subst (ComesTo (above.seen o.state)) (sym o.seen) (ComesTo-refl (above.seen o.state))
 
-  -- a run below that is long enough has come so far
+  -- a run below that is long enough has completed n steps of the run above
   comes_so_far : (each n : ℕ) → ((p : above.Place) → length before + length (own p) ≤ each) → (met : List below.Place) (now : below.State) → length met ≡ (n + 1) * each
       → (u : IsUnderWay above below before own start met now) → n ≤ length u.places
   comes_so_far each n most met now long u =
@@ -406,11 +405,11 @@ module _ (above below : Machine) (laws : IsLawful above) (before : List below.Pl
   Before now = (n : ℕ) × (state : above.State) × Run above n start state × (below.seen now ≡ above.seen state)
       × ((ending : Ending) → below.status now ≡ Ended ending → above.status state ≡ Ended ending)
 
-  behind : (met : List below.Place) (now : below.State) → IsUnderWay above below before own start met now ⊎ IsOver above below start now → Before now
-  behind met now (inl u) =
-      let (n, state, run, shows) = u.behind in
+  following : (met : List below.Place) (now : below.State) → IsUnderWay above below before own start met now ⊎ IsOver above below start now → Before now
+  following met now (inl u) =
+      let (n, state, run, shows) = u.following in
       (n, state, run, shows, λ ending ended. absurd (running_ended ending (sym u.goes_on ∙ ended)))
-  behind met now (inr o) = (
+  following met now (inr o) = (
     length o.places,
     o.state,
     Run-from_path above o.places start o.state o.path,
@@ -422,17 +421,17 @@ module _ (above below : Machine) (laws : IsLawful above) (before : List below.Pl
   fails_not met now (inl u) failed = running_failed (sym u.goes_on ∙ failed)
   fails_not met now (inr o) failed = ended_failed o.ending (sym o.over ∙ failed)
 
-  -- no run below fails: the premise of the next pass
+  -- no run below fails, which is the premise of the next pass
   pub follows-never_fails : NeverFails below from
   follows-never_fails n now run =
       let (met, long, path) = Path-from_run below n from now run in fails_not met now (follows.runs met now path)
 
-  -- with a bound on a step's own places, and on those before the first step, full preservation
+  -- full preservation follows if the number of a step's own places, plus those before the first step, is bounded
   pub follows-preserves : (each : ℕ) → ((p : above.Place) → length before + length (own p) ≤ each) → Preserves above below each start from
   follows-preserves each most = record {
     ahead = λ n now run.
         let (met, long, path) = Path-from_run below ((n + 1) * each) from now run in after each n most met now long (follows.runs met now path);
-    behind = λ n now run.
-        let (met, long, path) = Path-from_run below n from now run in behind met now (follows.runs met now path);
+    following = λ n now run.
+        let (met, long, path) = Path-from_run below n from now run in following met now (follows.runs met now path);
     never_fails = follows-never_fails;
   }

@@ -1,12 +1,11 @@
--- What full preservation refuses of a machine that prints the right bytes: it reads before the program does, reads what the program never
--- asks for, prints before it reads where the program reads first, never reads what the program reads, or asks at the end of the input where
--- the program asks nothing.
+-- Machines that full preservation rejects although they print the right bytes. These machines read too early, read bytes that the program
+-- never reads, print before a read, omit a read, or ask for input at its end.
 use Rattle.std.proofs.Common.{◌≡◌, ℕ, zero, suc, List, [], ◌∷◌, drop, refl, ap}
 use Rattle.cyc_words.specs.Ending.{Full}
 use Rattle.cyc_words.specs.Seen.{Seen, showing}
 use Rattle.cyc_words.specs.Simulation.{Status, Running, Ended, Machine, Preserves}
 
--- A machine that shows these in turn, the last for ever: at first, next, and then.
+-- A machine that shows three given observations in turn. `first`, `next`, and `last` for ever.
 abbrev shown : (first next last : Seen) → ℕ → Seen
 shown first next last zero = first
 shown first next last (suc zero) = next
@@ -31,7 +30,7 @@ playing first next last = record {
   status = status_after;
 }
 
--- a byte is left, or none
+-- the unread input: one byte, or none
 abbrev one : List ℕ
 one = 7 ∷ []
 
@@ -56,10 +55,10 @@ letter_none is = cc
 none_letter : [] ≡ letter → ⊥
 none_letter is = cc
 
--- The program prints and then reads. The machine has read before it prints.
+-- Rejected: the program prints and then reads, but the machine reads before it prints.
 pub reads_ahead : (each : ℕ) → Preserves (playing (showing [] one) (showing letter one) (showing letter [])) (playing (showing [] one) (showing [] []) (showing letter [])) each 0 0 → ⊥
 reads_ahead each p =
-    let (n, state, run, seen, ends) = p.behind 1 1 (1, refl, refl) in
+    let (n, state, run, seen, ends) = p.following 1 1 (1, refl, refl) in
     never state seen
   where
     never : (state : ℕ) → showing [] [] ≡ shown (showing [] one) (showing letter one) (showing letter []) state → ⊥
@@ -67,10 +66,10 @@ reads_ahead each p =
     never (suc zero) seen = none_some (rest_same [] letter [] one seen)
     never (suc (suc n)) seen = none_letter (output_same [] letter [] [] seen)
 
--- The program reads and then prints. The machine prints first.
+-- Rejected: the program reads and then prints, but the machine prints first.
 pub prints_ahead : (each : ℕ) → Preserves (playing (showing [] one) (showing [] []) (showing letter [])) (playing (showing [] one) (showing letter one) (showing letter [])) each 0 0 → ⊥
 prints_ahead each p =
-    let (n, state, run, seen, ends) = p.behind 1 1 (1, refl, refl) in
+    let (n, state, run, seen, ends) = p.following 1 1 (1, refl, refl) in
     never state seen
   where
     never : (state : ℕ) → showing letter one ≡ shown (showing [] one) (showing [] []) (showing letter []) state → ⊥
@@ -78,10 +77,10 @@ prints_ahead each p =
     never (suc zero) seen = letter_none (output_same letter [] one [] seen)
     never (suc (suc n)) seen = some_none (rest_same letter letter one [] seen)
 
--- The program prints and never reads. The machine prints too, and at its end reads what is left.
+-- Rejected: the program prints and never reads, but the machine prints and at its end reads the rest of the input.
 pub reads_at_its_end : (each : ℕ) → Preserves (playing (showing [] one) (showing letter one) (showing letter one)) (playing (showing [] one) (showing letter one) (showing letter [])) each 0 0 → ⊥
 reads_at_its_end each p =
-    let (n, state, run, seen, ends) = p.behind 2 2 (1, refl, (2, refl, refl)) in
+    let (n, state, run, seen, ends) = p.following 2 2 (1, refl, (2, refl, refl)) in
     never state seen
   where
     never : (state : ℕ) → showing letter [] ≡ shown (showing [] one) (showing letter one) (showing letter one) state → ⊥
@@ -89,10 +88,10 @@ reads_at_its_end each p =
     never (suc zero) seen = none_some (rest_same letter letter [] one seen)
     never (suc (suc n)) seen = none_some (rest_same letter letter [] one seen)
 
--- The program reads. The machine never does, and prints and ends alike.
+-- Rejected: the program reads, but the machine never does; it prints and ends alike.
 pub never_reads : Preserves (playing (showing [] one) (showing [] []) (showing letter [])) (playing (showing [] one) (showing [] one) (showing letter one)) 1 0 0 → ⊥
 never_reads p =
-    let (n, state, run, seen, ends) = p.behind 2 2 (1, refl, (2, refl, refl)) in
+    let (n, state, run, seen, ends) = p.following 2 2 (1, refl, (2, refl, refl)) in
     never state seen
   where
     never : (state : ℕ) → showing letter one ≡ shown (showing [] one) (showing [] []) (showing letter []) state → ⊥
@@ -100,8 +99,8 @@ never_reads p =
     never (suc zero) seen = letter_none (output_same letter [] one [] seen)
     never (suc (suc n)) seen = some_none (rest_same letter letter one [] seen)
 
--- The program prints and never reads. The machine then asks for a byte more than is left of its input, whatever that is. Where nothing is left,
--- nothing of it is seen; but up to there a machine cannot know what is left, and where there is a byte, it reads that.
+-- Rejected: the program prints and never reads, but the machine then asks for one byte more than the input has. At the end of the input
+-- such a read shows nothing, but the machine cannot know the end in advance. If a byte is left, the machine reads that byte.
 pub asks_at_the_end : (each : ℕ)
     → ((input : List ℕ) → Preserves (playing (showing [] input) (showing letter input) (showing letter input)) (playing (showing [] input) (showing letter input) (showing letter (drop 1 input))) each 0 0)
     → ⊥

@@ -1,4 +1,4 @@
--- Laws of words that later layers cite.
+-- Laws of words that other crates cite.
 use Rattle.std.proofs.Common.{◌≡◌, ◌≢◌, ℕ, zero, suc, ◌+◌, ◌-◌, ◌*◌, ◌/◌, ◌%◌, ◌^◌, ◌<◌, ◌≤◌, ℤ, pos, negsuc, ◌+ℤ◌, ◌-ℤ◌, ◌*ℤ◌, neg_ℤ, ◌≤ℤ◌, ◌<ℤ◌, refl, sym, ap, inl, inr, ◌∙◌, arith, rules}
 use Rattle.std.specs.Prelude.{◌⊎◌, ◌↔◌, FitsSigned, bit_and, bit_or, bit_xor, int_div, int_rem}
 use Rattle.std.specs.Int.{w16, w32, bit_at, int_wrap}
@@ -10,9 +10,9 @@ use Rattle.std.proofs.Math.Nat.{div-le_self, div-mul-le_self}
 use lib.Signed.{mag_rem}
 use Rattle.cyc_words.specs.Word.{IsWord, IsHalf, signed, unsigned, signed_half, sign_extended, floor_div, add_of, sub_of, mul_of, shl_of, shr_of, sar_of, slt_of, sltu_of, div_of, rem_of}
 
--- ---- the two views of a word
+-- ---- the signed and the unsigned view of a word
 
--- each view leads back to the other
+-- the signed and the unsigned view of a word determine each other
 pub unsigned-signed : (w : ℕ) → IsWord w → unsigned (signed w) ≡ w
 unsigned-signed w h = grind (arith, ints)
 
@@ -26,14 +26,14 @@ IsWord-unsigned (negsuc n) = omega arith
 pub FitsSigned-signed : (w : ℕ) → IsWord w → FitsSigned w32 (signed w)
 FitsSigned-signed w h = search (rules, ints)
 
--- the signed meaning in either half of the words
+-- the signed meaning of a word below 2 ^ 31, and of a word from 2 ^ 31 on
 pub signed_low : (w : ℕ) → w < 2 ^ 31 → signed w ≡ pos w
 signed_low w h = omega (arith, ints)
 
 pub signed_high : (w : ℕ) → 2 ^ 31 ≤ w → IsWord w → signed w ≡ pos w -ℤ pos (2 ^ 32)
 signed_high w high h = grind (arith, ints)
 
--- the views agree modulo 2 ^ 32
+-- the signed and the unsigned view of a word agree modulo 2 ^ 32
 pub views_agree : (w : ℕ) → IsWord w → (signed w ≡ pos w) ⊎ (signed w ≡ pos w -ℤ pos (2 ^ 32))
 views_agree w h = elim (cases_lt w (2 ^ 31)) [ inl low ↦ inl (signed_low w low) | inr high ↦ inr (signed_high w high h) ]
 
@@ -47,7 +47,7 @@ IsWord-sub_of a b = omega arith
 pub IsWord-mul_of : (a b : ℕ) → IsWord (mul_of a b)
 IsWord-mul_of a b = omega arith
 
--- the word of the sum, difference or product of two numbers is that of their words
+-- wrapping a sum, difference or product of integers is the operation on their wrapped words
 pub unsigned-add : (x y : ℤ) → unsigned (x +ℤ y) ≡ add_of (unsigned x) (unsigned y)
 unsigned-add (pos x) (pos y) = omega arith
 unsigned-add (pos x) (negsuc y) = grind (arith, ints)
@@ -60,7 +60,7 @@ unsigned-sub (pos x) (negsuc y) = grind (arith, ints)
 unsigned-sub (negsuc x) (pos y) = grind (arith, ints)
 unsigned-sub (negsuc x) (negsuc y) = grind (arith, ints)
 
--- std's wrapping at 32 bits
+-- the signed meaning of a wrapped integer is std's wrapping at 32 bits
 signed-unsigned_wraps : (z : ℤ) → signed (unsigned z) ≡ int_wrap w32 z
 unfolding int_wrap
 signed-unsigned_wraps (pos n) = refl
@@ -76,7 +76,7 @@ unsigned-mul x y =
     ∙ ap unsigned (signed-unsigned_wraps (x *ℤ y) ∙ sym wrapped ∙ sym product)
     ∙ unsigned-signed (mul_of (unsigned x) (unsigned y)) (IsWord-mul_of (unsigned x) (unsigned y))
 
--- so the operations on words are those on their signed meanings, wrapped
+-- the operations on words are those on their signed meanings, wrapped
 pub add_of-signed : (a b : ℕ) → IsWord a → IsWord b → add_of a b ≡ unsigned (signed a +ℤ signed b)
 add_of-signed a b ha hb = simp (unsigned-add, unsigned-signed)
 
@@ -86,9 +86,9 @@ sub_of-signed a b ha hb = simp (unsigned-sub, unsigned-signed)
 pub mul_of-signed : (a b : ℕ) → IsWord a → IsWord b → mul_of a b ≡ unsigned (signed a *ℤ signed b)
 mul_of-signed a b ha hb = simp (unsigned-mul, unsigned-signed)
 
--- ---- shifts to the right, quotients and remainders
+-- ---- right shifts, quotients and remainders
 
--- an arithmetic shift to the right rounds the signed meaning down
+-- an arithmetic right shift rounds the quotient of the signed meaning down
 FitsSigned-floor_div : (z : ℤ) (d : ℕ) → FitsSigned w32 z → FitsSigned w32 (floor_div z d)
 FitsSigned-floor_div (pos n) d h = record { sfits = omega (arith, h.sfits, div-le_self n d) }
 FitsSigned-floor_div (negsuc n) d h = record { sfits = omega (arith, h.sfits, div-le_self n d) }
@@ -97,7 +97,7 @@ pub signed-sar_of : (a k : ℕ) → IsWord a → signed (sar_of a k) ≡ floor_d
 unfolding sar_of
 signed-sar_of a k h = signed-unsigned (floor_div (signed a) (2 ^ (k % 32))) (FitsSigned-floor_div (signed a) (2 ^ (k % 32)) (FitsSigned-signed a h))
 
--- quotient and remainder put together again are the dividend, also where the quotient wraps
+-- quotient times divisor plus remainder is the dividend, even if the quotient wraps
 pub divided : (a b : ℕ) → IsWord a → IsWord b → add_of (mul_of (div_of a b) b) (rem_of a b) ≡ a
 unfolding div_of rem_of
 divided a b ha hb =
@@ -107,7 +107,7 @@ divided a b ha hb =
     simp (unsigned-add, unsigned-mul) in
     ap (λ (x : ℕ). add_of (mul_of (div_of a b) x) (rem_of a b)) (sym (unsigned-signed b hb)) ∙ sym parts ∙ again
 
--- the quotient fits but for -2 ^ 31 by -1, and the remainder always does
+-- the quotient fits into 32 bits, except for -2 ^ 31 by -1; the remainder always fits
 FitsSigned-neg : (n : ℕ) → n ≤ 2 ^ 31 → FitsSigned w32 (neg_ℤ (pos n))
 FitsSigned-neg zero h = record { sfits = omega arith }
 FitsSigned-neg (suc n) h = record { sfits = omega arith }
@@ -129,7 +129,7 @@ signed-div_of a b ha hb no_overflow =
     (λ least minus_one. no_overflow
     (sym (unsigned-signed a ha) ∙ ap unsigned least) (sym (unsigned-signed b hb) ∙ ap unsigned minus_one)))
 
--- the quotient that wraps, and its remainder
+-- -2 ^ 31 by -1 wraps to -2 ^ 31, with the remainder 0
 pub least_by_minus_one : (div_of (2 ^ 31) (2 ^ 32 - 1) ≡ 2 ^ 31) × (rem_of (2 ^ 31) (2 ^ 32 - 1) ≡ 0)
 unfolding div_of rem_of
 least_by_minus_one = (refl, refl)
@@ -141,7 +141,7 @@ pub signed-rem_of : (a b : ℕ) → IsWord a → signed (rem_of a b) ≡ int_rem
 unfolding rem_of
 signed-rem_of a b ha = signed-unsigned (int_rem (signed a) (signed b)) (FitsSigned-int_rem (signed a) (signed b) (FitsSigned-signed a ha))
 
--- ---- results of the other operations are words
+-- ---- results of the other operations fit into a word
 pub IsWord-shl_of : (a k : ℕ) → IsWord (shl_of a k)
 IsWord-shl_of a k = omega arith
 
@@ -178,7 +178,7 @@ IsWord-bit_xor a b ha hb = xor_of_32 a b ha hb
 
 -- ---- comparisons
 
--- 1 or 0, and which
+-- a comparison is 1 or 0, according to the order of the signed meanings
 pub slt_of_cases : (a b : ℕ) → ((slt_of a b ≡ 1) × (signed a <ℤ signed b)) ⊎ ((slt_of a b ≡ 0) × (signed b ≤ℤ signed a))
 unfolding slt_of
 slt_of_cases a b = grind (arith, ints)
@@ -194,17 +194,17 @@ sltu_of-zero a b h = grind arith
 
 -- ---- bits
 
--- words with the same bits are one word
+-- two words with equal bits are equal
 pub same_bits : (a b : ℕ) → IsWord a → IsWord b → ((i : ℕ) → i < 32 → bit_at a i ≡ bit_at b i) → a ≡ b
 same_bits a b ha hb same = same_from_bits_below 32 a b ha hb same
 
--- the highest bit is the sign
+-- the highest bit of a word is set exactly if its signed meaning is negative
 pub sign_bit : (w : ℕ) → IsWord w → (bit_at w 31 ≡ 1) ↔ (signed w <ℤ pos 0)
 sign_bit w h = (λ e. grind (arith, ints), λ e. grind (arith, ints))
 
--- ---- halves
+-- ---- halves of a word
 
--- the two halves put together again
+-- the high half times 2 ^ 16 plus the low half is the word
 pub halves : (w : ℕ) → (w / 2 ^ 16) * 2 ^ 16 + w % 2 ^ 16 ≡ w
 halves w = omega arith
 
@@ -214,24 +214,24 @@ IsHalf-high w h = omega arith
 pub IsHalf-low : (w : ℕ) → IsHalf (w % 2 ^ 16)
 IsHalf-low w = omega arith
 
--- a high half shifted up, with a low one set
+-- shifting a high half up and setting a low half adds the two
 pub bit_or-shl_of : (h l : ℕ) → IsHalf h → IsHalf l → bit_or (shl_of h 16) l ≡ h * 2 ^ 16 + l
 bit_or-shl_of h l hh hl =
     let whole : shl_of h 16 ≡ h * 2 ^ 16 = omega arith in
     rw whole (or_shifted h 16 l hl)
 
--- what loading the high half and setting the low one leaves
+-- loading the high half of a word and setting its low half gives the word
 pub bit_or-halves : (w : ℕ) → IsWord w → bit_or (shl_of (w / 2 ^ 16) 16) (w % 2 ^ 16) ≡ w
 bit_or-halves w h = bit_or-shl_of (w / 2 ^ 16) (w % 2 ^ 16) (IsHalf-high w h) (IsHalf-low w) ∙ halves w
 
 -- ---- sign extension of a half
 
--- extension keeps the signed meaning
+-- sign extension keeps the signed meaning of a half
 pub signed-sign_extended : (h : ℕ) → IsHalf h → signed (sign_extended h) ≡ signed_half h
 unfolding sign_extended
 signed-sign_extended h hh = grind (arith, ints)
 
--- the extension of a half by its highest bit
+-- the sign extension of a half, by cases on its highest bit
 pub sign_extended_low : (h : ℕ) → h < 2 ^ 15 → sign_extended h ≡ h
 unfolding sign_extended
 sign_extended_low h hh = grind (arith, ints)

@@ -1,11 +1,11 @@
--- The contract of a call that decides: what it accepts and with which answer, what it refuses and with which fault, each both ways. Want
--- of memory may come in place of either. This project's own choice.
+-- The contract of a call that decides: it accepts with a result or rejects with a fault, and both are characterized exactly. The result and
+-- the fault may each be replaced by the fault for lack of memory. The form of these contracts is this project's own choice.
 use Rattle.std.specs.Prelude.{◌≡◌, ◌⊎◌, Result, IfOk, IfErr, MatchResult}
 use Rattle.cyc_words.specs.declared.fault.Fault.{Fault}
 use Rattle.cyc_words.specs.Fault.{memory_fault}
 
--- `Accepted` says what is accepted, and `Gives` what is answered then. `Refused` is true of each fault that is answered, and
--- a fault of which `Faulty` is true is answered: two words for one thing but where several faults may be true at once.
+-- `Accepted` says which inputs are accepted, and `Gives` relates them to the result. `Refused` holds of each fault that is returned; each
+-- fault of which `Faulty` holds is returned. The two differ only if several faults may hold at once.
 pub record Decides {X A : Type 0} (Accepted : A → Type 0) (Gives : A → X → Type 0) (Refused Faulty : Fault → Type 0) (result : Result X Fault) : Type 0 where
   pub accepted : IfOk result (λ x. (a : A) × Accepted a × Gives a x)
   pub refused : IfErr result (λ f. (f ≡ memory_fault) ⊎ Refused f)

@@ -1,4 +1,4 @@
--- Lists in which nothing stands twice. This project's own choice.
+-- Lists without duplicates. The definition of distinct lists is this project's own choice.
 use Rattle.std.specs.Prelude.{◌≢◌, List, [], ◌∷◌}
 use Rattle.std.specs.List.{AllByRecursion}
 

@@ -1,14 +1,14 @@
--- How a run ends, whoever runs: the source, the plain program or the machine. This project's own choice.
+-- How a run ends, for the source program, the plain program and the machine. The classification of endings is this project's own choice.
 use Rattle.std.specs.Prelude.{◌≡◌, ℕ, ℤ}
 
--- `main` returned a value; an exception with this tag and value was not caught (the value is 0 where it has
--- none); or the store had no room
+-- The run returned a value from `main`, or ended by an uncaught exception, or ran out of store. The exception has its tag and its value,
+-- which is 0 if it has none.
 pub data Ending : Type 0 where
   Returned : ℤ → Ending
   Uncaught : ℕ → ℤ → Ending
   Full : Ending
 
--- both returned one value, both left one exception uncaught, or both were full
+-- the two runs ended alike: with equal returned values, with equal uncaught exceptions, or both out of store
 abbrev pub Alike : Ending → Ending → Type 0
 Alike (Returned x) (Returned y) = x ≡ y
 Alike (Uncaught t x) (Uncaught u y) = (t ≡ u) × (x ≡ y)

@@ -1,4 +1,4 @@
--- The refusals of a source text, and the numbers of their codes: this project's own choice.
+-- The faults of a source text, and the numbers of their codes: this project's own choice.
 use Rattle.std.specs.Prelude.{ℕ}
 use Rattle.cyc_words.specs.declared.fault.Code.{Code}
 use Rattle.cyc_words.specs.declared.fault.Fault.{Fault}
@@ -37,6 +37,6 @@ number_of MissingReturn = 43
 number_of TooManyFunctions = 50
 number_of FrameTooLarge = 51
 
--- want of memory, which has no place
+-- the fault for lack of memory, which has no place in the text
 abbrev pub memory_fault : Fault
 memory_fault = record { code = Memory; line = 0; column = 0 }

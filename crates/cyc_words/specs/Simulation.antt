@@ -1,16 +1,16 @@
--- What it means that one machine does what another does, for any two machines. The promise of the compiler is stated in these words. This
--- project's own choice.
+-- Simulation between two machines, `above` and `below`: the lower one does what the upper one does. The theorem of the compiler is stated
+-- with these definitions. The form of simulation is this project's own choice.
 use Rattle.std.specs.Prelude.{◌≡◌, ℕ, zero, suc, ◌+◌, ◌*◌}
 use Rattle.cyc_words.specs.Ending.{Ending}
 use Rattle.cyc_words.specs.Seen.{Seen, ComesTo}
 
--- What a state of a run is: under way, ended, or failed: unable to go on, in a way that is no program's end.
+-- The status of a run: running, ended, or failed. A failed run is stuck, which is no way for a program to end.
 pub data Status : Type 0 where
   Running : Status
   Ended : Ending → Status
   Failed : Status
 
--- A machine: its states, what it may do in one step, where in its code it stands, and what is seen of it.
+-- A machine: its states, its step relation, the code position of a state, and the observation of a state.
 pub record Machine : Type 1 where
   pub State : Type 0
   pub Place : Type 0
@@ -19,23 +19,24 @@ pub record Machine : Type 1 where
   pub seen : State → Seen
   pub status : State → Status
 
--- from old, the machine may come to new by so many steps
+-- from state `old`, the machine may reach state `new` in this many steps
 abbrev pub Run : (m : Machine) → ℕ → m.State → m.State → Type 0
 Run m zero old new = new ≡ old
 Run m (suc n) old new = (mid : m.State) × m.Step old mid × Run m n mid new
 
--- no run from this state fails
+-- no run from this state reaches a failed state
 abbrev pub NeverFails : (m : Machine) → m.State → Type 0
 NeverFails m start = (n : ℕ) (s : m.State) → Run m n start s → m.status s ≡ Failed → ⊥
 
--- Full preservation, with so many steps below for each step above, and as many before the first.
+-- Full preservation: each step above is matched by `each` steps below, after at most `each` steps before the first one.
 pub record Preserves (above below : Machine) (each : ℕ) (start : above.State) (from : below.State) : Type 0 where
-  -- after that many steps, what is printed above is printed below, what is read above is read below, and an end above has come below too
+  -- After enough steps, all that is printed and read above is also printed and read below. If the run above has ended, the run below has
+  -- ended alike.
   pub ahead : (n : ℕ) (now : below.State) → Run below ((n + 1) * each) from now
       → (state : above.State) × Run above n start state × ComesTo (above.seen state) (below.seen now)
       × ((ending : Ending) → above.status state ≡ Ended ending → (below.status now ≡ Ended ending) × (below.seen now ≡ above.seen state))
-  -- after any number of steps, what is seen below is what is seen above after some number of steps, and an end below is one above
-  pub behind : (m : ℕ) (now : below.State) → Run below m from now
+  -- What is seen below after any number of steps is seen above after some number of steps. An end below is an end above.
+  pub following : (m : ℕ) (now : below.State) → Run below m from now
       → (n : ℕ) × (state : above.State) × Run above n start state × (below.seen now ≡ above.seen state)
       × ((ending : Ending) → below.status now ≡ Ended ending → above.status state ≡ Ended ending)
   pub never_fails : NeverFails below from

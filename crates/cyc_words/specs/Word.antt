@@ -1,5 +1,5 @@
--- Words of 32 bits. A word is a number below 2 ^ 32, and also means a signed number in two's complement.
--- The operations are those of the MIPS32 architecture, volume II, as whole numbers.
+-- Words of 32 bits. A word is a number below 2 ^ 32; its signed meaning is that of two's complement. The operations are those of the MIPS32
+-- architecture, volume II, defined on natural numbers.
 use Rattle.std.specs.Prelude.{ℕ, ◌+◌, ◌-◌, ◌*◌, ◌/◌, ◌%◌, ◌^◌, ◌<◌, ℤ, pos, negsuc, int_div, int_rem, int_lt, nat_lt, if◌then◌else◌}
 use Rattle.std.specs.Int.{w16, w32, cast_signed}
 
@@ -7,17 +7,16 @@ use Rattle.std.specs.Int.{w16, w32, cast_signed}
 abbrev pub IsWord : ℕ → Type 0
 IsWord w = w < 2 ^ 32
 
--- the signed meaning of a word: the word itself below 2 ^ 31, and from there on the word less 2 ^ 32
+-- the signed meaning of a word: the word if it is below 2 ^ 31, otherwise the word minus 2 ^ 32
 abbrev pub signed : ℕ → ℤ
 signed w = cast_signed w32 w
 
--- the word that a whole number leaves when it is wrapped to 32 bits: the number modulo 2 ^ 32
--- (`negsuc n` is -(n + 1))
+-- an integer wrapped to 32 bits: its remainder modulo 2 ^ 32 (`negsuc n` is -(n + 1))
 abbrev pub unsigned : ℤ → ℕ
 unsigned (pos n) = n % 2 ^ 32
 unsigned (negsuc n) = 2 ^ 32 - 1 - n % 2 ^ 32
 
--- a half, which is a number of 16 bits, as a signed number, and as the word of that number: sign extension
+-- a halfword (a number of 16 bits), its signed meaning, and its sign extension to a word
 abbrev pub IsHalf : ℕ → Type 0
 IsHalf h = h < 2 ^ 16
 
@@ -27,12 +26,12 @@ signed_half h = cast_signed w16 h
 unfoldable pub sign_extended : ℕ → ℕ
 sign_extended h = unsigned (signed_half h)
 
--- a whole number by a positive one, rounded down
+-- the quotient of an integer and a positive number, rounded down
 abbrev pub floor_div : ℤ → ℕ → ℤ
 floor_div (pos n) d = pos (n / d)
 floor_div (negsuc n) d = negsuc (n / d)
 
--- sum, difference and product, wrapped (the difference as a + 2 ^ 32 - b, since `-` stops at 0)
+-- sum, difference and product, wrapped (the difference is a + 2 ^ 32 - b, since `-` stops at 0)
 abbrev pub add_of : ℕ → ℕ → ℕ
 add_of a b = (a + b) % 2 ^ 32
 
@@ -42,8 +41,7 @@ sub_of a b = (a + (2 ^ 32 - b)) % 2 ^ 32
 abbrev pub mul_of : ℕ → ℕ → ℕ
 mul_of a b = (a * b) % 2 ^ 32
 
--- shifts by k modulo 32: to the left, wrapped; to the right with zeros coming in; and to the right as signed
--- numbers, rounded down, so that the sign comes in
+-- Shifts by k modulo 32: left, wrapped; right, shifting in zeros; right, shifting in the sign (the signed quotient rounded down).
 abbrev pub shl_of : ℕ → ℕ → ℕ
 shl_of a k = (a * 2 ^ (k % 32)) % 2 ^ 32
 
@@ -53,7 +51,7 @@ shr_of a k = a / 2 ^ (k % 32)
 unfoldable pub sar_of : ℕ → ℕ → ℕ
 sar_of a k = unsigned (floor_div (signed a) (2 ^ (k % 32)))
 
--- 1 where a is less than b, and 0 elsewhere: as signed numbers, and as words
+-- 1 if a is less than b, otherwise 0: compared as signed numbers, and as unsigned words
 unfoldable pub slt_of : ℕ → ℕ → ℕ
 slt_of a b = if int_lt (signed a) (signed b) then 1 else 0
 

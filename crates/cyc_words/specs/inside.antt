@@ -1,5 +1,5 @@
--- words of 32 bits, bytes, faults, and devices: what the contracts of this crate rest on
+-- definitions that the contracts inside this crate use
 pub mod Reader
 pub mod Writer
--- what the contracts of many crates rest on
+-- simulation as each pass proves it
 pub mod Following

@@ -3,42 +3,42 @@
 ghost use Rattle.std.specs.Prelude.{◌≡◌, ◌≢◌};
 ghost use Rattle.cyc_words.specs.Word.{add_of, sub_of, mul_of, shl_of, shr_of, sar_of, slt_of, sltu_of, div_of, rem_of};
 
-/// The sum, wrapped to 32 bits.
+/// Returns the sum, wrapped to 32 bits.
 pub fn add(a: u32, b: u32) -> u32
     ensures { result ≡ add_of a b }
 {
     a.wrapping_add(b)
 }
 
-/// The difference, wrapped to 32 bits.
+/// Returns the difference, wrapped to 32 bits.
 pub fn sub(a: u32, b: u32) -> u32
     ensures { result ≡ sub_of a b }
 {
     a.wrapping_sub(b)
 }
 
-/// The product, wrapped to 32 bits.
+/// Returns the product, wrapped to 32 bits.
 pub fn mul(a: u32, b: u32) -> u32
     ensures { result ≡ mul_of a b }
 {
     a.wrapping_mul(b)
 }
 
-/// `a` shifted left by `count` modulo 32, with zeros coming in.
+/// Shifts `a` left by `count` modulo 32, shifting in zeros.
 pub fn shl(a: u32, count: u32) -> u32
     ensures { result ≡ shl_of a count }
 {
     a << (count % 32)
 }
 
-/// `a` shifted right by `count` modulo 32, with zeros coming in.
+/// Shifts `a` right by `count` modulo 32, shifting in zeros.
 pub fn shr(a: u32, count: u32) -> u32
     ensures { result ≡ shr_of a count }
 {
     a >> (count % 32)
 }
 
-/// `a` shifted right by `count` modulo 32 as a signed number, with its sign coming in.
+/// Shifts `a` right by `count` modulo 32 as a signed number, shifting in its sign.
 #[tactic(auto, unfolding(crate::specs::Word::sar_of))]
 pub fn sar(a: u32, count: u32) -> u32
     ensures { result ≡ sar_of a count }
@@ -46,7 +46,7 @@ pub fn sar(a: u32, count: u32) -> u32
     (a.cast_signed() >> (count % 32)).cast_unsigned()
 }
 
-/// 1 where `a` is less than `b` as signed numbers, and 0 elsewhere.
+/// Returns 1 if `a` is less than `b` as signed numbers, otherwise 0.
 #[tactic(auto, unfolding(crate::specs::Word::slt_of))]
 pub fn slt(a: u32, b: u32) -> u32
     ensures { result ≡ slt_of a b }
@@ -54,14 +54,14 @@ pub fn slt(a: u32, b: u32) -> u32
     u32::from(a.cast_signed() < b.cast_signed())
 }
 
-/// 1 where `a` is less than `b` as unsigned numbers, and 0 elsewhere.
+/// Returns 1 if `a` is less than `b` as unsigned numbers, otherwise 0.
 pub fn sltu(a: u32, b: u32) -> u32
     ensures { result ≡ sltu_of a b }
 {
     u32::from(a < b)
 }
 
-/// The quotient of signed numbers, rounded toward zero. -2147483648 by -1 wraps to -2147483648.
+/// Returns the signed quotient, rounded toward zero. -2147483648 by -1 wraps to -2147483648.
 #[tactic(auto, unfolding(crate::specs::Word::div_of))]
 pub fn div(a: u32, b: u32) -> u32
     requires { b ≢ 0 }
@@ -72,7 +72,7 @@ pub fn div(a: u32, b: u32) -> u32
         .cast_unsigned()
 }
 
-/// The remainder of signed numbers, with the dividend's sign. Of -2147483648 by -1 it is 0.
+/// Returns the signed remainder, with the dividend's sign. For -2147483648 by -1 it is 0.
 #[tactic(auto, unfolding(crate::specs::Word::rem_of))]
 pub fn rem(a: u32, b: u32) -> u32
     requires { b ≢ 0 }

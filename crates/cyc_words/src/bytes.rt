@@ -3,22 +3,22 @@
 ghost use Rattle.std.specs.Prelude.{◌≡◌};
 ghost use Rattle.cyc_words.specs.Bytes.{bytes_of_word, word_of_bytes, byte_in, with_byte};
 
-/// The word of four bytes, the highest first.
+/// Returns the word of four bytes, the highest first.
 pub fn word_at(bytes: &[u8; 4]) -> u32
     ensures { result ≡ word_of_bytes bytes.now }
 {
     u32::from_be_bytes(*bytes)
 }
 
-/// The bytes of a word, the highest first.
+/// Returns the four bytes of a word, the highest first.
 pub fn bytes_of(word: u32) -> [u8; 4]
     ensures { result ≡ bytes_of_word word }
 {
     word.to_be_bytes()
 }
 
-/// The byte of a word at a place. Place 0 has the highest byte, which stands at the lowest address, and each place from 3 on the
-/// lowest one.
+/// Returns the byte of a word at a position. Position 0 is the highest byte, at the lowest address; each position from 3 on is the lowest
+/// byte.
 pub fn byte_in(word: u32, place: u32) -> u8
     ensures { result ≡ byte_in word place }
 {
@@ -30,7 +30,7 @@ pub fn byte_in(word: u32, place: u32) -> u8
     }
 }
 
-/// The word with this byte at a place, and its other bytes as they are.
+/// Returns the word with its byte at this position replaced; the other bytes stay.
 pub fn with_byte(word: u32, place: u32, byte: u8) -> u32
     ensures { result ≡ with_byte word place byte }
 {

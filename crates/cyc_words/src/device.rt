@@ -1,31 +1,31 @@
-//! Devices that give and take bytes one at a time.
+//! Devices that read or write one byte at a time.
 
 ghost use Rattle.std.specs.Prelude.{◌≡◌, ◌||◌, ℕ, List, Bool, true, Option, is_err, IsTrue, IsErr, OnOk, OnErr, flat_map};
 ghost use Rattle.std.specs.Io.KnownBytes.{Keeps};
 ghost use Rattle.cyc_words.specs.Device.{Gives, Takes, TakesText, is_end};
 
-/// A device's one answer when it could not give or take a byte.
+/// The error of a device that could not read or write a byte.
 #[derive(Clone, Copy, Debug, PartialEq, Eq)]
 pub struct Failed;
 
-/// A device that gives bytes.
+/// An input device.
 ///
-/// It tells the bytes that are still to be read, or `None` where it tells nothing. Told bytes stay told, and go
-/// one at a time from the front.
+/// A `ByteIn` may report the bytes that are still to be read; `None` reports nothing. Once reported, the bytes are consumed one at a time
+/// from the front.
 pub trait ByteIn {
     ghost remaining: { Self → Option (List ℕ) };
 
     ghost failed: { Self → Bool };
 
-    /// Whether a call of `next` has answered that the input is at its end.
+    /// True once a call of `next` has returned the end of the input.
     ghost ended: { Self → Bool };
 
-    /// Whether a byte was asked for behind such an answer.
+    /// True once a byte was requested after the end of the input.
     ghost asked_past_end: { Self → Bool };
 
-    /// The next byte, or `None` at the end.
+    /// Returns the next byte, or `None` at the end.
     ///
-    /// `Failed` may come at any call, and from then on it is the only answer. It leaves the told bytes.
+    /// Any call may return `Failed`; each later call then returns `Failed` too. A failure does not change the reported bytes.
     fn next(&mut self) -> Result<Option<u8>, Failed>
         ensures bytes { Gives (remaining self.old) result (remaining self.new) }
         ensures fails { failed self.new ≡ is_err result }
@@ -33,15 +33,15 @@ pub trait ByteIn {
         ensures ends { ended self.new ≡ (is_end result || ended self.old) }
         ensures asks { asked_past_end self.new ≡ (ended self.old || asked_past_end self.old) };
 
-    /// Whether the next call of `next` is answered by what the device holds already. Where it is not, that call may wait.
+    /// Returns true if the result of the next call of `next` is available without waiting.
     fn is_ready(&self) -> bool {
         false
     }
 }
 
-/// A device that takes bytes.
+/// An output device.
 ///
-/// It tells the bytes that it took, or `None` where it tells nothing. Told bytes stay told, and grow at the end.
+/// A `ByteOut` may report the bytes that it has taken; `None` reports nothing. Once reported, the bytes only grow at the end.
 pub trait ByteOut {
     ghost written: { Self → Option (List ℕ) };
 
@@ -49,15 +49,15 @@ pub trait ByteOut {
 
     /// Takes one byte.
     ///
-    /// `Failed` may come at any call, and from then on it is the only answer. It leaves the told bytes.
+    /// Any call may return `Failed`; each later call then returns `Failed` too. A failure does not change the reported bytes.
     fn put(&mut self, byte: u8) -> Result<(), Failed>
         ensures bytes { Takes (written self.old) byte result (written self.new) }
         ensures fails { failed self.new ≡ is_err result }
         ensures stays { IsTrue (failed self.old) → IsErr result };
 
-    /// Passes on what the device holds back of the bytes that it took, as before a call that waits for input.
+    /// Flushes the bytes that the device has taken but holds back, as before a call that waits for input.
     ///
-    /// It leaves the told bytes. Where it fails, the next call of `put` answers so.
+    /// The reported bytes do not change. If flushing fails, the next call of `put` returns the failure.
     fn pass_on(&mut self)
         ensures bytes { Keeps (written self.old) (written self.new) }
         ensures fails { failed self.new ≡ failed self.old }

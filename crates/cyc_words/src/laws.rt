@@ -1,14 +1,16 @@
-//! Laws of the definitions in `specs/`. Each function does nothing: its contract is the law, and so it is proved
-//! with the crate. The lemmas behind them stand in `proofs/` for other proofs to cite.
+//! Laws of the definitions in `specs/`. Each function of this file does nothing, and its contract states one law, which is proved with the
+//! crate. The lemmas that other proofs cite are in `proofs/`.
 
-ghost use Rattle.std.specs.Prelude.{◌≡◌, ◌≢◌, ℕ, ◌+◌, ◌-◌, ◌*◌, ◌/◌, ◌%◌, ◌^◌, ◌<◌, ◌≤◌, ◌⊎◌, ◌↔◌, ℤ, pos, ◌+ℤ◌, ◌-ℤ◌, ◌*ℤ◌, ◌<ℤ◌, List, [], ◌∷◌, length, All, FitsSigned, int_div, int_rem, bit_or};
+ghost use Rattle.std.specs.Prelude.{◌≡◌, ◌≢◌, ℕ, ◌+◌, ◌-◌, ◌*◌, ◌/◌, ◌%◌, ◌^◌, ◌<◌, ◌≤◌, ◌⊎◌, ◌↔◌, ℤ, pos, ◌+ℤ◌, ◌-ℤ◌, ◌*ℤ◌, ◌<ℤ◌, List, [], ◌∷◌};
+ghost use Rattle.std.specs.Prelude.{length, All, FitsSigned, int_div, int_rem, bit_or};
 ghost use Rattle.std.specs.Int.{w16, w32, bit_at};
-ghost use Rattle.cyc_words.specs.Word.{IsWord, IsHalf, signed, unsigned, signed_half, sign_extended, floor_div, add_of, sub_of, mul_of, shl_of, sar_of, div_of, rem_of};
+ghost use Rattle.cyc_words.specs.Word.{IsWord, IsHalf, signed, unsigned, signed_half, sign_extended, floor_div, add_of, sub_of, mul_of, shl_of};
+ghost use Rattle.cyc_words.specs.Word.{sar_of, div_of, rem_of};
 ghost use Rattle.cyc_words.specs.Bytes.{IsByte, bytes_of_word, word_of_bytes, byte_in, with_byte};
 ghost use Rattle.cyc_words.specs.Seen.{IsPrefix};
 ghost use Rattle.cyc_words.specs.Ending.{Ending, Alike};
 
-/// The signed and the unsigned meaning of a word agree modulo 2^32, and each leads back to the other.
+/// The signed and the unsigned meaning of a word agree modulo 2^32, and each determines the other.
 pub fn word_views()
     ensures agree { (w : ℕ) → IsWord w → (signed w ≡ pos w) ⊎ (signed w ≡ pos w -ℤ pos (2 ^ 32)) }
     ensures back { (w : ℕ) → IsWord w → unsigned (signed w) ≡ w }
@@ -17,15 +19,14 @@ pub fn word_views()
     ensures unsigned_fits { (z : ℤ) → IsWord (unsigned z) }
 {}
 
-/// Sum, difference and product of words are those of their signed meanings, wrapped.
+/// Sum, difference and product of words are those of their signed meanings, wrapped to 32 bits.
 pub fn word_sums()
     ensures sum { (a b : ℕ) → IsWord a → IsWord b → add_of a b ≡ unsigned (signed a +ℤ signed b) }
     ensures difference { (a b : ℕ) → IsWord a → IsWord b → sub_of a b ≡ unsigned (signed a -ℤ signed b) }
     ensures product { (a b : ℕ) → IsWord a → IsWord b → mul_of a b ≡ unsigned (signed a *ℤ signed b) }
 {}
 
-/// Quotient, remainder and arithmetic shift mean what they mean of whole numbers, but for the one quotient that
-/// wraps.
+/// Quotient, remainder and arithmetic shift equal those of integers, except for the one quotient that wraps.
 pub fn word_quotients()
     ensures dividend { (a b : ℕ) → IsWord a → IsWord b → add_of (mul_of (div_of a b) b) (rem_of a b) ≡ a }
     ensures quotient { (a b : ℕ) → IsWord a → IsWord b → (a ≡ 2 ^ 31 → b ≢ 2 ^ 32 - 1) →
@@ -35,7 +36,7 @@ pub fn word_quotients()
     ensures shift { (a k : ℕ) → IsWord a → signed (sar_of a k) ≡ floor_div (signed a) (2 ^ (k % 32)) }
 {}
 
-/// A word is its bits, and its two halves. A half that is extended keeps its signed meaning.
+/// A word is determined by its bits, and by its two halves. Sign extension of a half keeps its signed meaning.
 pub fn word_parts()
     ensures bits { (a b : ℕ) → IsWord a → IsWord b →
         ((i : ℕ) → i < 32 → bit_at a i ≡ bit_at b i) → a ≡ b }
@@ -45,13 +46,14 @@ pub fn word_parts()
     ensures low_half { (w : ℕ) → IsWord w → FitsSigned w16 (signed w) → sign_extended (w % 2 ^ 16) ≡ w }
 {}
 
-/// Four bytes and a word are each other's inverses.
+/// The conversions between a word and its four bytes are inverse to each other.
 pub fn word_bytes()
     ensures word { (w : ℕ) → IsWord w → word_of_bytes (bytes_of_word w) ≡ w }
     ensures bytes { (bs : List ℕ) → length bs ≡ 4 → All IsByte bs → bytes_of_word (word_of_bytes bs) ≡ bs }
 {}
 
-/// The bytes of a word by place are those of its list. One that is put at a place is found there, and the other three stay.
+/// Reading a byte of a word by position agrees with the list of its bytes. A written byte is read back at its position, and the other three
+/// stay.
 pub fn byte_places()
     ensures listed { (w : ℕ) → bytes_of_word w ≡ byte_in w 0 ∷ byte_in w 1 ∷ byte_in w 2 ∷ byte_in w 3 ∷ [] }
     ensures here { (w p b : ℕ) → IsByte b → byte_in (with_byte w p b) p ≡ b }
@@ -59,14 +61,14 @@ pub fn byte_places()
     ensures word { (w p b : ℕ) → IsWord w → IsByte b → IsWord (with_byte w p b) }
 {}
 
-/// Being a prefix is an order.
+/// The prefix relation is a partial order.
 pub fn prefixes()
     ensures reflexive { (xs : List ℕ) → IsPrefix xs xs }
     ensures transitive { (xs ys zs : List ℕ) → IsPrefix xs ys → IsPrefix ys zs → IsPrefix xs zs }
     ensures antisymmetric { (xs ys : List ℕ) → IsPrefix xs ys → IsPrefix ys xs → xs ≡ ys }
 {}
 
-/// Endings are alike exactly where they are equal. So being alike is reflexive, symmetric and transitive.
+/// Endings are alike exactly if they are equal. Likeness of endings is therefore reflexive, symmetric and transitive.
 pub fn endings()
     ensures { (e f : Ending) → Alike e f ↔ (e ≡ f) }
 {}

@@ -1,5 +1,4 @@
-//! The ground of the compiler: 32-bit words and their arithmetic, the refusals of a source text, and devices
-//! that give and take bytes.
+//! The base of the compiler: 32-bit words and their arithmetic, the faults of a source text, and devices that read and write bytes.
 #![tactic(auto)]
 
 mod arith;

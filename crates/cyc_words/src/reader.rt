@@ -1,14 +1,14 @@
-//! A device over std's `Read`.
+//! An input device over std's `Read`.
 
 ghost use Rattle.std.specs.Prelude.{◌≡◌, false};
 
 use super::device::{ByteIn, Failed};
 use std::io::Read;
 
-/// A device that gives the bytes of a reader, which it tells where the reader tells them.
+/// An input device over a reader of std. The device reports the unread bytes if the reader reports them.
 ///
-/// Each call makes one read of one byte. A read of 0 bytes is the end. An error of the reader, also
-/// `Interrupted`, is a failure, and after it the reader is never asked again.
+/// Each call makes one read of one byte. A read of 0 bytes is the end. An error of the reader, also `Interrupted`, is a failure; after it
+/// the reader is never called again.
 #[derive(Drop)]
 pub struct Reader<R> {
     inner: R,
@@ -25,7 +25,7 @@ impl<R> Reader<R> {
       reader_was_asked_past_end,
     };
 
-    /// A device over `inner` that has not failed, has not met the end, and was not asked for a byte behind it.
+    /// Returns a device over `inner` that has not failed and has not reached the end of the input.
     pub fn new(inner: R) -> Self
         ensures inner { reader_inner result ≡ inner }
         ensures works { reader_has_failed result ≡ false }
@@ -40,7 +40,7 @@ impl<R> Reader<R> {
         }
     }
 
-    /// Whether a byte was asked for behind the end of the input.
+    /// Returns true once a byte was requested after the end of the input.
     pub fn was_asked_past_end(&self) -> bool
         ensures { result ≡ reader_was_asked_past_end self.now }
     {

@@ -1,14 +1,14 @@
-//! A device over std's `Write`.
+//! An output device over std's `Write`.
 
 ghost use Rattle.std.specs.Prelude.{◌≡◌, false};
 
 use super::device::{ByteOut, Failed};
 use std::io::Write;
 
-/// A device that gives its bytes to a writer, and tells them where the writer tells what it holds.
+/// An output device over a writer of std. The device reports the written bytes if the writer reports its contents.
 ///
-/// Each call makes one write of one byte. A write that takes no byte is a failure, and so is an error of the
-/// writer, also `Interrupted`. After a failure the writer is never asked again. Nothing is flushed.
+/// Each call makes one write of one byte. A write that takes no byte is a failure, and so is an error of the writer, also `Interrupted`.
+/// After a failure the writer is never called again. The device flushes no byte.
 #[derive(Drop)]
 pub struct Writer<W> {
     inner: W,
@@ -18,7 +18,7 @@ pub struct Writer<W> {
 impl<W> Writer<W> {
     ghost use Rattle.cyc_words.specs.inside.Writer.{writer_inner, writer_has_failed};
 
-    /// A device over `inner` that has not failed.
+    /// Returns a device over `inner` that has not failed.
     pub fn new(inner: W) -> Self
         ensures inner { writer_inner result ≡ inner }
         ensures works { writer_has_failed result ≡ false }

@@ -1,19 +1,19 @@
--- What a `Reader` holds.
+-- The state of a `Reader`.
 use Rattle.std.specs.Prelude.{Bool}
 use Rattle.cyc_words.specs.declared.reader.Reader.{Reader}
 
--- the reader that it reads from
+-- the reader from std that the device reads from
 abbrev pub reader_inner : {R : Type 0} → Reader R → R
 reader_inner s = s.inner
 
--- whether it has answered `Failed`
+-- true if the reader has returned `Failed`
 abbrev pub reader_has_failed : {R : Type 0} → Reader R → Bool
 reader_has_failed s = s.has_failed
 
--- whether it has answered that the input is at its end
+-- true if the reader has returned the end of the input
 abbrev pub reader_has_ended : {R : Type 0} → Reader R → Bool
 reader_has_ended s = s.has_ended
 
--- whether it was asked for a byte behind that answer
+-- true if a byte was requested after the end of the input
 abbrev pub reader_was_asked_past_end : {R : Type 0} → Reader R → Bool
 reader_was_asked_past_end s = s.was_asked_past_end

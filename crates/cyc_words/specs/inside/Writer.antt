@@ -1,11 +1,11 @@
--- What a `Writer` holds.
+-- The state of a `Writer`.
 use Rattle.std.specs.Prelude.{Bool}
 use Rattle.cyc_words.specs.declared.writer.Writer.{Writer}
 
--- the writer that it writes to
+-- the writer from std that the device writes to
 abbrev pub writer_inner : {W : Type 0} → Writer W → W
 writer_inner s = s.inner
 
--- whether it has answered `Failed`
+-- true if the writer has returned `Failed`
 abbrev pub writer_has_failed : {W : Type 0} → Writer W → Bool
 writer_has_failed s = s.has_failed

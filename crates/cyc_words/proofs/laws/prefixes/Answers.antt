@@ -1,4 +1,4 @@
--- Being a prefix is an order.
+-- The prefix relation is a partial order.
 use Rattle.cyc_words.proofs.PrefixLemmas.{IsPrefix-refl, IsPrefix-trans, IsPrefix-antisym}
 use Rattle.cyc_words.proofs.laws.prefixes.Goals as goal
 

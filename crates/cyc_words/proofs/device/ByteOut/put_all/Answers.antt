@@ -1,4 +1,4 @@
--- A byte that fails leaves the bytes before it.
+-- A byte that fails leaves the bytes before it taken.
 use Rattle.cyc_words.proofs.DeviceLemmas.{TakesText_byte_exit}
 use Rattle.cyc_words.proofs.device.ByteOut.put_all.Goals as goal
 

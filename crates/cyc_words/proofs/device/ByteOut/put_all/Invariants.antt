@@ -1,4 +1,4 @@
--- The bytes before the index were taken, and the device works as it did.
+-- Invariant: the bytes before the index were taken, and the device has not failed.
 use Rattle.std.proofs.Common.{◌≡◌, take}
 use Rattle.std.specs.Io.KnownBytes.{Appends}
 use Rattle.cyc_words.proofs.device.ByteOut.put_all.Given as goal

@@ -1,4 +1,4 @@
--- A part that fails leaves the parts before it and a prefix of its own.
+-- A part that fails leaves the parts before it taken, and a prefix of its own bytes.
 use Rattle.std.specs.Borrow.{Bor}
 use Rattle.std.proofs.Common.{ℕ, List, []}
 use Rattle.cyc_words.proofs.DeviceLemmas.{TakesText_part_exit}

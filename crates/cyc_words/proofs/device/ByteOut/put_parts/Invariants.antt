@@ -1,4 +1,4 @@
--- The parts before the index were taken whole, and the device works as it did.
+-- Invariant: the parts before the index were taken whole, and the device has not failed.
 use Rattle.std.proofs.Common.{◌≡◌, take}
 use Rattle.std.specs.Prelude.{flat_map}
 use Rattle.std.specs.Io.KnownBytes.{Appends}
