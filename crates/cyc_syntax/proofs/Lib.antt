@@ -7,5 +7,5 @@ pub mod NameLemmas
 pub mod NameIndexLemmas
 pub mod WeightLemmas
 pub mod TreeViewLemmas
--- worked examples, by computation
+-- examples, by computation
 pub mod TokenExamples

@@ -1,4 +1,4 @@
--- The index of names: what is found through keys stays right as texts are added.
+-- The index of names stays correct when texts are added.
 use Rattle.std.proofs.Common.{Vec, Global, ⊎_elim, ◌≡◌, ℕ, ◌<◌, Bool, true, false, ◌||◌, cond, if◌then◌else◌, Option, Some, None, List, [], ◌∷◌, ◌++◌, length, get_or, slice_get, is_some, refl, sym, ap, subst, ◌∙◌, arith, IfSome}
 use Rattle.std.specs.Ordering.{is_eq, nat_cmp}
 use Rattle.std.specs.Cmp.{eq_by_cmp_equiv}
@@ -22,11 +22,11 @@ use Rattle.cyc_syntax.proofs.NameLemmas.{slice_get-number_of}
 is_among-new : (texts : List (List ℕ)) (text : List ℕ) → is_among text (texts ++ text ∷ []) ≡ true
 is_among-new texts text = any-push (bytes_eq text) texts text ∙ or_right _ _ (bytes_eq-itself text)
 
--- a text that is new has the next number
+-- a new text gets the next number
 pub number_of-new : (texts : List (List ℕ)) (text : List ℕ) → is_among text texts ≡ false → number_of (texts ++ text ∷ []) text ≡ length texts
 number_of-new texts text new = position_push (bytes_eq text) texts text new (bytes_eq-itself text) ∙ position-none (bytes_eq text) texts new
 
--- and the number gives it back
+-- the number of a new text leads back to that text
 pub slice_get-new : (texts : List (List ℕ)) (text : List ℕ) → is_among text texts ≡ false → slice_get (texts ++ text ∷ []) (length texts) ≡ Some text
 slice_get-new texts text new =
     ap (slice_get (texts ++ text ∷ [])) (sym (number_of-new texts text new))
@@ -35,7 +35,7 @@ slice_get-new texts text new =
 number_if-new : (texts : List (List ℕ)) (text : List ℕ) → is_among text texts ≡ false → number_if (texts ++ text ∷ []) text ≡ Some (length texts)
 number_if-new texts text new = cond-true _ _ _ (is_among-new texts text) ∙ ap (λ n. Some n) (number_of-new texts text new)
 
--- other texts keep theirs
+-- adding a text does not change the numbers of other texts
 number_if-other : (texts : List (List ℕ)) (text other : List ℕ) → bytes_eq other text ≡ false → number_if (texts ++ text ∷ []) other ≡ number_if texts other
 number_if-other texts text other apart =
     ⊎_elim
@@ -48,14 +48,14 @@ number_if-other texts text other apart =
     ∙ sym (cond-false _ _ _ none))
     (cases_Bool (is_among other texts))
 
--- a text more at the end changes nothing of what is found before it
+-- appending a text does not change the results of earlier lookups
 found_at-push : (texts : List (List ℕ)) (new : List ℕ) (first other : Option ℕ) (text : List ℕ) → IfSome first (λ n. n < length texts)
     → found_at (texts ++ new ∷ []) first other text ≡ found_at texts first other text
 found_at-push texts new None other text within = refl
 found_at-push texts new (Some n) other text within =
     ap (λ t. if bytes_eq t text then Some n else other) (get_or_append_left texts (new ∷ []) [] n within)
 
--- texts with two keys are two
+-- texts with different keys are different
 apart_by_keys : (text t : List ℕ) → is_eq (nat_cmp (key_of text) (key_of t)) ≡ false → bytes_eq t text ≡ false
 apart_by_keys text t differs =
     ⊎_elim
@@ -65,7 +65,7 @@ apart_by_keys text t differs =
 
 module _ (texts : List (List ℕ)) (text : List ℕ) (first : ℕ → Option ℕ) (other : List ℕ → Option ℕ)
     (index : IsIndexOf texts first other) (new : is_among text texts ≡ false) where
-  -- a text whose key is new
+  -- ---- adding a text whose key is new
   pub first_added : (firsts : ℕ → Option ℕ) → first (key_of text) ≡ None
       → ((key : ℕ) → firsts key ≡ cond (is_eq (nat_cmp (key_of text) key)) (Some (length texts)) (first key)) → IsIndexOf (texts ++ text ∷ []) firsts other
   first_added firsts none added = record { within = within; apart = apart; found = found }
@@ -90,7 +90,7 @@ module _ (texts : List (List ℕ)) (text : List ℕ) (first : ℕ → Option ℕ
           (λ differs. index.apart t (sym (off (key_of t) differs) ∙ missing))
           (cases_Bool (is_eq (nat_cmp (key_of text) (key_of t))))
 
-      -- under the new key nothing was found
+      -- before the addition, a lookup under the new key found nothing
       unknown : (t : List ℕ) → is_eq (nat_cmp (key_of text) (key_of t)) ≡ true → first (key_of t) ≡ None
       unknown t same = ap first (sym (same_from_nat_cmp _ _ same)) ∙ none
 
@@ -123,7 +123,7 @@ module _ (texts : List (List ℕ)) (text : List ℕ) (first : ℕ → Option ℕ
           ∙ sym (number_if-other texts text t (apart_by_keys text t differs)))
           (cases_Bool (is_eq (nat_cmp (key_of text) (key_of t))))
 
-  -- a text whose key another text has
+  -- ---- adding a text whose key another text has
   pub other_added : (others : List ℕ → Option ℕ) (number : ℕ) → first (key_of text) ≡ Some number
       → ((t : List ℕ) → others t ≡ cond (bytes_eq text t) (Some (length texts)) (other t)) → IsIndexOf (texts ++ text ∷ []) first others
   other_added others number taken added = record { within = within; apart = apart; found = found }
@@ -141,7 +141,7 @@ module _ (texts : List (List ℕ)) (text : List ℕ) (first : ℕ → Option ℕ
           (λ is_not. off t is_not ∙ index.apart t missing)
           (cases_Bool (bytes_eq text t))
 
-      -- the key's first text is another
+      -- the first text with this key is a different text
       is_other : bytes_eq (get_or texts number []) text ≡ false
       is_other =
           ⊎_elim
@@ -171,18 +171,18 @@ module _ (texts : List (List ℕ)) (text : List ℕ) (first : ℕ → Option ℕ
           ∙ sym (number_if-other texts text t (bytes_eq-apart_turned text t is_not)))
           (cases_Bool (bytes_eq text t))
 
--- the keys once one is added
+-- the map of keys after an insertion
 pub firsts_after : (m n : BTreeMap ℕ ℕ) (key number : ℕ) → tree.Updates nat_cmp m n key (Some number)
     → (k : ℕ) → first_in n k ≡ cond (is_eq (nat_cmp key k)) (Some number) (first_in m k)
 firsts_after m n key number updates k = updates.0 k
 
--- what a change at one key leaves
+-- an update at one key keeps the entries of all other keys
 others_kept : {X : Type 0} (eq : X → X → Bool) (test : X → Bool) (old new : List (X × ℕ)) → KeepsOthers eq test old new
     → (query : X → Bool) → IsKeyTest eq query → AreApart test query → lookup query new ≡ lookup query old
 unfolding KeepsOthers
 others_kept eq test old new keeps = keeps
 
--- the same of the others
+-- the map of the other texts after an insertion
 pub others_after : (m n : BTreeMap (Vec ℕ Global) ℕ) (v : Vec ℕ Global) (number : ℕ) → tree.Updates (λ x y. slice_cmp nat_cmp x.items y.items) m n v (Some number)
     → (t : List ℕ) → other_in n t ≡ cond (bytes_eq v.items t) (Some number) (other_in m t)
 others_after m n v number updates t =
@@ -197,7 +197,7 @@ others_after m n v number updates t =
         ∙ ap (bytes_eq t) (sym ((bytes_eq-Decides v.items k.items).0 (sym (is_eq-slice_cmp v.items k.items) ∙ here)))
         ∙ bytes_eq-apart_turned v.items t is_not
 
--- a text more, where its key is new, or where it is among the others
+-- the index stays correct when a text is added, whether its key is new or not
 module _ (texts : List (List ℕ)) (text : List ℕ) (firsts : BTreeMap ℕ ℕ) (others : BTreeMap (Vec ℕ Global) ℕ)
     (index : IsIndexOf texts (first_in firsts) (other_in others)) (new : is_among text texts ≡ false)
     (key number : ℕ) (is_key : key ≡ key_of text) (is_number : number ≡ length texts) where
@@ -221,7 +221,7 @@ module _ (texts : List (List ℕ)) (text : List ℕ) (firsts : BTreeMap ℕ ℕ)
       ∙ ap (λ x. cond (bytes_eq x t) (Some number) (other_in others t)) is
       ∙ ap (λ n. cond (bytes_eq text t) (Some n) (other_in others t)) is_number)
 
--- what has a number is there, and this is its number
+-- a text with a stored number is in the list, at that number
 pub has_number : (texts : List (List ℕ)) (text : List ℕ) (number : ℕ) → Some number ≡ number_if texts text → (is_among text texts ≡ true) × (number ≡ number_of texts text)
 has_number texts text number has =
     ⊎_elim
@@ -229,7 +229,7 @@ has_number texts text number has =
     (λ new. anything_from_none_is_some number (sym (cond-false _ _ _ new) ∙ sym has) _)
     (cases_Bool (is_among text texts))
 
--- what has none is not there
+-- a text without a stored number is not in the list
 pub has_no_number : (texts : List (List ℕ)) (text : List ℕ) → None ≡ number_if texts text → is_among text texts ≡ false
 has_no_number texts text has_none =
     ⊎_elim

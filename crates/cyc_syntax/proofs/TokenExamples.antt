@@ -1,16 +1,16 @@
--- Worked examples of the definitions on names and tokens, by computation.
+-- Examples of the definitions on names and tokens, by computation.
 use Rattle.std.specs.Prelude.{◌≡◌, true, false, Some, List, [], ◌∷◌, ◌++◌, codes, refl}
 use Rattle.cyc_syntax.specs.declared.tokens.Keyword.TheVariants as words
 use Rattle.cyc_syntax.specs.declared.tokens.Sign.TheVariants as signs
 use Rattle.cyc_syntax.specs.Names.{distinct_texts, number_of}
 use Rattle.cyc_syntax.specs.Spelling.{is_name, is_decimal, is_hexadecimal, number_in, escaped, SpellsToken, Lexeme, Space}
 use Rattle.cyc_syntax.specs.Tokens.{Token, Identifier, Word, Mark}
-use Rattle.cyc_syntax.specs.TokenRule.{Part, line_behind, column_behind, tokens_of}
+use Rattle.cyc_syntax.specs.TokenRule.{Part, line_after, column_after, tokens_of}
 
 names : (is_name (codes "_x1") ≡ true) × (is_name (codes "1x") ≡ false)
 names = (refl, refl)
 
--- `08` is no number, and `0x` is none
+-- `08` and `0x` are not numbers
 numbers : (is_decimal (codes "0") ≡ true) × (is_decimal (codes "08") ≡ false) × (is_hexadecimal (codes "0x") ≡ false)
 numbers = (refl, refl, refl)
 
@@ -24,8 +24,8 @@ escapes = refl
 keyword : SpellsToken (Word words.RegionType) (codes "region_t")
 keyword = refl
 
--- behind `ab`, a line feed and `c`
-places : (line_behind (codes "ab" ++ (10 ∷ codes "c")) ≡ 2) × (column_behind (codes "ab" ++ (10 ∷ codes "c")) ≡ 2)
+-- the place after `ab`, a line feed and `c` is line 2, column 2
+places : (line_after (codes "ab" ++ (10 ∷ codes "c")) ≡ 2) × (column_after (codes "ab" ++ (10 ∷ codes "c")) ≡ 2)
 places = (refl, refl)
 
 -- the parts of `int x;` and the tokens among them

@@ -1,4 +1,4 @@
--- The view of a node with lists of nodes, by the lists that its `Vec`s hold.
+-- The view of a node that holds lists of nodes, computed from the contents of its `Vec`s.
 use Rattle.std.proofs.Common.{◌≡◌, List, map, Option, Some, None, option_map, refl, sym, ap, ◌∙◌}
 use Rattle.std.specs.declared.vec.Vec.{Vec}
 use Rattle.std.specs.declared.boxed.Box.{Box}
@@ -44,7 +44,7 @@ view_operations-items (more_of-Operation o s e row) = ap (ThenOperation o (place
 pub operations_view : (v : Vec Operation Heap) → view_operations (hidden-the_row-Operation-2 v) ≡ operations_of v.items
 operations_view v = view_operations-items (hidden-the_row-Operation-2 v) ∙ ap operations_of (items_hidden-the_row-Operation-2 v)
 
--- ---- of each node that has one
+-- ---- nodes that contain lists
 
 pub view_call : (f : Ident) (v : Vec Expr Heap) → view_expression (expr.Call f v) ≡ Call (view_name f) (expressions_of v.items)
 view_call f v = ap (Call (view_name f)) (expressions_view v)

@@ -104,7 +104,7 @@ base-length d p (Struct s rs) = omega (arith, region_list-length d rs)
 base-length d p (Handle r) = refl
 base-length d p (Key r) = refl
 
--- of the two parts of a type, as a yield that computes has them
+-- the weight of a type is the sum of the weights of its base type and its marks
 pub parts-length : (d : ℕ) (t : WrittenType) → length (yields.base_type d t.place t.base) + length (yields.marks d t.marks) ≡ type_weight t
 parts-length d t = omega (arith, base-length d t.place t.base, marks-length d t.marks)
 

@@ -1,6 +1,6 @@
--- Which trees a list of symbols has: those of the grammar. `Yields` has the productions; here stand the conditions that
--- they put on the parts of a tree, and what it is to be spelled by a yield. (The grammar is the Cyclone
--- manual's; its levels of operators and the place of an `else` are C's; the limits are this project's own choice.)
+-- The grammar: it relates a list of symbols to its syntax trees. `Yields` contains the productions; this file contains the conditions on
+-- the parts of a tree, and defines when a yield spells a tree. (The grammar is the Cyclone manual's; its operator levels and the binding of
+-- `else` are C's; the limits are this project's own choice.)
 use Rattle.std.specs.Prelude.{◌≡◌, ℕ, suc, ◌≤◌, ◌<◌, Bool, true, false, List, [], ◌∷◌, Option}
 use Rattle.std.specs.List.{AllByRecursion}
 use Rattle.std.specs.Option.{IfSome}
@@ -12,8 +12,8 @@ use Rattle.cyc_syntax.specs.Trees.{Array, Expressions, NoExpressions, MoreExpres
 use Rattle.cyc_syntax.specs.Trees.{Break, Continue, Throw, Try, Body, Braces, Items, NoItems, MoreItems, Item, Execute, Local, Region, Alias, DynamicRegion, Clauses, NoClauses, Default, Case, Declaration, StructType, Exceptions, Global, Function}
 use Rattle.cyc_syntax.specs.Yields.{Leaf, Yield, program}
 
--- ---- levels of expressions, tightest first: 0 is an operand with its prefixes and postfixes, 1 to 10 are the chains of binary
--- operators, 11 is the assignment
+-- ---- levels of expressions, tightest first: 0 for an operand with its prefixes and postfixes, 1 to 10 for binary operators, 11 for
+-- assignment
 
 abbrev pub level : BinaryOperator → ℕ
 level operators.Multiply = 1
@@ -44,7 +44,7 @@ binary_level = 10
 abbrev pub assignment_level : ℕ
 assignment_level = 11
 
--- what postfixes may follow
+-- true if postfixes may follow the expression
 abbrev pub is_primary : Expression → Bool
 is_primary (Number p n) = true
 is_primary (Character p c) = true
@@ -66,7 +66,7 @@ is_primary (Binary e os) = false
 is_primary (Assign a b) = false
 
 abbrev mutual
-  -- the expression is of this level or tighter, and each of its parts is what the productions ask there
+  -- The expression is of this level or tighter, and each of its parts satisfies the condition of its production.
   pub IsExpression : ℕ → Expression → Type 0
   IsExpression most (Number p n) = Unit {0}
   IsExpression most (Character p c) = Unit {0}
@@ -84,7 +84,7 @@ abbrev mutual
   IsExpression most (Prefixed p o e) = IsExpression unary_level e
   IsExpression most (New p i) = IsInitial i
   IsExpression most (RegionNew p h i) = IsExpression assignment_level h × IsInitial i
-  -- the operators of a chain have one level, and its operands are tighter
+  -- the operators of a chain all have one level, and its operands are of tighter levels
   IsExpression most (Binary e os) = (below : ℕ) × (below < most) × (below < binary_level) × IsExpression below e × IsSomeOperation os × AreOperations below os
   IsExpression most (Assign a b) = (assignment_level ≤ most) × IsExpression binary_level a × IsExpression assignment_level b
 
@@ -106,7 +106,7 @@ abbrev mutual
   AreOperations below NoOperations = Unit {0}
   AreOperations below (ThenOperation o p e os) = (level o ≡ suc below) × IsExpression below e × AreOperations below os
 
-  -- at least one
+  -- the list has at least one expression, and each is well-formed
   pub IsSomeExpression : Expressions → Type 0
   IsSomeExpression NoExpressions = ⊥
   IsSomeExpression (MoreExpressions e es) = Unit {0}
@@ -125,7 +125,7 @@ abbrev mutual
 abbrev pub IsExpressionOrNone : Option Expression → Type 0
 IsExpressionOrNone v = IfSome v (λ e. IsExpression assignment_level e)
 
--- The statement ends in an `if` without `else`: an `else` behind it would belong to that `if`.
+-- True if the statement ends in an `if` without `else`: an `else` after it would belong to that `if`.
 abbrev pub wants_else : Statement → Bool
 wants_else (Block b) = false
 wants_else (Labelled l b) = false
@@ -149,7 +149,7 @@ abbrev mutual
   IsStatement (Evaluate e) = IsExpression assignment_level e
   IsStatement (Swap a b) = IsExpression unary_level a × IsExpression unary_level b
   IsStatement (If p c s) = IsExpression assignment_level c × IsStatement s
-  -- an `else` belongs to the nearest `if`
+  -- an `else` belongs to the nearest `if`, so the first branch must not end in an `if` without `else`
   IsStatement (IfElse p c s t) = IsExpression assignment_level c × IsStatement s × (wants_else s ≡ false) × IsStatement t
   IsStatement (While p c s) = IsExpression assignment_level c × IsStatement s
   IsStatement (Return p v) = IsExpressionOrNone v
@@ -184,7 +184,7 @@ abbrev mutual
 
 -- ---- declarations
 
--- at least one
+-- the list has at least one expression, and each is well-formed
 abbrev pub IsNonempty : {A : Type 0} → List A → Type 0
 IsNonempty [] = ⊥
 IsNonempty (x ∷ xs) = Unit {0}
@@ -199,9 +199,9 @@ abbrev pub AreDeclarations : List Declaration → Type 0
 AreDeclarations [] = Unit {0}
 AreDeclarations (d ∷ ds) = IsDeclaration d × AreDeclarations ds
 
--- ---- spelled by symbols
+-- ---- when symbols spell a tree
 
--- the symbol is the leaf's token
+-- the symbol is the token of the leaf, at the leaf's place if it has one
 pub record IsLeaf (leaf : Leaf) (symbol : Symbol) : Type 0 where
   pub terminal : symbol.terminal ≡ leaf.terminal
   pub place : IfSome leaf.place (λ p. symbol.place ≡ p)
@@ -212,13 +212,13 @@ IsSpelled [] (symbol ∷ symbols) = ⊥
 IsSpelled (leaf ∷ leaves) [] = ⊥
 IsSpelled (leaf ∷ leaves) (symbol ∷ symbols) = IsLeaf leaf symbol × IsSpelled leaves symbols
 
--- THE GRAMMAR: the symbols have this tree, a program of at least one declaration
+-- THE GRAMMAR: this tree, a program of at least one declaration, is a parse of the symbols.
 pub record HasTree (symbols : List Symbol) (tree : List Declaration) : Type 0 where
   pub nonempty : IsNonempty tree
   pub formed : AreDeclarations tree
   pub spelled : IsSpelled (program tree) symbols
 
--- ---- the limits of this project on a tree
+-- ---- the limits of this project on trees
 
 abbrev pub max_nesting : ℕ
 max_nesting = 200

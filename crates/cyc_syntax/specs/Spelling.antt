@@ -1,7 +1,6 @@
--- Which byte strings are tokens, spaces and comments. Cyclone's lexical syntax is C's, with a backquote before the
--- names of regions, `@` and `?` as marks of pointers, and `:=:` for a swap (the Cyclone manual's grammar). This
--- project's own choice: ASCII alone, no floating, octal or suffixed numbers, no strings, six escapes, and the words of
--- its subset.
+-- The byte strings that are tokens, spaces and comments. Cyclone's lexical syntax is C's, plus a backquote before region names, the pointer
+-- marks `@` and `?`, and the swap `:=:` (the Cyclone manual's grammar). This project's own choice: ASCII only, no floating, octal or
+-- suffixed numbers, no strings, six escapes, and the keywords of its subset.
 use Rattle.std.specs.Prelude.{◌≡◌, ◌≢◌, ℕ, ◌+◌, ◌-◌, ◌*◌, Bool, false, not, ◌&&◌, ◌||◌, ◌==◌, nat_le, if◌then◌else◌, IsTrue, Option, Some, None, ◌⊎◌, List, [], ◌∷◌, ◌++◌, drop, fold, codes}
 use Rattle.std.specs.List.{list_all, list_any}
 use Rattle.cyc_syntax.specs.declared.tokens.Keyword.{Keyword}
@@ -10,7 +9,7 @@ use Rattle.cyc_syntax.specs.declared.tokens.Sign.{Sign}
 use Rattle.cyc_syntax.specs.declared.tokens.Sign.TheVariants as signs
 use Rattle.cyc_syntax.specs.Tokens.{Kind, Identifier, RegionName, Number, Character, Word, Mark}
 
--- classes of bytes
+-- ---- classes of bytes
 
 abbrev pub is_between : ℕ → ℕ → ℕ → Bool
 is_between low high b = nat_le low b && nat_le b high
@@ -27,7 +26,7 @@ is_hex_digit b = is_digit b || is_between 97 102 b || is_between 65 70 b
 abbrev pub is_letter : ℕ → Bool
 is_letter b = is_between 97 122 b || is_between 65 90 b || b == 95
 
--- what follows the first byte of a name
+-- a byte that may follow the first byte of a name
 abbrev pub is_name_byte : ℕ → Bool
 is_name_byte b = is_letter b || is_digit b
 
@@ -38,7 +37,7 @@ is_space b = b == 9 || b == 10 || b == 13 || b == 32
 abbrev pub is_line_feed : ℕ → Bool
 is_line_feed b = b == 10
 
--- words and signs
+-- ---- keywords and signs
 
 abbrev pub keyword_text : Keyword → List ℕ
 keyword_text words.Int = codes "int"
@@ -112,20 +111,20 @@ sign_text signs.Colon = codes ":"
 sign_text signs.At = codes "@"
 sign_text signs.Question = codes "?"
 
--- names, numbers and characters
+-- ---- names, numbers and characters
 
 -- a letter or `_`, then letters, digits and `_`
 abbrev pub is_name : List ℕ → Bool
 is_name [] = false
 is_name (b ∷ bs) = is_letter b && list_all is_name_byte bs
 
--- `0`, or a digit 1 to 9 and digits
+-- `0`, or a digit 1 to 9 followed by digits
 abbrev pub is_decimal : List ℕ → Bool
 is_decimal [] = false
 is_decimal (b ∷ []) = is_digit b
 is_decimal (b ∷ c ∷ bs) = is_between 49 57 b && list_all is_digit (c ∷ bs)
 
--- `0x` or `0X`, and at least one hexadecimal digit
+-- `0x` or `0X`, followed by at least one hexadecimal digit
 abbrev pub is_hexadecimal : List ℕ → Bool
 is_hexadecimal [] = false
 is_hexadecimal (b ∷ []) = false
@@ -135,15 +134,15 @@ is_hexadecimal (b ∷ c ∷ d ∷ ds) = b == 48 && (c == 120 || c == 88) && list
 abbrev pub digit_value : ℕ → ℕ
 digit_value b = if is_digit b then b - 48 else (if is_between 97 102 b then b - 87 else b - 55)
 
--- the number that the digits have in a base, the first digit the highest
+-- the value of the digits in a base, the first digit the highest
 abbrev pub number_in : ℕ → List ℕ → ℕ
 number_in base digits = fold (λ n d. n * base + digit_value d) 0 digits
 
--- the printed byte of a character constant: no quote and no backslash
+-- a byte that may appear unescaped in a character constant: printable, no quote and no backslash
 abbrev pub is_plain : ℕ → Bool
 is_plain b = is_between 32 126 b && not (b == 39) && not (b == 92)
 
--- the byte that a backslash and this byte stand for: `\n`, `\t`, `\r`, `\0`, `\\` and `\'`
+-- the byte that an escape denotes, given the byte after the backslash: line feed, tab, carriage return, zero, backslash or quote
 abbrev pub escaped : ℕ → Option ℕ
 escaped b =
     if b == 110 then Some 10
@@ -154,45 +153,44 @@ escaped b =
     else (if b == 39 then Some 39
     else None)))))
 
--- which token a byte string is
+-- the byte string spells a token of this kind
 
 abbrev pub SpellsToken : Kind → List ℕ → Type 0
 SpellsToken (Identifier name) bytes = (bytes ≡ name) × IsTrue (is_name name) × ((k : Keyword) → name ≢ keyword_text k)
--- a backquote and a name, keywords too
+-- a region name is a backquote and a name, which may also be a keyword
 SpellsToken (RegionName name) bytes = (bytes ≡ 96 ∷ name) × IsTrue (is_name name)
 SpellsToken (Number n) bytes =
     (IsTrue (is_decimal bytes) × (n ≡ number_in 10 bytes)) ⊎ (IsTrue (is_hexadecimal bytes) × (n ≡ number_in 16 (drop 2 bytes)))
--- one byte between quotes, or an escape
+-- a character constant is one byte or an escape between quotes
 SpellsToken (Character c) bytes =
     ((bytes ≡ 39 ∷ c ∷ 39 ∷ []) × IsTrue (is_plain c)) ⊎ ((b : ℕ) × (bytes ≡ 39 ∷ 92 ∷ b ∷ 39 ∷ []) × (escaped b ≡ Some c))
 SpellsToken (Word k) bytes = bytes ≡ keyword_text k
 SpellsToken (Mark s) bytes = bytes ≡ sign_text s
 
--- `*/` stands nowhere in the bytes
+-- `*/` does not occur in the bytes
 abbrev pub HasNoClose : List ℕ → Type 0
 HasNoClose bytes = (before after : List ℕ) → bytes ≢ before ++ (codes "*/" ++ after)
 
--- `//` and no line feed
+-- a line comment is `//` without a line feed
 abbrev pub IsLineComment : List ℕ → Type 0
 IsLineComment bytes = (body : List ℕ) × (bytes ≡ codes "//" ++ body) × (list_any is_line_feed body ≡ false)
 
--- `/*` up to the first `*/`: comments do not nest, and `/*/` is not closed yet
+-- A block comment is `/*` up to the first `*/`: comments do not nest, and `/*/` is not closed.
 abbrev pub IsBlockComment : List ℕ → Type 0
 IsBlockComment bytes = (body : List ℕ) × (bytes ≡ codes "/*" ++ (body ++ codes "*/")) × HasNoClose (body ++ codes "*")
 
--- `/*`, and no end of the comment
+-- an open comment is `/*` without its end
 abbrev pub IsOpenComment : List ℕ → Type 0
 IsOpenComment bytes = (body : List ℕ) × (bytes ≡ codes "/*" ++ body) × HasNoClose body
 
--- What a piece of a text can be. A comment that is not closed is a piece, so that `/*` never is two signs; but no text
--- with one has a list of tokens.
+-- The pieces of a text. An unclosed comment is a piece, so `/*` is never read as two signs. A text that contains one has no list of tokens.
 pub data Piece : Type 0 where
   Lexeme : Kind → Piece
   Space : Piece
   Comment : Piece
   OpenComment : Piece
 
--- the byte string is this piece
+-- the byte string spells this piece
 abbrev pub Spells : Piece → List ℕ → Type 0
 Spells (Lexeme k) bytes = SpellsToken k bytes
 Spells Space bytes = (b : ℕ) × (bytes ≡ b ∷ []) × IsTrue (is_space b)

@@ -1,11 +1,11 @@
--- The weights of lists and of what may be missing, from the weight of a part. This project's own choice: weight counts tokens.
+-- The weight of a list and of an optional part, given the weight of a part. Counting tokens as the weight is this project's own choice.
 use Rattle.std.specs.Prelude.{ℕ, ◌+◌, List, [], ◌∷◌, Option, Some, None}
 
 abbrev pub sum_of : {A : Type 0} → (A → ℕ) → List A → ℕ
 sum_of weight [] = 0
 sum_of weight (x ∷ xs) = weight x + sum_of weight xs
 
--- with a comma before each but the first
+-- the weight of a list with a comma before each item but the first
 abbrev pub separated_weight : {A : Type 0} → (A → ℕ) → List A → ℕ
 separated_weight weight [] = 0
 separated_weight weight (x ∷ xs) = weight x + sum_of (λ y. 1 + weight y) xs

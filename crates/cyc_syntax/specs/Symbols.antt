@@ -1,5 +1,6 @@
--- The symbols that the grammar reads: tokens whose names are numbers. A name has the number of its text in the list of
--- the distinct texts of a program's identifiers and region names, in first-seen order. (This project's own choice.)
+-- The symbols that the grammar reads: tokens whose names are numbers. The distinct identifiers and region names of the program are listed
+-- in the order of their first occurrence. The number of a name is its index in this list. The numbering of names is this project's own
+-- choice.
 use Rattle.std.specs.Prelude.{ℕ, List, [], ◌∷◌, map}
 use Rattle.cyc_words.specs.declared.span.Span.{Span}
 use Rattle.cyc_syntax.specs.declared.tokens.Keyword.{Keyword}
@@ -8,12 +9,12 @@ use Rattle.cyc_syntax.specs.Names.{distinct_texts, number_of}
 use Rattle.cyc_syntax.specs.Tokens.{Kind, Token}
 use Rattle.cyc_syntax.specs.Tokens as kinds
 
--- line and column from 1, the column in bytes
+-- a place in the text: line and column from 1; columns count bytes
 pub record Place : Type 0 where
   pub line : ℕ
   pub column : ℕ
 
--- where something of the code stands
+-- the place of a span of the code
 abbrev pub place_of_span : Span → Place
 place_of_span s = record { line = s.line; column = s.column }
 
@@ -29,9 +30,9 @@ pub record Symbol : Type 0 where
   pub terminal : Terminal
   pub place : Place
 
--- ---- the symbols that tokens are
+-- ---- from tokens to symbols
 
--- the texts of the names among tokens, in order
+-- the texts of the names among the tokens, in order
 abbrev pub name_texts : Kind → List (List ℕ) → List (List ℕ)
 name_texts (kinds.Identifier text) texts = text ∷ texts
 name_texts (kinds.RegionName text) texts = text ∷ texts

@@ -1,6 +1,5 @@
--- Tokens as the token rule and the grammar speak of them: values with no memory behind them. The names and the
--- spellings are Cyclone's (the Cyclone manual's grammar); what is left out of the language is this project's own
--- choice.
+-- Tokens as mathematical values, for the token rule and the grammar. The names and the spellings are Cyclone's (the Cyclone manual's
+-- grammar); the omissions are this project's own choice.
 use Rattle.std.specs.Prelude.{ℕ, List, drop, slice_range}
 use Rattle.cyc_syntax.specs.declared.tokens.Keyword.{Keyword}
 use Rattle.cyc_syntax.specs.declared.tokens.Sign.{Sign}
@@ -8,8 +7,8 @@ use Rattle.cyc_syntax.specs.declared.tokens.TokenKind.{TokenKind}
 use Rattle.cyc_syntax.specs.declared.tokens.TokenKind.TheVariants as kinds
 use Rattle.cyc_syntax.specs.declared.tokens.Token.{Token as CodeToken}
 
--- What a token is. An identifier and a region name have their spelled bytes, a region name's without its backquote, so
--- that the label `r` and the region `` `r `` have one name.
+-- The kinds of tokens. An identifier and a region name carry their bytes. A region name's bytes omit the backquote, so the label `r` and
+-- the region `` `r `` have equal names.
 pub data Kind : Type 0 where
   Identifier : List ℕ → Kind
   RegionName : List ℕ → Kind
@@ -18,13 +17,13 @@ pub data Kind : Type 0 where
   Word : Keyword → Kind
   Mark : Sign → Kind
 
--- A token at its place: line and column from 1, the column in bytes.
+-- A token and its place: line and column from 1; columns count bytes.
 pub record Token : Type 0 where
   pub kind : Kind
   pub line : ℕ
   pub column : ℕ
 
--- What a token of the code is, which these bytes spell.
+-- The kind of a token of the code, given the bytes that spell it.
 abbrev pub kind_of : List ℕ → TokenKind → Kind
 kind_of bytes kinds.Identifier = Identifier bytes
 kind_of bytes kinds.RegionName = RegionName (drop 1 bytes)

@@ -1,20 +1,20 @@
--- Abstract syntax trees as the grammar and all later definitions speak of them: values with no memory behind them. A
--- name is a number. Lists of nodes are chains of constructors of their own. (The form of trees is this project's own
--- choice; what they stand for is in the Cyclone manual's grammar.)
+-- Abstract syntax trees as mathematical values, for the grammar and all later definitions. A name in a tree is a number. Lists of nodes are
+-- chains of their own constructors. (The form of trees is this project's own choice; their meaning is that of the Cyclone manual's
+-- grammar.)
 use Rattle.std.specs.Prelude.{ℕ, Bool, List, Option}
 use Rattle.cyc_syntax.specs.declared.tree.PointerKind.{PointerKind}
 use Rattle.cyc_syntax.specs.declared.tree.PrefixOperator.{PrefixOperator}
 use Rattle.cyc_syntax.specs.declared.tree.BinaryOperator.{BinaryOperator}
 use Rattle.cyc_syntax.specs.Symbols.{Place}
 
--- an identifier or a region name where it stands
+-- an identifier or a region name, with its place
 pub record Named : Type 0 where
   pub name : ℕ
   pub place : Place
 
 -- ---- types
 
--- a mark, and the region written behind it
+-- a pointer mark, and the region written after it
 pub record Pointer : Type 0 where
   pub kind : PointerKind
   pub region : Option Named
@@ -22,7 +22,7 @@ pub record Pointer : Type 0 where
 pub data BaseType : Type 0 where
   Int : BaseType
   Char : BaseType
-  -- no region arguments: they are left out
+  -- the region arguments may be omitted; then the list is empty
   Struct : Named → List Named → BaseType
   Handle : Named → BaseType
   Key : Named → BaseType
@@ -30,7 +30,7 @@ pub data BaseType : Type 0 where
 pub record WrittenType : Type 0 where
   pub place : Place
   pub base : BaseType
-  -- from the left: the last mark is the outermost pointer
+  -- pointer marks from left to right; the last mark is the outermost pointer
   pub marks : List Pointer
 
 -- ---- expressions
@@ -45,30 +45,30 @@ mutual
     Variable : Named → Expression
     Call : Named → Expressions → Expression
     Bracketed : Place → Expression → Expression
-    -- numelts
+    -- the operator `numelts`
     NumberOfElements : Place → Expression → Expression
-    -- char
+    -- the conversion `char`
     LowByteOf : Place → Expression → Expression
-    -- ufree
+    -- the call `ufree`
     FreeUnique : Place → Expression → Expression
-    -- free_ukey
+    -- the call `free_ukey`
     FreeKey : Place → Named → Expression
-    -- an operand and its postfixes
+    -- an operand followed by postfixes
     Chained : Expression → Postfixes → Expression
     Prefixed : Place → PrefixOperator → Expression → Expression
     New : Place → Initial → Expression
-    -- rnew
+    -- the allocation `rnew`
     RegionNew : Place → Expression → Initial → Expression
-    -- operands joined by operators of one level, which group to the left
+    -- operands joined by operators of one level, which associate to the left
     Binary : Expression → Operations → Expression
     Assign : Expression → Expression → Expression
 
-  -- what `new` and `rnew` put into the new object
+  -- the initial contents of the object that `new` or `rnew` allocates
   pub data Initial : Type 0 where
     Plain : Expression → Initial
     -- a struct, its region arguments, and the values of its fields
     Fields : Named → List Named → Expressions → Initial
-    -- {for variable < length : element}
+    -- the array initializer `{for variable < length : element}`
     Array : Place → (variable : Named) → (length : Expression) → (element : Expression) → Initial
 
   pub data Expressions : Type 0 where
@@ -80,7 +80,7 @@ mutual
     ThenIndex : Expression → Postfixes → Postfixes
     ThenField : Named → Postfixes → Postfixes
 
-  -- each operator with its place and its right operand
+  -- each operator of a chain, with its place and its right operand
   pub data Operations : Type 0 where
     NoOperations : Operations
     ThenOperation : BinaryOperator → Place → Expression → Operations → Operations
@@ -103,7 +103,7 @@ mutual
     Throw : Place → (exception : Named) → Option Expression → Statement
     Try : Place → Statement → Clauses → Statement
 
-  -- a block: the places of its braces, and its items
+  -- a block: its items, and the places of its braces
   pub data Body : Type 0 where
     Braces : (start : Place) → Items → (end : Place) → Body
 
@@ -119,7 +119,7 @@ mutual
     Alias : (region : Named) → WrittenType → (variable : Named) → (source : Named) → Item
     DynamicRegion : (region : Named) → (key : Named) → Item
 
-  -- the clauses of a catch, of which only the last may be the default
+  -- the clauses of a catch; only the last may be the default
   pub data Clauses : Type 0 where
     NoClauses : Clauses
     Default : Items → Clauses
@@ -136,14 +136,14 @@ pub record Constructor : Type 0 where
   pub name : Named
   pub has_int : Bool
 
--- the initial value of a global, with the place of its first token
+-- the initial value of a global variable, with the place of its first token
 pub data GlobalValue : Type 0 where
   Positive : Place → ℕ → GlobalValue
   Negative : Place → ℕ → GlobalValue
   Byte : Place → ℕ → GlobalValue
   NullPointer : Place → GlobalValue
 
--- the first outlives the second
+-- an outlives constraint: the first region outlives the second
 pub record Constraint : Type 0 where
   pub longer : Named
   pub shorter : Named
@@ -154,7 +154,7 @@ pub data ParameterList : Type 0 where
 
 pub record Parameters : Type 0 where
   pub list : ParameterList
-  -- an effect that is left out is not an empty one
+  -- `None` if the effect is omitted, which differs from an empty effect
   pub effect : Option (List Named)
   pub constraints : List Constraint
 

@@ -1,14 +1,14 @@
--- The productions of the grammar. Each case below is one production: it says, for a tree, the leaves that spell it,
--- from the left to the right (the yield of the tree). The grammar is that of Cyclone (the Cyclone manual's grammar),
--- cut down to this project's subset; the form of outlives constraints is this project's own choice.
+-- The productions of the grammar. Each case below is one production: it gives the leaves that spell a tree, from left to right (the yield
+-- of the tree). The grammar is that of the Cyclone manual, reduced to this project's subset. The form of outlives constraints is this
+-- project's own choice.
 --
--- Beside its terminal a leaf has two numbers, of which this project's limits speak, and no production depends on them:
--- * its nesting: the brackets `(`, `[`, `{` that are open before it, and the prefix operators, `new`, `rnew`, `=`,
---   `if`, `else`, `while` and `try` in whose operand or statement it stands. A condition stands in its brackets alone,
---   and what follows `else` in the `else` alone. The handle of `rnew` and its value stand in the `rnew`, the exception
---   behind `throw new` in the `new`;
--- * its item: that it begins the item of this number, from 1, of a list of fields, constructors, parameters, arguments,
---   regions or constraints, or is the operator, postfix or mark of this number of its chain. All other leaves have 0.
+-- Beside its terminal a leaf has two numbers. This project's limits refer to a leaf's two numbers; no production depends on them:
+-- * its nesting: the number of open brackets `(`, `[`, `{` before it, plus the number of operators and keywords whose operand or statement
+--   contains it, where the operators and keywords are the prefix operators, `new`, `rnew`, `=`, `if`, `else`, `while` and `try`. A
+--   condition is nested only in its   brackets, and the statement after `else` only in the `else`. The handle and the value of `rnew` are
+--   nested in the `rnew`, the exception   after `throw new` in the `new`;
+-- * its item: the number, from 1, of the list item that the leaf begins, or of the operator, postfix or mark in its chain. The lists are
+--   those of fields, constructors, parameters, arguments, regions and constraints. All other leaves have the item number 0.
 use Rattle.std.specs.Prelude.{ℕ, suc, Bool, true, false, List, [], ◌∷◌, ◌++◌, Option, Some, None}
 use Rattle.cyc_syntax.specs.declared.tokens.Keyword.{Keyword}
 use Rattle.cyc_syntax.specs.declared.tokens.Keyword.TheVariants as words
@@ -27,7 +27,7 @@ use Rattle.cyc_syntax.specs.Trees.{Chained, Prefixed, New, RegionNew, Binary, As
 use Rattle.cyc_syntax.specs.Trees.{Statement, Block, Labelled, Empty, Evaluate, Swap, If, IfElse, While, Return, Break, Continue, Throw, Try, Body, Braces, Items, NoItems, MoreItems, Item, Execute, Local, Region, Alias, DynamicRegion, Clauses}
 use Rattle.cyc_syntax.specs.Trees.{NoClauses, Default, Case, Member, Constructor, GlobalValue, Positive, Negative, Byte, NullPointer, Constraint, ParameterList, Void, Listed, Parameters, Declaration, StructType, Exceptions, Global, Function}
 
--- A leaf of a tree. It has the place of its token where the tree keeps it.
+-- A leaf of a tree. A leaf has the place of its token if the tree stores that place.
 pub record Leaf : Type 0 where
   pub terminal : Terminal
   pub place : Option Place
@@ -37,13 +37,13 @@ pub record Leaf : Type 0 where
 abbrev pub Yield : Type 0
 Yield = List Leaf
 
--- ---- how productions are written: one part after the other
+-- ---- notation: a production concatenates its parts
 
 infixr 10 ◌⨾◌
 abbrev pub ◌⨾◌ : Yield → Yield → Yield
 first ⨾ second = first ++ second
 
--- a token at a nesting, whose place the tree keeps or does not keep
+-- a token at a nesting depth, whose place the tree stores or does not store
 abbrev pub at : ℕ → Terminal → Place → Yield
 at d t p = record { terminal = t; place = Some p; nesting = d; item = 0 } ∷ []
 
@@ -59,7 +59,7 @@ identifier d x = at d (Identifier x.name) x.place
 abbrev pub region_name : ℕ → Named → Yield
 region_name d r = at d (RegionName r.name) r.place
 
--- the item of this number of its list
+-- the yield with its first leaf marked as the item of this number
 abbrev pub item_number : ℕ → Yield → Yield
 item_number i [] = []
 item_number i (leaf ∷ leaves) = record leaf { item = i } ∷ leaves
@@ -68,19 +68,19 @@ abbrev pub optional : {A : Type 0} → (A → Yield) → Option A → Yield
 optional yield None = []
 optional yield (Some x) = yield x
 
--- ---- lists whose items are numbered
+-- ---- lists with numbered items
 
--- items one after the other, the first of this number
+-- the items one after the other, numbered from this number
 abbrev pub each : {A : Type 0} → (A → Yield) → ℕ → List A → Yield
 each yield i [] = []
 each yield i (x ∷ xs) = item_number i (yield x) ⨾ each yield (suc i) xs
 
--- each item behind a comma, the first of this number
+-- the items, each preceded by a comma, numbered from this number
 abbrev pub more : {A : Type 0} → (A → Yield) → ℕ → ℕ → List A → Yield
 more yield d i [] = []
 more yield d i (x ∷ xs) = sign d signs.Comma ⨾ item_number i (yield x) ⨾ more yield d (suc i) xs
 
--- items with commas between
+-- the items separated by commas
 abbrev pub separated : {A : Type 0} → (A → Yield) → ℕ → List A → Yield
 separated yield d [] = []
 separated yield d (x ∷ xs) = item_number 1 (yield x) ⨾ more yield d 2 xs
@@ -124,7 +124,7 @@ operator_sign operators.Remainder = signs.Percent
 abbrev pub regions : ℕ → List Named → Yield
 regions d rs = separated (region_name d) d rs
 
--- region arguments or parameters, which may be left out
+-- region arguments or parameters, which may be omitted
 abbrev pub region_list : ℕ → List Named → Yield
 region_list d [] = []
 region_list d (r ∷ rs) = sign d signs.Less ⨾ regions d (r ∷ rs) ⨾ sign d signs.Greater
@@ -173,7 +173,7 @@ abbrev mutual
   initial d (Fields s rs es) = identifier d s ⨾ region_list d rs ⨾ sign d signs.LeftBrace ⨾ values (suc d) es ⨾ sign (suc d) signs.RightBrace
   initial d (Array p x n e) = sign d signs.LeftBrace ⨾ at (suc d) (Word words.For) p ⨾ identifier (suc d) x ⨾ sign (suc d) signs.Less ⨾ expression (suc d) n ⨾ sign (suc d) signs.Colon ⨾ expression (suc d) e ⨾ sign (suc d) signs.RightBrace
 
-  -- the values of a struct's fields, of which no limit speaks
+  -- the values of a struct's fields, which no limit counts
   pub values : ℕ → Expressions → Yield
   values d NoExpressions = []
   values d (MoreExpressions e es) = expression d e ⨾ more_values d es
@@ -201,19 +201,19 @@ abbrev mutual
 
 -- ---- statements
 
--- `= value` of a local variable
+-- `= value`, the initializer of a local variable
 abbrev pub given : ℕ → Expression → Yield
 given d e = sign d signs.Assign ⨾ expression (suc d) e
 
--- `= open(key)`
+-- `= open(key)`, which opens a dynamic region
 abbrev pub opened : ℕ → Named → Yield
 opened d k = sign d signs.Assign ⨾ word (suc d) words.Open ⨾ sign (suc d) signs.LeftParen ⨾ identifier (suc (suc d)) k ⨾ sign (suc (suc d)) signs.RightParen
 
--- `(value)` of a thrown exception
+-- `(value)`, the argument of a thrown exception
 abbrev pub thrown : ℕ → Expression → Yield
 thrown d e = sign d signs.LeftParen ⨾ expression (suc d) e ⨾ sign (suc d) signs.RightParen
 
--- `(variable)` of a caught one
+-- `(variable)`, the parameter of a caught exception
 abbrev pub caught : ℕ → Named → Yield
 caught d x = sign d signs.LeftParen ⨾ identifier (suc d) x ⨾ sign (suc d) signs.RightParen
 
@@ -261,7 +261,7 @@ member d m = written_type d m.of_type ⨾ identifier d m.name
 abbrev pub field : ℕ → Member → Yield
 field d m = member d m ⨾ sign d signs.Semicolon
 
--- `(int)` of a constructor
+-- `(int)`, the parameter of an exception constructor
 abbrev pub has_int : ℕ → Bool → Yield
 has_int d false = []
 has_int d true = sign d signs.LeftParen ⨾ word (suc d) words.Int ⨾ sign (suc d) signs.RightParen
@@ -269,7 +269,7 @@ has_int d true = sign d signs.LeftParen ⨾ word (suc d) words.Int ⨾ sign (suc
 abbrev pub constructor : ℕ → Constructor → Yield
 constructor d c = identifier d c.name ⨾ has_int d c.has_int ⨾ sign d signs.Semicolon
 
--- The minus sign is a prefix operator here too.
+-- a minus sign before the number counts as a prefix operator for the nesting
 abbrev pub global_value : ℕ → GlobalValue → Yield
 global_value d (Positive p n) = sign d signs.Assign ⨾ at (suc d) (terminals.Number n) p
 global_value d (Negative p n) = sign d signs.Assign ⨾ at (suc d) (Mark signs.Minus) p ⨾ record { terminal = terminals.Number n; place = None; nesting = suc (suc d); item = 0 } ∷ []

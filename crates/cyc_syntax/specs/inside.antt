@@ -1,7 +1,7 @@
--- texts and their tokens
+-- places of the code
 pub mod Place
--- symbols and their trees
+-- the index of names by their keys
 pub mod NameIndex
 pub mod Weight
--- the trees of the code, seen as pure ones
+-- the trees of the code, viewed as pure trees
 pub mod TreeView

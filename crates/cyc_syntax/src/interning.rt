@@ -1,4 +1,4 @@
-//! Names as numbers.
+//! Interning: names as numbers.
 ghost use Rattle.std.specs.Prelude.{◌≡◌, ◌<◌, List, [], ◌∷◌, ◌++◌, false, length, slice_get, Some, is_some, IfSome, IfNone, IsTrue, IsOk, IfOk, OnOk, OnErr};
 ghost use Rattle.cyc_syntax.specs.Names.{is_among, with_text, number_of};
 ghost use Rattle.cyc_syntax.specs.inside.NameIndex as index;
@@ -7,22 +7,21 @@ use std::alloc::{AllocError, Global};
 use std::collections::BTreeMap;
 use std::marker::Model;
 
-/// A name: the number of its text in the `Names` that gave it.
+/// A name: the number of its text in the `Names` that interned it.
 #[derive(Clone, Copy, Debug, PartialEq, Eq)]
 pub struct Name {
     pub number: usize,
 }
 
-/// The texts that were interned, each once, in the order in which they first came. A text's number is its place there,
-/// from 0.
-// A text is looked up by its key, a number. Whoever writes a program may choose names that have one key. So both
-// look-ups are in order: no choice of names makes one longer than the logarithm of how many there are.
+/// The interned texts, each once, in the order of their first occurrence. A text's number is its index, from 0.
+// A text is looked up by its key, a number. The author of a program may choose many names with equal keys. Both lookups use ordered maps:
+// each lookup takes logarithmic time, whatever names the author of a program chooses.
 #[derive(Drop)]
 pub struct Names {
     texts: Vec<Vec<u8>>,
-    /// From a key to the number of the first text that has it.
+    /// Maps a key to the number of the first text with that key.
     firsts: BTreeMap<u64, usize>,
-    /// From each other text, whose key a text before it has, to its number.
+    /// Maps each other text (one whose key an earlier text has) to its number.
     others: BTreeMap<Vec<u8>, usize>,
 }
 
@@ -37,8 +36,7 @@ impl Model for Names {
     ghost invariant = { λ n. IsIndexOf (map (λ v. v.items) n.texts.items) (first_in n.firsts) (other_in n.others) };
 }
 
-/// The key of a text: its bytes as the digits of a number, to 64 bits. Texts of up to seven bytes have keys of their
-/// own.
+/// Returns the key of a text: its bytes as the digits of a number, modulo 2^64. Texts of up to seven bytes have distinct keys.
 fn key_of(text: &[u8]) -> u64
     ensures { result ≡ index.key_of text.now }
 {
@@ -50,7 +48,7 @@ fn key_of(text: &[u8]) -> u64
 }
 
 impl Names {
-    /// No names yet. Nothing is allocated before the first name.
+    /// Returns an empty set of names. Nothing is allocated before the first name.
     pub fn new(alloc: Global) -> Result<Names, AllocError>
         ensures empty { IfOk result (λ names. names ≡ []) }
         ensures succeeds { IsOk result }
@@ -65,13 +63,13 @@ impl Names {
         })
     }
 
-    /// The name of a text: equal texts have equal names.
+    /// Returns the name of a text: equal texts have equal names.
     pub fn intern(&mut self, text: &[u8]) -> Result<Name, AllocError>
         ensures texts { OnOk result (self.new ≡ with_text self.old text.now) }
         ensures number { IfOk result (λ name. name.number ≡ number_of self.new text.now) }
         ensures given { IfOk result (λ name. slice_get self.new name.number ≡ Some text.now) }
         ensures unchanged { OnErr result (self.new ≡ self.old) }
-        // Only a new text takes memory.
+        // Only a new text needs an allocation.
         ensures known { IsTrue (is_among text.now self.old) → IsOk result }
     {
         if let Some(number) = self.number(text) {
@@ -81,7 +79,7 @@ impl Names {
         Ok(Name { number })
     }
 
-    /// Adds a text that has no number yet, and answers the one that it has then.
+    /// Adds a text that has no number yet, and returns its new number.
     fn add(&mut self, text: &[u8]) -> Result<usize, AllocError>
         requires { is_among text.now self.old ≡ false }
         ensures texts { OnOk result (self.new ≡ self.old ++ text.now ∷ []) }
@@ -102,7 +100,7 @@ impl Names {
         Ok(number)
     }
 
-    /// The number of a text, if it has one.
+    /// Returns the number of a text, if it has one.
     fn number(&self, text: &[u8]) -> Option<usize>
         ensures { result ≡ index.number_if self.now text.now }
     {
@@ -118,14 +116,14 @@ impl Names {
         self.others.get(text).copied()
     }
 
-    /// The number of names. It is the number that the next new text gets.
+    /// Returns the number of names, which is the number of the next new text.
     pub fn len(&self) -> usize
         ensures { result ≡ length self.now }
     {
         self.texts.len()
     }
 
-    /// The name of a text, if it has one. Nothing is interned.
+    /// Returns the name of a text, if it has one. Looking up a text interns nothing.
     pub fn find(&self, text: &[u8]) -> Option<Name>
         ensures found { is_some result ≡ is_among text.now self.now }
         ensures number { IfSome result (λ name. name.number ≡ number_of self.now text.now) }
@@ -137,7 +135,7 @@ impl Names {
         }
     }
 
-    /// The text of a name that these names gave.
+    /// Returns the text of a name that these names interned.
     pub fn text(&self, name: Name) -> &[u8]
         requires { name.number < length self.now }
         ensures { slice_get self.now name.number ≡ Some result.now }

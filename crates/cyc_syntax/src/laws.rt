@@ -1,10 +1,10 @@
-//! Laws of the definitions in `specs/`. Each function does nothing: what it ensures is the law.
+//! Laws of the definitions in `specs/`. Each function of this file does nothing, and its contract states one law.
 ghost use Rattle.std.specs.Prelude.{◌≡◌, ◌↔◌, ℕ, List, IsTrue, slice_get, Some};
 ghost use Rattle.cyc_syntax.specs.Names.{is_among, with_text, distinct_texts, number_of, AreDistinct};
 ghost use Rattle.cyc_syntax.specs.Tokens.{Token};
 ghost use Rattle.cyc_syntax.specs.TokenRule.{HasTokens};
 
-/// The token rule leaves no choice: a text has at most one list of tokens.
+/// The token rule is deterministic: a text has at most one list of tokens.
 pub fn one_token_list()
     ensures { (text : List ℕ) (a b : List Token) → HasTokens text a → HasTokens text b → a ≡ b }
 {}
@@ -15,7 +15,7 @@ pub fn one_number_each()
         → (number_of texts a ≡ number_of texts b) ↔ (a ≡ b) }
 {}
 
-/// A text keeps its number, whatever is met later, and the number gives the text back.
+/// A text keeps its number when further texts are added, and the number determines the text.
 pub fn numbers_are_kept()
     ensures kept { (texts : List (List ℕ)) (a b : List ℕ) → IsTrue (is_among a texts)
         → number_of (with_text texts b) a ≡ number_of texts a }
@@ -23,7 +23,7 @@ pub fn numbers_are_kept()
         → slice_get texts (number_of texts a) ≡ Some a }
 {}
 
-/// Of texts that are met in turn, none stands twice.
+/// No text occurs twice among the interned texts.
 pub fn texts_are_distinct()
     ensures { (texts : List (List ℕ)) → AreDistinct (distinct_texts texts) }
 {}

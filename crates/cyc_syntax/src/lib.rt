@@ -1,10 +1,10 @@
-//! The syntax of the Cyclone subset: names, tokens, abstract syntax trees, and, in `specs/`, the token rule and the
-//! grammar as definitions that the lexer and the parser are proved against.
+//! The syntax of the Cyclone subset: names, tokens and abstract syntax trees. The token rule and the grammar, against which the lexer and
+//! the parser are proved, are in `specs/`.
 #![tactic(auto)]
 
 pub use cyc_words::Span;
 pub use interning::{Name, Names};
-pub use place::place_behind;
+pub use place::place_after;
 pub use tokens::{Keyword, Sign, Token, TokenKind};
 pub use tree::{
     BaseType, BinaryOperator, Block, Clause, Constraint, Constructor, Declaration, Expr,

@@ -1,14 +1,14 @@
 //! Places of a text.
 ghost use Rattle.std.specs.Prelude.{◌≡◌, ℕ, ◌+◌, ◌^◌, ◌<◌, List, ◌++◌, length};
-ghost use Rattle.cyc_syntax.specs.inside.Place.{IsBehind};
+ghost use Rattle.cyc_syntax.specs.inside.Place.{IsAfter};
 
 use cyc_words::Span;
 
-/// The place behind some bytes, from the place before them.
-pub fn place_behind(place: Span, bytes: &[u8]) -> Span
+/// Returns the place after some bytes, from the place before them.
+pub fn place_after(place: Span, bytes: &[u8]) -> Span
     requires line { place.line + length bytes.now < 2 ^ 32 }
     requires column { place.column + length bytes.now < 2 ^ 32 }
-    ensures { (front : List ℕ) → IsBehind place front → IsBehind result (front ++ bytes.now) }
+    ensures { (front : List ℕ) → IsAfter place front → IsAfter result (front ++ bytes.now) }
 {
     let mut line = place.line;
     let mut column = place.column;

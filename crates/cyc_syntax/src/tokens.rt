@@ -2,7 +2,7 @@
 
 use cyc_words::Span;
 
-/// A token. It does not hold its text: it is spelled by the bytes `start..end` of the text that it was read from.
+/// A token. A token does not store its text: it is spelled by the bytes `start..end` of the text that it was read from.
 #[derive(Clone, Copy, Debug)]
 pub struct Token {
     pub kind: TokenKind,
@@ -11,8 +11,8 @@ pub struct Token {
     pub end: usize,
 }
 
-/// What a token is. An identifier and a region name are spelled by the token's bytes (a region name's bytes begin with
-/// a backquote); a number and a character constant carry their value.
+/// The kind of a token. An identifier and a region name are spelled by the bytes of the token. The bytes of a region name begin with a
+/// backquote. A number and a character constant carry their value.
 #[derive(Clone, Copy, Debug, PartialEq, Eq)]
 pub enum TokenKind {
     Identifier,

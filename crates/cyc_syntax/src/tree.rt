@@ -1,14 +1,13 @@
-//! Abstract syntax trees: what the grammar makes of a list of tokens.
+//! Abstract syntax trees, as the grammar builds them from a list of tokens.
 //!
-//! A chain of operators of one level is one node with a list, and so is a chain of postfixes: a tree is never deeper
-//! than the nesting of its text times the levels of the grammar, whatever the number of its tokens. Brackets are kept.
-//! A node keeps the place of each token that a refusal may name; the place of the first token of an expression is that
-//! of its leftmost part.
+//! A chain of operators of one level is one node with a list, and so is a chain of postfixes. A tree is never deeper than the nesting of
+//! its text times the levels of the grammar, whatever the number of its tokens. Brackets are kept in the tree. A node stores the place of
+//! each token that a fault may name; the place of an expression is that of its leftmost part.
 
 use crate::{Name, Names};
 use cyc_words::Span;
 
-/// A name where it stands: an identifier, or a region name without its backquote.
+/// A name with its place: an identifier, or a region name without its backquote.
 #[derive(Clone, Copy, Debug, PartialEq, Eq)]
 pub struct Ident {
     pub name: Name,
@@ -23,7 +22,7 @@ pub enum PointerKind {
     Fat,
 }
 
-/// A pointer mark of a type, and the region that is written behind it.
+/// A pointer mark of a type, and the region that is written after it.
 #[derive(Clone, Copy, Debug, PartialEq, Eq)]
 pub struct Pointer {
     pub kind: PointerKind,
@@ -35,7 +34,7 @@ pub struct Pointer {
 pub enum BaseType {
     Int,
     Char,
-    /// With its region arguments; there are none where they are left out.
+    /// The region arguments may be omitted; then the list is empty.
     Struct { name: Ident, regions: Vec<Ident> },
     /// `region_t<..>`
     Handle { region: Ident },
@@ -43,7 +42,7 @@ pub enum BaseType {
     Key { region: Ident },
 }
 
-/// A type, whose marks make pointers from the left to the right: the last mark is the outermost pointer.
+/// A type: its marks make pointers from left to right; the last mark is the outermost pointer.
 #[derive(Drop)]
 pub struct WrittenType {
     pub span: Span,
@@ -86,7 +85,7 @@ pub enum BinaryOperator {
     Remainder,
 }
 
-/// An expression, with the places that messages speak of.
+/// An expression, with the places that diagnostics name.
 #[cycle(expression)]
 #[derive(Drop)]
 pub enum Expr {
@@ -139,7 +138,7 @@ pub enum Expr {
         span: Span,
         key: Ident,
     },
-    /// An operand and its postfixes, at least one.
+    /// An operand followed by at least one postfix.
     Chained {
         base: Box<Expr>,
         postfixes: Vec<Postfix>,
@@ -159,7 +158,7 @@ pub enum Expr {
         region: Box<Expr>,
         value: Box<Initial>,
     },
-    /// Operands joined by operators of one level, at least one, that group to the left.
+    /// Operands joined by operators of one level, which associate to the left. A chain has at least one operator.
     Binary {
         first: Box<Expr>,
         rest: Vec<Operation>,
@@ -179,7 +178,7 @@ pub struct Operation {
     pub operand: Expr,
 }
 
-/// What may follow an operand, and leads on from it.
+/// A postfix of an operand.
 #[cycle(expression)]
 #[derive(Drop)]
 pub enum Postfix {
@@ -188,7 +187,7 @@ pub enum Postfix {
     Field { name: Ident },
 }
 
-/// What `new` and `rnew` put into the new object.
+/// The initial contents of an object made by `new` or `rnew`.
 #[cycle(expression)]
 #[derive(Drop)]
 pub enum Initial {
@@ -357,11 +356,11 @@ pub enum ParameterList {
     Listed { members: Vec<Member> },
 }
 
-/// What stands between the brackets of a function's head.
+/// The parameters of a function, with its effect and its constraints.
 #[derive(Drop)]
 pub struct Parameters {
     pub list: ParameterList,
-    /// The effect, where one is written.
+    /// The effect, if one is written.
     pub effect: Option<Vec<Ident>>,
     pub constraints: Vec<Constraint>,
 }
@@ -393,7 +392,7 @@ pub enum Declaration {
     },
 }
 
-/// A program as it is written: its declarations, and the texts of the names that they have.
+/// A parsed program: its declarations, and the texts of its names.
 #[derive(Drop)]
 pub struct Tree {
     pub declarations: Vec<Declaration>,

@@ -1,4 +1,4 @@
--- The view of the code's trees: the same tree, without where it lies in memory. This project's own choice.
+-- The view of the code's trees: each tree without its layout in memory. The view of trees is this project's own choice.
 use Rattle.std.specs.Prelude.{List, [], ◌∷◌, map, Option, Some, None, option_map}
 use Rattle.std.specs.declared.vec.Vec.{Vec}
 use Rattle.std.specs.declared.alloc.Global.{Global as Heap}
@@ -97,7 +97,7 @@ abbrev mutual
   view_operations end_of-Operation = NoOperations
   view_operations (more_of-Operation o s e row) = ThenOperation o (place_of_span s) (view_expression e) (view_operations row)
 
--- the same over lists, as a `Vec` has them
+-- the views of lists of nodes, given the contents of a `Vec`
 
 abbrev pub expressions_of : List Expr → Expressions
 expressions_of [] = NoExpressions
