@@ -1,4 +1,4 @@
--- A text leaves no choice: it is accepted with one list of tokens, or refused with one fault.
+-- The lexer's result is unique: a text is accepted with one list of tokens, or rejected with one fault.
 use Rattle.std.proofs.Common.{ℕ, List}
 use Rattle.cyc_words.proofs.Decisions.{IsDecided}
 use Rattle.cyc_lex.specs.Refusals.{IsAccepted, IsRefused}

@@ -1,4 +1,4 @@
--- Which fault is the first one, and that a text has one answer at most.
+-- The first fault of a text. A text has at most one result.
 use Rattle.std.proofs.Common.{◌≡◌, ◌≢◌, ℕ, ◌<◌, ◌≤◌, ⊎_elim, Some, List, [], ◌∷◌, ◌++◌, length, take, drop, eqb, cond, refl, sym, ap, subst, ◌∙◌, append-nil, arith}
 use Rattle.std.proofs.lemmas.List.{take-append-drop, length-append, length-map, get_or_at}
 use Rattle.cyc_words.specs.declared.fault.Code.{Code}
@@ -10,13 +10,13 @@ use Rattle.cyc_syntax.specs.declared.tokens.Token.{Token as CodeToken}
 use Rattle.cyc_syntax.specs.declared.tokens.TokenKind.{TokenKind}
 use Rattle.cyc_syntax.specs.Spelling.{Piece, Lexeme, OpenComment, Spells}
 use Rattle.cyc_syntax.specs.Tokens.{Kind, Number, Token, kind_of, token_of}
-use Rattle.cyc_syntax.specs.TokenRule.{IsRead, Part, IsCut, bytes_of, part_tokens, tokens_of, IsSmall, IsWithinLimits, line_behind, column_behind, max_tokens, max_number}
+use Rattle.cyc_syntax.specs.TokenRule.{IsRead, Part, IsCut, bytes_of, part_tokens, tokens_of, IsSmall, IsWithinLimits, line_after, column_after, max_tokens, max_number}
 use Rattle.cyc_syntax.proofs.CutLemmas.{piece_nonempty, one_part, cuts_meet, no_more, one_token_list, tokens_of-append}
 use Rattle.cyc_lex.specs.inside.Found.{IsFound}
 use Rattle.cyc_lex.specs.Refusals.{Begins, FailsHere, Holds, IsFirstFault, IsRefused, IsAccepted}
 use Rattle.cyc_lex.proofs.LexLemmas.{IsReadUpTo}
 
--- one piece begins a text
+-- at most one piece is read at the start of a text
 one_begins : (m n : Piece) (text : List ℕ) → Begins m text → Begins n text → m ≡ n
 one_begins m n text begins also =
     ap (λ (p : Part). p.piece)
@@ -32,14 +32,14 @@ begins_nothing m begins = by begins.0 begins.2 begins.3.spelled
     by [] e spelled = piece_nonempty m spelled
     by (b ∷ bs) e spelled = cc
 
--- what fails here holds here, whatever the count
+-- a fault of the rest of the text holds for any number of tokens before it
 holds_here : (code : Code) (count : ℕ) (text : List ℕ) → FailsHere code text → Holds code count text
 holds_here codes.UnknownByte count text fails = fails
 holds_here codes.UnclosedComment count text fails = fails
 holds_here codes.NumberTooLarge count text fails = fails
 holds_here _ count text fails = absurd fails
 
--- the lowest code of a place
+-- the lowest code of a position
 
 least_unknown : (other : Code) (count : ℕ) (text : List ℕ) → Holds other count text → 1 ≤ number_of other
 least_unknown codes.UnknownByte count text h = omega arith
@@ -62,7 +62,7 @@ least_large codes.NumberTooLarge count text k begins h = omega arith
 least_large codes.TooManyTokens count text k begins h = omega arith
 least_large _ count text k begins h = absurd h
 
--- a token that begins here within the limits is no number above them
+-- a token within the limits is not a number above the limit
 not_large : (text : List ℕ) (k : Kind) → Begins (Lexeme k) text → IsSmall k → FailsHere codes.NumberTooLarge text → ⊥
 not_large text k begins small large =
     let e = one_begins (Lexeme k) (Lexeme (Number large.0)) text begins large.1 in
@@ -83,13 +83,13 @@ least_here codes.UnclosedComment count text fails other h = least_unclosed other
 least_here codes.NumberTooLarge count text fails other h = least_large other count text (Number fails.0) fails.1 h
 least_here _ count text fails other h = absurd fails
 
--- the fault at a place that was reached
+-- ---- the fault at a position that the lexer has reached
 module _ (text : List ℕ) (tokens : List CodeToken) (start : ℕ) (place : Span) (done : IsReadUpTo text tokens start place) where
-  line : place.line ≡ line_behind (bytes_of done.parts)
-  line = done.behind.line ∙ ap line_behind (sym done.front)
+  line : place.line ≡ line_after (bytes_of done.parts)
+  line = done.following.line ∙ ap line_after (sym done.front)
 
-  column : place.column ≡ column_behind (bytes_of done.parts)
-  column = done.behind.column ∙ ap column_behind (sym done.front)
+  column : place.column ≡ column_after (bytes_of done.parts)
+  column = done.following.column ∙ ap column_after (sym done.front)
 
   pub fails_first : (code : Code) → FailsHere code (drop start text) → IsFirstFault text (record { code = code; line = place.line; column = place.column })
   fails_first code fails = record {
@@ -120,9 +120,9 @@ module _ (text : List ℕ) (tokens : List CodeToken) (start : ℕ) (place : Span
         column = column;
       }
 
--- a text has one answer at most
+-- ---- a text has at most one result
 
--- the codes that can hold are told by their numbers
+-- a code is determined by its number
 code_with : ℕ → Code
 code_with n = cond (eqb n 1) codes.UnknownByte (cond (eqb n 2) codes.UnclosedComment (cond (eqb n 3) codes.NumberTooLarge codes.TooManyTokens))
 
@@ -134,7 +134,7 @@ code_is codes.NumberTooLarge count text h = refl
 code_is codes.TooManyTokens count text h = refl
 code_is _ count text h = absurd h
 
--- a token in the middle of tokens that are within the limits
+-- a token among tokens within the limits is within the limits, and the tokens before it are fewer than the limit
 middle : (front more : List Token) (t : Token) → IsWithinLimits (front ++ t ∷ more) → IsSmall t.kind × (length front < max_tokens)
 middle front more t within =
     let count = within.count in
@@ -143,7 +143,7 @@ middle front more t within =
       omega (arith, count, size),
     )
 
--- where a code holds no piece can be read within the limits
+-- at a position with a fault, no piece can be read within the limits
 no_way_on : (code : Code) (front : List Token) (p : Part) (text after : List ℕ) (bytes : List ℕ) (more : List Token) → Holds code (length front) text
     → text ≡ p.bytes ++ after → IsRead p.piece p.bytes after → p.piece ≢ OpenComment → IsWithinLimits (front ++ (part_tokens bytes p.piece ++ more)) → ⊥
 no_way_on codes.UnknownByte front p text after bytes more h whole read closed within = begins_piece p.piece text (p.bytes, after, whole, read) h
@@ -173,7 +173,7 @@ holds_nothing codes.NumberTooLarge count h = begins_nothing (Lexeme (Number h.0)
 holds_nothing codes.TooManyTokens count h = begins_nothing (Lexeme h.0) h.1
 holds_nothing _ count h = h
 
--- where a cut goes no further
+-- a cut that another cut cannot extend is equal to it
 end_of : (ps qs more : List Part) (r s : List ℕ) → qs ≡ ps ++ more → IsCut more r s → more ≡ [] → (qs ≡ ps) × (r ≡ s)
 end_of ps qs more r s e cut none = (e ∙ ap (λ l. ps ++ l) none ∙ append-nil ps, subst (λ l. IsCut l r s) none cut)
 
@@ -188,8 +188,8 @@ module _ (text : List ℕ) (f g : Fault) (first : IsFirstFault text f) (also : I
       let above = also.lowest f.code at_other in
       let number : number_of f.code ≡ number_of g.code = omega (arith, below, above) in
       let code : f.code ≡ g.code = code_is f.code _ first.rest first.holds ∙ ap code_with number ∙ sym (code_is g.code _ also.rest also.holds) in
-      let line : f.line ≡ g.line = first.line ∙ ap (λ ps. line_behind (bytes_of ps)) parts ∙ sym also.line in
-      let column : f.column ≡ g.column = first.column ∙ ap (λ ps. column_behind (bytes_of ps)) parts ∙ sym also.column in
+      let line : f.line ≡ g.line = first.line ∙ ap (λ ps. line_after (bytes_of ps)) parts ∙ sym also.line in
+      let column : f.column ≡ g.column = first.column ∙ ap (λ ps. column_after (bytes_of ps)) parts ∙ sym also.column in
       (λ i. record { code = code i; line = line i; column = column i })
 
   one_first_fault : f ≡ g

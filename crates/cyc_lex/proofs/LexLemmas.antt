@@ -1,4 +1,4 @@
--- Reading on: what is read of a text so far, and one piece more.
+-- One step of the lexer: the part of the text read so far, extended by one piece.
 use Rattle.std.proofs.Common.{◌≡◌, ◌≢◌, ℕ, ◌+◌, ◌-◌, ◌<◌, ◌≤◌, true, false, inl, ⊎_elim, Option, Some, None, List, [], ◌∷◌, ◌++◌, length, get_or, take, drop, map, refl, sym, ap, subst, ◌∙◌, append-nil, arith}
 use Rattle.std.specs.Prelude.{All, slice_range}
 use Rattle.std.proofs.lemmas.Bool.{cases_lt, cond-true, cond-false}
@@ -12,14 +12,14 @@ use Rattle.cyc_syntax.specs.declared.tokens.Token.{Token as CodeToken}
 use Rattle.cyc_syntax.specs.declared.tokens.TokenKind.{TokenKind}
 use Rattle.cyc_syntax.specs.Spelling.{is_letter, is_digit, is_space, Piece, Lexeme, Space, Comment, OpenComment, SpellsToken}
 use Rattle.cyc_syntax.specs.Tokens.{kind_of, token_of}
-use Rattle.cyc_syntax.specs.TokenRule.{IsRead, Part, IsCut, bytes_of, part_tokens, tokens_of, IsSmall, IsWithinLimits, LiesIn, line_behind, column_behind, max_tokens}
+use Rattle.cyc_syntax.specs.TokenRule.{IsRead, Part, IsCut, bytes_of, part_tokens, tokens_of, IsSmall, IsWithinLimits, LiesIn, line_after, column_after, max_tokens}
 use Rattle.cyc_syntax.proofs.PieceLemmas.{AtSpace, start_of}
 use Rattle.cyc_syntax.proofs.CutLemmas.{piece_nonempty, IsCut-push, bytes_of-push, tokens_of-append}
 use Rattle.cyc_lex.specs.inside.Found.{IsReadAs, IsFound}
 use Rattle.cyc_lex.proofs.ShapeLemmas.{read_at}
-use Rattle.cyc_syntax.specs.inside.Place.{IsBehind}
+use Rattle.cyc_syntax.specs.inside.Place.{IsAfter}
 
--- a piece that was found has bytes
+-- a piece that was read has at least one byte
 pub found_some : (text : List ℕ) (kind : Option TokenKind) (len : ℕ) → IsFound text kind len → 0 < len
 found_some text kind len found =
     ⊎_elim (λ some. some) (λ none. absurd (by kind (subst (λ n. IsReadAs kind (take n text) (drop n text)) (let zero : len ≡ 0 = omega arith in zero) found.piece))) (cases_lt 0 len)
@@ -28,7 +28,7 @@ found_some text kind len found =
     by None read = ⊎_elim (λ space. piece_nonempty Space space.spelled) (λ comment. piece_nonempty Comment comment.spelled) read
     by (Some k) read = piece_nonempty (Lexeme (kind_of [] k)) read.0.spelled
 
--- a space at the head of a text
+-- a space at the start of a text is a piece of length 1
 pub found_space : (text : List ℕ) → 0 < length text → is_space (get_or text 0 0) ≡ true → IsFound text None 1
 found_space [] some space = absurd (omega arith)
 found_space (b ∷ bs) some space = record {
@@ -45,7 +45,7 @@ found_space (b ∷ bs) some space = record {
     starts : start_of b ≡ AtSpace
     starts = cond-false (is_letter b) _ _ no_letter ∙ cond-false (is_digit b) _ _ no_digit ∙ cond-true (is_space b) _ _ space
 
--- what is read of a text: all before `start`, with these tokens
+-- the text before `start` has been read, with these tokens, and `place` is the place of `start`
 pub record IsReadUpTo (text : List ℕ) (tokens : List CodeToken) (start : ℕ) (place : Span) : Type 0 where
   pub parts : List Part
   pub cut : IsCut parts text (drop start text)
@@ -53,10 +53,10 @@ pub record IsReadUpTo (text : List ℕ) (tokens : List CodeToken) (start : ℕ) 
   pub views : map (token_of text) tokens ≡ tokens_of [] parts
   pub within : IsWithinLimits (tokens_of [] parts)
   pub lie : All (LiesIn text) tokens
-  pub behind : IsBehind place (take start text)
+  pub following : IsAfter place (take start text)
   pub inside : start ≤ length text
 
--- so many tokens are read at most
+-- the number of tokens read is within the limit
 pub tokens_within : (text : List ℕ) (tokens : List CodeToken) (start : ℕ) (place : Span) → IsReadUpTo text tokens start place → length tokens ≤ max_tokens
 tokens_within text tokens start place done =
     let count : length tokens ≡ length (tokens_of [] done.parts) = sym (length-map tokens (token_of text)) ∙ ap length done.views in
@@ -66,7 +66,7 @@ tokens_within text tokens start place done =
 tokens_push : (ps : List Part) (p : Part) → tokens_of [] (ps ++ p ∷ []) ≡ tokens_of [] ps ++ part_tokens (bytes_of ps) p.piece
 tokens_push ps p = tokens_of-append [] ps (p ∷ []) ∙ ap (λ l. tokens_of [] ps ++ l) (append-nil (part_tokens (bytes_of ps) p.piece))
 
--- the next part of a text, and the token of the code that it may be
+-- the next part of a text, and its token in the code, if it is a token
 abbrev part_at : List ℕ → ℕ → ℕ → Piece → Part
 part_at text start len m = record { piece = m; bytes = take len (drop start text) }
 
@@ -74,12 +74,12 @@ abbrev pub token_at : TokenKind → Span → ℕ → ℕ → CodeToken
 token_at kind place start end = record { kind = kind; span = place; start = start; end = end }
 
 module _ (text : List ℕ) (tokens : List CodeToken) (start len : ℕ) (place next : Span) (done : IsReadUpTo text tokens start place)
-    (fits : len ≤ length (drop start text)) (behind : IsBehind next (take start text ++ take len (drop start text))) where
+    (fits : len ≤ length (drop start text)) (following : IsAfter next (take start text ++ take len (drop start text))) where
   inside : start + len ≤ length text
   inside = let known = done.inside in omega (arith, fits, length-drop start text, known)
 
-  next_behind : IsBehind next (take (start + len) text)
-  next_behind = subst (IsBehind next) (sym (take-add start len text)) behind
+  next_after : IsAfter next (take (start + len) text)
+  next_after = subst (IsAfter next) (sym (take-add start len text)) following
 
   next_cut : (m : Piece) → IsRead m (take len (drop start text)) (drop len (drop start text)) → m ≢ OpenComment
       → IsCut (done.parts ++ part_at text start len m ∷ []) text (drop (start + len) text)
@@ -98,7 +98,7 @@ module _ (text : List ℕ) (tokens : List CodeToken) (start len : ℕ) (place ne
   next_tokens : (m : Piece) → tokens_of [] (done.parts ++ part_at text start len m ∷ []) ≡ tokens_of [] done.parts ++ part_tokens (bytes_of done.parts) m
   next_tokens m = tokens_push done.parts (part_at text start len m)
 
-  -- a space or a comment
+  -- ---- the next piece is a space or a comment
   blank : (m : Piece) → IsRead m (take len (drop start text)) (drop len (drop start text)) → m ≢ OpenComment → part_tokens (bytes_of done.parts) m ≡ []
       → IsReadUpTo text tokens (start + len) next
   blank m read closed none =
@@ -111,7 +111,7 @@ module _ (text : List ℕ) (tokens : List CodeToken) (start len : ℕ) (place ne
         views = done.views ∙ same;
         within = subst IsWithinLimits same done.within;
         lie = done.lie;
-        behind = next_behind;
+        following = next_after;
         inside = inside;
       }
 
@@ -119,7 +119,7 @@ module _ (text : List ℕ) (tokens : List CodeToken) (start len : ℕ) (place ne
   blank_read read =
       ⊎_elim (λ space. blank Space space (λ e. cc) refl) (λ comment. blank Comment comment (λ e. cc) refl) read
 
-  -- a token
+  -- ---- the next piece is a token
   module _ (kind : TokenKind) (room : length tokens < max_tokens) (some : 0 < len)
       (read : IsReadAs (Some kind) (take len (drop start text)) (drop len (drop start text))) where
     spelling : slice_range text start (start + len) ≡ take len (drop start text)
@@ -127,16 +127,16 @@ module _ (text : List ℕ) (tokens : List CodeToken) (start len : ℕ) (place ne
 
     view : token_of text (token_at kind place start (start + len)) ∷ [] ≡ part_tokens (bytes_of done.parts) (Lexeme (kind_of (take len (drop start text)) kind))
     view =
-        let line = done.behind.line ∙ ap line_behind (sym done.front) in
-        let column = done.behind.column ∙ ap column_behind (sym done.front) in
+        let line = done.following.line ∙ ap line_after (sym done.front) in
+        let column = done.following.column ∙ ap column_after (sym done.front) in
         (λ i. record { kind = kind_of (spelling i) kind; line = line i; column = column i } ∷ [])
 
     lies : LiesIn text (token_at kind place start (start + len))
     lies = record {
       starts = omega arith;
       ends = inside;
-      line = done.behind.line;
-      column = done.behind.column;
+      line = done.following.line;
+      column = done.following.column;
       spelled = subst (λ l. SpellsToken (kind_of l kind) l) (sym spelling) read.0.spelled;
     }
 
@@ -157,6 +157,6 @@ module _ (text : List ℕ) (tokens : List CodeToken) (start len : ℕ) (place ne
             numbers = subst (All (λ t. IsSmall t.kind)) (sym (next_tokens m)) (All-append (λ t. IsSmall t.kind) (tokens_of [] done.parts) (part_tokens (bytes_of done.parts) m) done.within.numbers (All-cons (λ t. IsSmall t.kind) _ [] read.1 (All-nil (λ t. IsSmall t.kind))));
           };
           lie = All-push (LiesIn text) tokens (token_at kind place start (start + len)) done.lie lies;
-          behind = next_behind;
+          following = next_after;
           inside = inside;
         }

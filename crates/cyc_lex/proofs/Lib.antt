@@ -1,10 +1,10 @@
--- what the answers of `lex` and of the laws cite
+-- lemmas that the proofs of `lex` and of the laws cite
 pub mod AnswerLemmas
 pub mod FaultLemmas
 pub mod LexLemmas
 pub mod LineLemmas
 pub mod ShapeLemmas
--- the piece that is read is the longest
+-- lemmas that the piece read is the longest
 pub mod CommentLemmas
 pub mod NameReading
 pub mod NumberLemmas

@@ -1,4 +1,4 @@
--- No token ends a line, so behind one the place is on the same line.
+-- No token contains a line feed, so the place after a token is on the same line.
 use Rattle.std.proofs.Common.{◌≡◌, ℕ, ◌+◌, ◌==◌, ◌&&◌, ◌||◌, Bool, true, not, Some, List, [], ◌∷◌, ◌++◌, length, refl, sym, ap, subst, ◌∙◌, append-nil, ⊎_elim, arith}
 use Rattle.std.specs.List.{list_all}
 use Rattle.std.proofs.lemmas.Bool.{true≢false, cases_Bool, and_from, and_parts, eqb-true, not-true}
@@ -7,15 +7,15 @@ use Rattle.std.proofs.lemmas.List.{append_assoc}
 use Rattle.cyc_words.specs.declared.span.Span.{Span}
 use Rattle.cyc_syntax.specs.declared.tokens.Sign.{Sign}
 use Rattle.cyc_syntax.specs.declared.tokens.Sign.TheVariants as signs
-use Rattle.cyc_syntax.specs.inside.Place.{IsBehind}
+use Rattle.cyc_syntax.specs.inside.Place.{IsAfter}
 use Rattle.cyc_syntax.specs.Spelling.{is_line_feed, is_digit, is_hex_digit, is_name_byte, is_name, is_decimal, is_hexadecimal, is_plain, escaped, keyword_text, sign_text, SpellsToken}
-use Rattle.cyc_syntax.specs.TokenRule.{line_behind, column_behind}
+use Rattle.cyc_syntax.specs.TokenRule.{line_after, column_after}
 use Rattle.cyc_syntax.specs.Tokens.{Kind, Identifier, RegionName, Number, Character, Word, Mark}
 use Rattle.cyc_syntax.proofs.PieceLemmas.{leading_digit, is_name-keyword_text}
-use Rattle.cyc_syntax.proofs.PlaceLemmas.{behind_other}
+use Rattle.cyc_syntax.proofs.PlaceLemmas.{after_other}
 use Rattle.cyc_lex.proofs.NameReading.{name_bytes}
 
--- no byte is a line feed
+-- true if the byte is not a line feed
 abbrev stays : ℕ → Bool
 stays b = not (is_line_feed b)
 
@@ -40,7 +40,7 @@ hex_digit_stays b h = grind (arith, nat_tests)
 plain_stays : (b : ℕ) → is_plain b ≡ true → stays b ≡ true
 plain_stays b h = grind (arith, nat_tests)
 
--- nothing is written by a backslash and a line feed
+-- no escape is written with a backslash and a line feed
 escape_stays : (b c : ℕ) → escaped b ≡ Some c → stays b ≡ true
 escape_stays b c is =
     ⊎_elim (λ feed. absurd (none (sym (ap escaped (eqb-true b 10 feed)) ∙ is))) (λ other. ap not other) (cases_Bool (is_line_feed b))
@@ -108,7 +108,7 @@ sign_stays signs.Colon = refl
 sign_stays signs.At = refl
 sign_stays signs.Question = refl
 
--- a token stands on one line
+-- a token contains no line feed
 pub token_stays : (kind : Kind) (bytes : List ℕ) → SpellsToken kind bytes → is_one_line bytes ≡ true
 token_stays (Identifier name) bytes h = ap is_one_line h.0 ∙ name_stays name h.1
 token_stays (RegionName name) bytes h = ap is_one_line h.0 ∙ and_from _ _ refl (name_stays name h.1)
@@ -121,16 +121,16 @@ token_stays (Character c) bytes h =
 token_stays (Word k) bytes h = ap is_one_line h ∙ name_stays (keyword_text k) (is_name-keyword_text k)
 token_stays (Mark s) bytes h = ap is_one_line h ∙ sign_stays s
 
--- and the place behind it is so many columns further
-pub behind_one_line : (place next : Span) (front bytes : List ℕ) → is_one_line bytes ≡ true → next.line ≡ place.line → next.column ≡ place.column + length bytes
-    → IsBehind place front → IsBehind next (front ++ bytes)
-behind_one_line place next front [] passes line column behind = record {
-  line = line ∙ behind.line ∙ ap line_behind (sym (append-nil front));
-  column = (let same : next.column ≡ place.column = omega (arith, column) in same) ∙ behind.column ∙ ap column_behind (sym (append-nil front));
+-- the place after a token is on the same line, its length further
+pub after_one_line : (place next : Span) (front bytes : List ℕ) → is_one_line bytes ≡ true → next.line ≡ place.line → next.column ≡ place.column + length bytes
+    → IsAfter place front → IsAfter next (front ++ bytes)
+after_one_line place next front [] passes line column following = record {
+  line = line ∙ following.line ∙ ap line_after (sym (append-nil front));
+  column = (let same : next.column ≡ place.column = omega (arith, column) in same) ∙ following.column ∙ ap column_after (sym (append-nil front));
 }
-behind_one_line place next front (b ∷ bs) passes line column behind =
+after_one_line place next front (b ∷ bs) passes line column following =
     let parts = and_parts (stays b) (list_all stays bs) passes in
     let one : Span = record { line = place.line; column = place.column + 1 } in
     let count : next.column ≡ one.column + length bs = omega (arith, column) in
-    subst (IsBehind next) (append_assoc front (b ∷ []) bs)
-    (behind_one_line one next (front ++ b ∷ []) bs parts.1 line count (behind_other place one front b (not-true _ parts.0) refl refl behind))
+    subst (IsAfter next) (append_assoc front (b ∷ []) bs)
+    (after_one_line one next (front ++ b ∷ []) bs parts.1 line count (after_other place one front b (not-true _ parts.0) refl refl following))

@@ -1,4 +1,4 @@
--- Names and regions' names at the head of a text.
+-- Names and region names at the start of a text.
 use Rattle.std.proofs.Common.{◌≡◌, ◌≢◌, ℕ, ◌+◌, ◌<◌, ◌≤◌, true, Some, List, [], ◌∷◌, ◌++◌, length, get_or, take, drop, refl, sym, ap, ◌∙◌, arith}
 use Rattle.std.specs.List.{list_all, prefix_len}
 use Rattle.std.proofs.lemmas.Bool.{true≢false, cond-true, and_from, and_parts, or_left}
@@ -13,14 +13,14 @@ use Rattle.cyc_syntax.proofs.PieceLemmas.{AtName, AtRegion, start_of}
 use Rattle.cyc_lex.specs.inside.Found.{IsFound}
 use Rattle.cyc_lex.proofs.ShapeLemmas.{Shape, read_at}
 
--- a name is of name bytes
+-- a name consists of name bytes
 pub name_bytes : (name : List ℕ) → is_name name ≡ true → list_all is_name_byte name ≡ true
 name_bytes [] named = absurd (true≢false (sym named))
 name_bytes (b ∷ bs) named =
     let parts = and_parts (is_letter b) (list_all is_name_byte bs) named in
     and_from _ _ (or_left _ _ parts.0) parts.1
 
--- the name bytes at the head of a text are a name, where the first is a letter
+-- the run of name bytes at the start of a text is a name if its first byte is a letter
 name_run : (text : List ℕ) → is_letter (get_or text 0 0) ≡ true → 0 < length text → is_name (take (prefix_len is_name_byte text) text) ≡ true
 name_run [] letter within = absurd (omega arith)
 name_run (b ∷ bs) letter within =
@@ -37,21 +37,21 @@ module _ (text : List ℕ) (n : ℕ) (len : n ≡ prefix_len is_name_byte text) 
   inside : n ≤ length text
   inside = rw len (prefix_len-le-length is_name_byte text)
 
-  -- a name that is no keyword
+  -- a run of name bytes that is not a keyword is read as an identifier
   pub found_identifier : ((k : Keyword) → take n text ≢ keyword_text k) → IsFound text (Some kinds.Identifier) n
   found_identifier fresh = record {
     within = inside;
     piece = (read_at (Lexeme (Identifier (take n text))) AtName text n (cond-true _ _ _ letter) inside (refl, named, fresh) bound, tt);
   }
 
-  -- a keyword
+  -- a run of name bytes that spells a keyword is read as that keyword
   pub found_keyword : (k : Keyword) → take n text ≡ keyword_text k → IsFound text (Some (kinds.Keyword k)) n
   found_keyword k spelled = record {
     within = inside;
     piece = (read_at (Lexeme (Word k)) AtName text n (cond-true _ _ _ letter) inside spelled bound, tt);
   }
 
--- a region's name
+-- a backquote and a run of name bytes are read as a region name
 region_bound : (text front rest : List ℕ) → text ≡ front ++ rest → Shape AtRegion front → length front ≤ 1 + prefix_len is_name_byte (drop 1 text)
 region_bound text front rest whole shape =
     let tail : drop 1 text ≡ shape.0 ++ rest = ap (drop 1) (whole ∙ ap (λ l. l ++ rest) shape.1) in

@@ -1,4 +1,4 @@
--- The number that digits have only grows with more digits.
+-- The value of a digit string grows with each further digit.
 use Rattle.std.proofs.Common.{◌≡◌, ℕ, ◌+◌, ◌*◌, ◌<◌, ◌≤◌, List, [], ◌∷◌, length, get_or, take, drop, fold, sym, ap, ◌∙◌, arith}
 use Rattle.std.proofs.lemmas.List.{take-append-drop}
 use Rattle.std.proofs.lemmas.List.Sums.{fold-append, fold_more}
@@ -14,7 +14,7 @@ grows base n (d ∷ ds) positive =
     at_least : (n base : ℕ) → 0 < base → n ≤ n * base
     at_least n base positive = grind arith
 
--- a front of the digits is enough to pass a limit
+-- if a prefix of the digits exceeds the limit, all digits do
 pub too_large : (base : ℕ) (digits : List ℕ) (i limit : ℕ) → 0 < base → i < length digits
     → limit < number_in base (take i digits) * base + digit_value (get_or digits i 0) → limit < number_in base digits
 too_large base digits i limit positive within over =

@@ -1,4 +1,4 @@
--- Numbers at the head of a text.
+-- Numbers at the start of a text.
 use Rattle.std.proofs.Common.{◌≡◌, ◌≢◌, ℕ, suc, ◌+◌, ◌<◌, ◌≤◌, true, ◌&&◌, ◌||◌, eqb, Some, inl, inr, ⊎_elim, List, [], ◌∷◌, ◌++◌, length, get_or, take, drop, refl, sym, ap, ◌∙◌, arith}
 use Rattle.std.specs.Prelude.{All}
 use Rattle.std.specs.List.{list_all, prefix_len}
@@ -20,7 +20,7 @@ use Rattle.cyc_lex.specs.inside.Found.{IsFound}
 use Rattle.cyc_lex.specs.Refusals.{FailsHere}
 use Rattle.cyc_lex.proofs.ShapeLemmas.{Shape, read_at}
 
--- a number that is read is found or too large
+-- a number is read with its value, or rejected as too large
 pub found_number : (text : List ℕ) (n v : ℕ) → n ≤ length text → IsRead (Lexeme (Number v)) (take n text) (drop n text) → v ≤ max_number
     → IsFound text (Some (kinds.Number v)) n
 found_number text n v within read small = record { within = within; piece = (read, small) }
@@ -29,14 +29,14 @@ pub large_number : (text : List ℕ) (n v : ℕ) → IsRead (Lexeme (Number v)) 
     → FailsHere codes.NumberTooLarge text
 large_number text n v read large = (v, (take n text, drop n text, sym (take-append-drop n text), read), large)
 
--- `0x` and digits
+-- `0x` followed by digits is a hexadecimal number
 
 hexadecimal_from : (b c : ℕ) (digits : List ℕ) → b ≡ 48 → (eqb c 120 || eqb c 88) ≡ true → list_all is_hex_digit digits ≡ true → 0 < length digits
     → is_hexadecimal (b ∷ c ∷ digits) ≡ true
 hexadecimal_from b c [] zero_first x digits some = absurd (omega arith)
 hexadecimal_from b c (d ∷ ds) zero_first x digits some = and_from _ _ (and_from _ _ (eq-eqb b 48 zero_first) x) digits
 
--- its parts
+-- the parts of a hexadecimal number
 record IsHex (bytes : List ℕ) : Type 0 where
   first : get_or bytes 0 0 ≡ 48
   second : (eqb (get_or bytes 1 0) 120 || eqb (get_or bytes 1 0) 88) ≡ true
@@ -69,7 +69,7 @@ hexadecimal_bound text (b ∷ c ∷ bs) rest whole first shape =
     (λ hex. omega (arith, prefix_len-at_least is_hex_digit (drop 2 text) bs rest (ap (drop 2) whole) (hexadecimal_parts (b ∷ c ∷ bs) hex).digits))
     shape
 
--- how a text begins that begins with a hexadecimal number
+-- the text begins with `0x` or `0X` and a hexadecimal digit
 record BeginsHex (text : List ℕ) : Type 0 where
   first : get_or text 0 0 ≡ 48
   second : (eqb (get_or text 1 0) 120 || eqb (get_or text 1 0) 88) ≡ true
@@ -114,11 +114,11 @@ module _ (text : List ℕ) (n : ℕ) (len : n ≡ prefix_len is_hex_digit (drop 
       ))
       (λ front rest whole shape. rw len (hexadecimal_bound text front rest whole begins.first shape))
 
-  -- and these are digits
+  -- the n bytes after `0x` are hexadecimal digits
   pub hexadecimal_digits : All (λ b. is_hex_digit b ≡ true) (take n (drop 2 text))
   hexadecimal_digits = AllPass-from_list_all is_hex_digit _ (ap (λ k. list_all is_hex_digit (take k (drop 2 text))) len ∙ prefix_len-passes is_hex_digit (drop 2 text))
 
--- a digit other than 0, and digits
+-- a decimal number consists of decimal digits
 
 decimal_digits : (bytes : List ℕ) → is_decimal bytes ≡ true → list_all is_digit bytes ≡ true
 decimal_digits [] decimal = absurd (true≢false (sym decimal))

@@ -1,4 +1,4 @@
--- Comments at the head of a text, and signs.
+-- Comments and signs at the start of a text.
 use Rattle.std.proofs.Common.{◌≡◌, ◌≢◌, ℕ, ◌+◌, ◌-◌, ◌<◌, ◌≤◌, true, false, not, Some, None, inl, inr, ⊎_elim, List, [], ◌∷◌, ◌++◌, length, get_or, take, drop, refl, sym, ap, ◌∙◌, append_assoc, append-nil, arith}
 use Rattle.std.specs.Prelude.{codes}
 use Rattle.std.specs.List.{list_all, list_any, prefix_len}
@@ -18,7 +18,7 @@ use Rattle.cyc_lex.specs.inside.Found.{IsFound}
 use Rattle.cyc_lex.specs.Refusals.{FailsHere}
 use Rattle.cyc_lex.proofs.ShapeLemmas.{Shape, read_at}
 
--- what the second byte rules out
+-- the second byte excludes the other kinds of pieces
 module _ (text front rest body : List ℕ) (b c : ℕ) (whole : text ≡ front ++ rest) (is : front ≡ b ∷ c ∷ body) where
   second_byte : get_or text 1 0 ≡ c
   second_byte = ap (λ l. get_or l 1 0) (whole ∙ ap (λ l. l ++ rest) is)
@@ -26,7 +26,7 @@ module _ (text front rest body : List ℕ) (b c : ℕ) (whole : text ≡ front +
   body_of : drop 2 text ≡ body ++ rest
   body_of = ap (drop 2) (whole ∙ ap (λ l. l ++ rest) is)
 
--- a line comment
+-- ---- line comments
 
 no_line_feed : (body : List ℕ) → list_any is_line_feed body ≡ false → list_all (λ b. not (is_line_feed b)) body ≡ true
 no_line_feed [] none = refl
@@ -71,9 +71,9 @@ found_line_comment text n long first second len =
           (λ front rest whole shape. rw len (line_bound text front rest second whole shape)));
     }
 
--- a block comment
+-- ---- block comments
 
--- a front with no end of the comment is shorter than one with it
+-- a prefix without `*/` is shorter than the closed comment
 shorter : (body front rest : List ℕ) (n : ℕ) → body ≡ front ++ rest → HasNoClose front → take n body ≡ take (n - 2) body ++ codes "*/" → length front < n
 shorter body front rest n whole none closed =
     ⊎_elim
@@ -131,9 +131,9 @@ open_comment text long first second none = (
   },
 )
 
--- a sign
+-- ---- signs
 
--- no other piece but a comment begins with the first byte of a sign
+-- only comments and the sign `/` begin with a slash; no other piece begins with the first byte of a sign
 at_sign : (s : Sign) (rest : List ℕ) → get_or (sign_text s ++ rest) 0 0 ≢ 47 → start_of (get_or (sign_text s ++ rest) 0 0) ≡ AtSign
 at_sign signs.Swap rest other = refl
 at_sign signs.AndAnd rest other = refl

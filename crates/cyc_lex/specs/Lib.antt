@@ -1,4 +1,5 @@
--- what the contract of `lex` rests on
+-- definitions that the contract of `lex` uses
 pub mod Refusals
--- What the functions of this crate promise each other and what its proofs say: no public contract of the product means it.
+-- Contracts between this crate's functions, and statements of its proofs. No public contract of the product depends on these internal
+-- definitions.
 pub mod inside

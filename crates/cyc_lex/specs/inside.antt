@@ -1,3 +1,3 @@
--- what the functions inside the crate promise each other
+-- contracts between the functions of this crate
 pub mod Beginnings
 pub mod Found

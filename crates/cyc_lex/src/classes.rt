@@ -2,7 +2,7 @@
 ghost use Rattle.std.specs.Prelude.{◌≡◌, ◌<◌, true};
 ghost use Rattle.cyc_syntax.specs.Spelling as spec;
 
-/// Which bytes are letters or `_`.
+/// A table of the bytes that are letters or `_`.
 const LETTERS: [bool; 256] = [
     false, false, false, false, false, false, false, false, false, false, false, false, false,
     false, false, false, false, false, false, false, false, false, false, false, false, false,
@@ -25,7 +25,7 @@ const LETTERS: [bool; 256] = [
     false, false, false, false, false, false, false, false, false, false, false, false, false,
 ];
 
-/// Which bytes are letters, `_` or digits.
+/// A table of the bytes that are letters, `_` or digits.
 const NAME_BYTES: [bool; 256] = [
     false, false, false, false, false, false, false, false, false, false, false, false, false,
     false, false, false, false, false, false, false, false, false, false, false, false, false,
@@ -48,28 +48,28 @@ const NAME_BYTES: [bool; 256] = [
     false, false, false, false, false, false, false, false, false, false,
 ];
 
-/// A letter or `_`.
+/// Returns true for a letter or `_`.
 pub fn is_letter(b: u8) -> bool
     ensures { result ≡ spec.is_letter b }
 {
     LETTERS[usize::from(b)]
 }
 
-/// A byte that may follow the first one of a name.
+/// Returns true for a byte that may follow the first byte of a name.
 pub fn is_name_byte(b: u8) -> bool
     ensures { result ≡ spec.is_name_byte b }
 {
     NAME_BYTES[usize::from(b)]
 }
 
-/// Whether a byte is a hexadecimal digit, of either case.
+/// Returns true for a hexadecimal digit, of either case.
 pub fn is_hex_digit(b: u8) -> bool
     ensures { result ≡ spec.is_hex_digit b }
 {
     matches!(b, b'0'..=b'9' | b'a'..=b'f' | b'A'..=b'F')
 }
 
-/// Which bytes are spaces.
+/// A table of the bytes that are spaces.
 const SPACES: [bool; 256] = [
     false, false, false, false, false, false, false, false, false, true, true, false, false, true,
     false, false, false, false, false, false, false, false, false, false, false, false, false,
@@ -93,21 +93,21 @@ const SPACES: [bool; 256] = [
     false, false, false, false, false, false, false, false,
 ];
 
-/// Tab, line feed, carriage return and space.
+/// Returns true for tab, line feed, carriage return and space.
 pub fn is_space(b: u8) -> bool
     ensures { result ≡ spec.is_space b }
 {
     SPACES[usize::from(b)]
 }
 
-/// A byte that a character constant shows as it is.
+/// Returns true for a byte that may appear unescaped in a character constant.
 pub fn is_plain(b: u8) -> bool
     ensures { result ≡ spec.is_plain b }
 {
     matches!(b, b' '..=b'~') && b != b'\'' && b != b'\\'
 }
 
-/// The byte that a backslash and this byte stand for.
+/// Returns the byte that an escape denotes, given the byte after the backslash.
 pub fn escaped(b: u8) -> Option<u8>
     ensures { result ≡ spec.escaped b }
 {
@@ -122,7 +122,7 @@ pub fn escaped(b: u8) -> Option<u8>
     }
 }
 
-/// The value of a digit in base 10 or 16.
+/// Returns the value of a digit in base 10 or 16.
 pub fn digit_value(b: u8) -> u64
     requires { spec.is_hex_digit b ≡ true }
     ensures value { result ≡ spec.digit_value b }

@@ -1,4 +1,4 @@
-//! The tokens of a text, or its first fault.
+//! The lexer: from a text to its tokens, or to its first fault.
 ghost use Rattle.std.specs.Prelude.{◌≡◌, ◌≤◌, ◌⊎◌, length, map, IfOk, IfErr};
 ghost use Rattle.cyc_words.specs.Decision.{Decides};
 ghost use Rattle.cyc_words.specs.Fault.{memory_fault};
@@ -8,25 +8,25 @@ ghost use Rattle.cyc_lex.specs.Refusals.{IsAccepted, IsRefused};
 
 use crate::classes::is_space;
 use crate::pieces::read_piece;
-use cyc_syntax::{Token, place_behind};
+use cyc_syntax::{Token, place_after};
 use cyc_words::{Code, Fault, Span};
 use std::alloc::Global;
 
-/// The most bytes of a text.
+/// The largest number of bytes of a text.
 pub const MAX_BYTES: usize = 1048576;
 
-/// The most tokens of a text.
+/// The largest number of tokens of a text.
 pub const MAX_TOKENS: usize = 60000;
 
-/// The tokens of a text, by the token rule: at each place the longest token, space or comment is read.
+/// Returns the tokens of a text, by the token rule: at each position the longest token, space or comment is read.
 ///
-/// A text above the limit of bytes is refused at 1:1. Otherwise the first place is refused where no token, space or
-/// comment begins, a comment is not closed, a number is above the limit, or a token stands that is one too many; of
-/// several reasons the one with the lowest code. Any growth of the list of tokens may be refused for want of memory.
+/// A text with too many bytes is rejected at 1:1. In any other text, the first fault is reported, and of several codes at one position the
+/// lowest. The faults are a position at which no token, space or comment begins, an unclosed comment, a number above the limit, and one
+/// token too many. Any growth of the token list may fail for lack of memory.
 pub fn lex(alloc: Global, text: &[u8]) -> Result<Vec<Token>, Fault>
-    // What is accepted has tokens, and these are answered; what is refused has its first fault.
+    // An accepted text gives its tokens, a rejected text its first fault.
     ensures decides { Decides (IsAccepted text.now) (λ tokens v. map (token_of text.now) v.items ≡ tokens) (IsRefused text.now) (IsRefused text.now) result }
-    // Each token lies where it says.
+    // Each token is located at its place in the text.
     ensures lie { IfOk result (λ v. AreTokensOf text.now v.items) }
 {
     if text.len() > MAX_BYTES {
@@ -35,7 +35,7 @@ pub fn lex(alloc: Global, text: &[u8]) -> Result<Vec<Token>, Fault>
     read_tokens(alloc, text)
 }
 
-/// The tokens of a text that is not too long.
+/// Returns the tokens of a text that is not too long.
 fn read_tokens(alloc: Global, text: &[u8]) -> Result<Vec<Token>, Fault>
     requires { length text.now ≤ MAX_BYTES }
     ensures accepted { IfOk result (λ v. IsAccepted text.now (map (token_of text.now) v.items)) }
@@ -47,7 +47,7 @@ fn read_tokens(alloc: Global, text: &[u8]) -> Result<Vec<Token>, Fault>
     let mut start = 0;
     while start < text.len() {
         if is_space(text[start]) {
-            place = place_behind(place, &text[start..start + 1]);
+            place = place_after(place, &text[start..start + 1]);
             start += 1;
             continue;
         }
@@ -67,10 +67,10 @@ fn read_tokens(alloc: Global, text: &[u8]) -> Result<Vec<Token>, Fault>
                 start,
                 end,
             })?;
-            // A token stands on one line.
+            // No token contains a line feed, so only the column advances.
             place.column += found.len as u32;
         } else {
-            place = place_behind(place, &text[start..end]);
+            place = place_after(place, &text[start..end]);
         }
         start = end;
     }

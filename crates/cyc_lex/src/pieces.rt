@@ -1,4 +1,4 @@
-//! Reading one piece: the longest token, space or comment at the head of a text.
+//! Reading one piece: the longest token, space or comment at the start of a text.
 ghost use Rattle.std.specs.Prelude.{◌≡◌, ℕ, ◌<◌, ◌≤◌, true, Some, None, length, take, All, IfOk, IfErr, slice_index};
 ghost use Rattle.cyc_syntax.specs.Spelling as spec;
 ghost use Rattle.cyc_lex.specs.inside.Found.{IsFound};
@@ -12,7 +12,7 @@ use crate::spellings::{keyword, sign};
 use cyc_syntax::{Sign, TokenKind};
 use cyc_words::Code;
 
-/// The piece at the head of a text: its kind, if it is a token, and its length.
+/// The piece at the start of a text: its kind, if it is a token, and its length.
 #[derive(Clone, Copy)]
 pub struct Found {
     pub kind: Option<TokenKind>,
@@ -34,7 +34,7 @@ fn blank(len: usize) -> Found
     Found { kind: None, len }
 }
 
-/// A name, or the keyword that it spells.
+/// Reads a name, or the keyword that it spells.
 fn read_name(text: &[u8]) -> Found
     requires nonempty { 0 < length text.now }
     requires letter { spec.is_letter (slice_index text.now 0) ≡ true }
@@ -47,7 +47,7 @@ fn read_name(text: &[u8]) -> Found
     }
 }
 
-/// A region's name: a backquote and a name, which may be spelled like a keyword.
+/// Reads a region name: a backquote and a name, which may be spelled like a keyword.
 fn read_region_name(text: &[u8]) -> Result<Found, Code>
     requires nonempty { 0 < length text.now }
     requires backquote { slice_index text.now 0 ≡ 96 }
@@ -60,7 +60,7 @@ fn read_region_name(text: &[u8]) -> Result<Found, Code>
     Ok(token(TokenKind::RegionName, 1 + name_len(&text[1..])))
 }
 
-/// Whether the text begins with a hexadecimal number: `0x` or `0X`, and a digit.
+/// Returns true if the text begins with a hexadecimal number: `0x` or `0X`, and a digit.
 fn begins_hexadecimal(text: &[u8]) -> bool
     ensures { result ≡ spec.is_hexadecimal (take 3 text.now) }
 {
@@ -70,7 +70,7 @@ fn begins_hexadecimal(text: &[u8]) -> bool
         && is_hex_digit(text[2])
 }
 
-/// A number, by its digits and its length.
+/// Returns the number that these digits denote, as a piece of this length.
 fn number(base: u64, digits: &[u8], len: usize) -> Result<Found, Code>
     requires positive { 0 < base }
     requires within { base ≤ 16 }
@@ -85,7 +85,7 @@ fn number(base: u64, digits: &[u8], len: usize) -> Result<Found, Code>
     }
 }
 
-/// A number: `0`, a decimal number with another first digit, or a hexadecimal number.
+/// Reads a number: `0`, a decimal number with another first digit, or a hexadecimal number.
 fn read_number(text: &[u8]) -> Result<Found, Code>
     requires nonempty { 0 < length text.now }
     requires digit { spec.is_digit (slice_index text.now 0) ≡ true }
@@ -104,7 +104,7 @@ fn read_number(text: &[u8]) -> Result<Found, Code>
     number(10, &text[..len], len)
 }
 
-/// A character constant: one byte between quotes, or an escape.
+/// Reads a character constant: one byte between quotes, or an escape.
 fn read_character(text: &[u8]) -> Result<Found, Code>
     requires nonempty { 0 < length text.now }
     requires quote { slice_index text.now 0 ≡ 39 }
@@ -123,7 +123,7 @@ fn read_character(text: &[u8]) -> Result<Found, Code>
     }
 }
 
-/// A comment, or the sign `/`.
+/// Reads a comment, or the sign `/`.
 fn read_slash(text: &[u8]) -> Result<Found, Code>
     requires nonempty { 0 < length text.now }
     requires slash { slice_index text.now 0 ≡ 47 }
@@ -143,7 +143,7 @@ fn read_slash(text: &[u8]) -> Result<Found, Code>
     }
 }
 
-/// The piece at the head of a text. The error says why there is none, or that it is a number above the limit.
+/// Reads the piece at the start of a text. Fails if no piece begins there, or if it is a number above the limit.
 pub fn read_piece(text: &[u8]) -> Result<Found, Code>
     requires { 0 < length text.now }
     ensures found { IfOk result (λ f. IsFound text.now f.kind f.len) }

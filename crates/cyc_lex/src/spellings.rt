@@ -48,7 +48,7 @@ fn keyword_text(keyword: Keyword) -> &'static [u8]
     }
 }
 
-/// The one keyword that a name with this first byte, this middle byte and this length may be.
+/// Returns the only keyword that may have this first byte, this middle byte and this length.
 fn likely_keyword(first: u8, middle: u8, len: usize) -> Option<Keyword>
     ensures { result ≡ beginnings.likely_keyword first middle len }
 {
@@ -112,7 +112,7 @@ fn likely_keyword(first: u8, middle: u8, len: usize) -> Option<Keyword>
     }
 }
 
-/// The keyword that the bytes spell, if they spell one.
+/// Returns the keyword that the bytes spell, if any.
 pub fn keyword(bytes: &[u8]) -> Option<Keyword>
     ensures none { IfNone result ((k : Keyword) → bytes.now ≢ spec.keyword_text k) }
     ensures spelled { IfSome result (λ k. bytes.now ≡ spec.keyword_text k) }
@@ -126,7 +126,7 @@ pub fn keyword(bytes: &[u8]) -> Option<Keyword>
     }
 }
 
-/// The longest sign that the text begins with, and its length.
+/// Returns the longest sign that the text begins with, and its length.
 pub fn sign(text: &[u8]) -> Option<(Sign, usize)>
     ensures none { IfNone result ((s : Sign) (rest : List ℕ) → text.now ≢ spec.sign_text s ++ rest) }
     ensures len { IfSome result (λ found. found.1 ≡ length (spec.sign_text found.0)) }

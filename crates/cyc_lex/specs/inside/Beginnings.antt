@@ -1,9 +1,9 @@
--- What the first byte, the middle byte and the length of a name tell of which keyword it is.
+-- The keyword that the first byte, the middle byte and the length of a name single out.
 use Rattle.std.specs.Prelude.{ℕ, ◌==◌, nat_lt, if◌then◌else◌, Option, Some, None}
 use Rattle.cyc_syntax.specs.declared.tokens.Keyword.{Keyword}
 use Rattle.cyc_syntax.specs.declared.tokens.Keyword.TheVariants as words
 
--- the one keyword that may have this first byte, this middle byte and this length
+-- the only keyword that may have this first byte, this middle byte and this length
 abbrev pub likely_keyword : (first middle len : ℕ) → Option Keyword
 likely_keyword b m n =
     if nat_lt n 2 then None

@@ -5,11 +5,11 @@ use Rattle.cyc_syntax.specs.Spelling.{HasNoClose}
 use Rattle.cyc_syntax.proofs.PieceLemmas.{HasNoClose-from_has_close}
 use Rattle.cyc_lex.proofs.CommentLemmas.{ClosesAt, closes_at, first_close, not_yet, star_more}
 use Rattle.cyc_lex.proofs.runs.closed_len.Goals as goal
-use Rattle.cyc_lex.proofs.runs.closed_len.Goals.{Then-b-eq47, else-behind_star-via-then-behind_star+else-b-eq47, else-behind_star-via-else-behind_star}
+use Rattle.cyc_lex.proofs.runs.closed_len.Goals.{Then-b-eq47, else-after_star-via-then-after_star+else-b-eq47, else-after_star-via-else-after_star}
 
--- the comment ends here
+-- the comment is closed at this index
 closes : (c : Then-b-eq47) → ClosesAt c.args.text.now c.loop-i.i
-closes c = closes_at c.args.text.now c.loop-i.i c.loop-i-test.true (sym c.loop-i.invariant.behind_star ∙ c.if-behind_star.true) c.if-b-eq47.true
+closes c = closes_at c.args.text.now c.loop-i.i c.loop-i-test.true (sym c.loop-i.invariant.after_star ∙ c.if-after_star.true) c.if-b-eq47.true
 
 pub returns-then-b-eq47-clause-closed : goal.returns-then-b-eq47-clause-closed
 returns-then-b-eq47-clause-closed c = (closes c).close
@@ -22,11 +22,11 @@ loop-i-preserved c =
     let text = c.args.text.now in
     let i = c.loop-i.i in
     record {
-      behind_star = star_more text i c.loop-i-test.true;
+      after_star = star_more text i c.loop-i-test.true;
       no_close = not_yet text i c.loop-i-test.true c.loop-i.invariant.no_close
-          (elim c.else-behind_star.branch [
-            | else-behind_star-via-then-behind_star+else-b-eq47 w ↦ and_right _ _ (ne_eqb _ 47 w.if-b-eq47.false)
-            | else-behind_star-via-else-behind_star w ↦ and_left _ _ (sym c.loop-i.invariant.behind_star ∙ w.if-behind_star.false)
+          (elim c.else-after_star.branch [
+            | else-after_star-via-then-after_star+else-b-eq47 w ↦ and_right _ _ (ne_eqb _ 47 w.if-b-eq47.false)
+            | else-after_star-via-else-after_star w ↦ and_left _ _ (sym c.loop-i.invariant.after_star ∙ w.if-after_star.false)
           ]);
     }
 

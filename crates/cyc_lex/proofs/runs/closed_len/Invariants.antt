@@ -5,6 +5,6 @@ use Rattle.cyc_lex.proofs.runs.closed_len.Given as goal
 
 abbrev pub invariant-loop-i : goal.invariant-loop-i
 invariant-loop-i l = record {
-  behind_star : l.behind_star ≡ ends_in_star (take l.i l.text);
+  after_star : l.after_star ≡ ends_in_star (take l.i l.text);
   no_close : has_close (take l.i l.text) ≡ false;
 }
