@@ -1,4 +1,4 @@
--- What the parser answers, in the grammar's words.
+-- The parser's results, stated in terms of the grammar.
 use Rattle.std.proofs.Common.{◌≡◌, ◌⊎◌, ℕ, List, [], ◌∷◌, length, inl, inr, Result, Ok, Err, refl, sym, ap, subst, ◌∙◌}
 use Rattle.std.specs.Prelude.{IfOk, IfErr, MatchResult}
 use Rattle.std.proofs.lemmas.List.{length-map}
@@ -22,7 +22,7 @@ use Rattle.cyc_parse.proofs.Locality.{one_refusal}
 use Rattle.cyc_parse.proofs.Soundness.{program_of-sound, answered_weight}
 use Rattle.cyc_parse.proofs.Refused.{program_of-refused, within_limits_answered, first_limit_refused}
 
--- ---- a whole program is one that leaves nothing
+-- ---- a whole program uses up all symbols
 
 whole_ok : (outcome : Outcome (List Declaration)) (ds : List Declaration) → and_then outcome at_end ≡ Ok (ds, []) → outcome ≡ Ok (ds, [])
 whole_ok (Ok (es, [])) ds e = e
@@ -41,7 +41,7 @@ whole_refuses : (ts : List Symbol) (refusal : Refusal) → program_of ts ≡ Err
 unfolding bind
 whole_refuses ts refusal e = ap (λ (o : Outcome (List Declaration)). and_then o at_end) e
 
--- the parser leaves nothing, so a whole program is refused only where its symbols are
+-- the program parser uses up all symbols, so a whole program is rejected only if the program parser rejects it
 whole_err : (ts : List Symbol) (outcome : Outcome (List Declaration)) (refusal : Refusal) → program_of ts ≡ outcome → and_then outcome at_end ≡ Err refusal → program_of ts ≡ Err refusal
 whole_err ts (Ok (ds, [])) refusal is e = absurd (cc)
 whole_err ts (Ok (ds, s ∷ left)) refusal is e = absurd (impossible (program_of-sound ts (s ∷ left) ds is).all)
@@ -105,7 +105,7 @@ accepts text tokens (Err fault) (inr h) tree has within = absurd (differ tree h.
 
 limit_refused : (tokens : List Token) (refusal : Refusal) → BreaksLimit tokens refusal → whole_program (symbols_of tokens) ≡ Err refusal
 limit_refused tokens refusal b = whole_refuses (symbols_of tokens) refusal
-    (ap program_of b.are ∙ first_limit_refused b.front b.behind b.symbol b.tree refusal.reason (subst (λ (ts : List Symbol). HasTree ts b.tree) b.are b.has) b.breaks
+    (ap program_of b.are ∙ first_limit_refused b.front b.following b.symbol b.tree refusal.reason (subst (λ (ts : List Symbol). HasTree ts b.tree) b.are b.has) b.breaks
     ∙ ap (λ (left : List Symbol). Err (record { reason = refusal.reason; left = left })) (sym b.left))
 
 limits : (text : List ℕ) (tokens : List Token) (result : Result Tree Fault) → IsAnswer text tokens result

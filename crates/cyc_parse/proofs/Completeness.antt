@@ -1,5 +1,4 @@
--- COMPLETENESS: where symbols have a tree, the parser answers that tree, or the refusal of the first limit that it
--- breaks.
+-- COMPLETENESS: if symbols have a tree, the parser returns that tree, or the rejection for the first limit that it breaks.
 use Rattle.std.proofs.Common.{◌≡◌, ℕ, zero, suc, ◌≤◌, List, [], ◌∷◌, ◌++◌, length, Some, None, Ok, refl, sym, ap, subst, ◌∙◌, arith, length-append}
 use Rattle.cyc_syntax.specs.Symbols.{Symbol}
 use Rattle.cyc_syntax.specs.Trees.{Declaration, StructType, Exceptions, Global, Function, WrittenType, BaseType, Int, Char, Struct, Handle, Key}
@@ -11,7 +10,7 @@ use Rattle.cyc_parse.specs.inside.Declarations.{declaration, declarations_in, pr
 use Rattle.cyc_parse.proofs.Rules.{Front, judge, Reads, Always, front-length, then_reads, last_reads, pure_reads, reads_instead}
 use Rattle.cyc_parse.proofs.DeclarationReads.{all_declarations}
 
--- the text ends
+-- no symbols are left: the text ends
 pub record IsEnd (ts : List Symbol) : Type 0 where
   pub end : ts ≡ []
 

@@ -1,10 +1,10 @@
--- How the parser of a text ends: a program that is read whole leaves nothing, and a refusal has its place in the text.
+-- The end of the parse of a text: a successful parse leaves no symbol, and a rejection has its place in the text.
 use Rattle.std.proofs.Common.{◌≡◌, ◌⊎◌, ℕ, List, [], ◌∷◌, map, fold, inl, inr, Ok, Err, sym, ap, ◌∙◌}
 use Rattle.cyc_words.specs.Fault.{memory_fault}
 use Rattle.cyc_words.specs.declared.fault.Fault.{Fault}
 use Rattle.cyc_words.specs.declared.span.Span.{Span}
 use Rattle.cyc_syntax.specs.Names.{with_text}
-use Rattle.cyc_syntax.specs.inside.Place.{IsBehind}
+use Rattle.cyc_syntax.specs.inside.Place.{IsAfter}
 use Rattle.cyc_syntax.specs.Tokens.{Token}
 use Rattle.cyc_syntax.specs.inside.TreeView.{place_of_span}
 use Rattle.cyc_syntax.specs.Symbols.{Symbol, texts_in, symbol_of, symbols_of}
@@ -28,11 +28,11 @@ pub whole_ends : (ts : List Symbol) (ds : List Declaration) (left : List Symbol)
 unfolding bind
 whole_ends ts ds left e = e ∙ ap (λ (us : List Symbol). Ok (ds, us)) (end_leaves_none (program_of ts) ds left e)
 
--- The place behind the whole text is its end.
-pub end_behind : (text : List ℕ) (end : Span) → IsBehind end text → place_of_span end ≡ end_of text
-end_behind text end behind = (λ i. record { line = behind.line i; column = behind.column i })
+-- The place after the whole text is the end of the text.
+pub end_after : (text : List ℕ) (end : Span) → IsAfter end text → place_of_span end ≡ end_of text
+end_after text end following = (λ i. record { line = following.line i; column = following.column i })
 
--- The symbols are those of the tokens.
+-- A rejection of the tokens' symbols is a rejection of the text's tokens.
 pub refused_of : (text : List ℕ) (tokens : List Token) (seen names : List (List ℕ)) (symbols : List Symbol) (fault : Fault)
     → seen ≡ [] → names ≡ fold with_text seen (texts_in tokens) → symbols ≡ map (symbol_of names) tokens
     → (fault ≡ memory_fault) ⊎ IsRefused (end_of text) symbols fault → IsAnswer text tokens (Err fault)

@@ -1,6 +1,6 @@
--- What a parser that answers has read: symbols that a yield spells and whose leaves keep the limits. And what one has
--- read that refuses for a limit: the first symbols of a yield, up to the one refused. Here are the rules by which both
--- follow for parsers made of parsers.
+-- If a parser succeeds, it has read symbols that a yield spells and whose leaves keep the limits. If it rejects for a limit, it has read
+-- the first symbols of a yield, up to the rejected one. This file contains the rules for composed parsers by which both facts, on yields
+-- and on first symbols, follow.
 use Rattle.std.proofs.Common.{◌≡◌, ℕ, ◌≤◌, Bool, true, false, List, [], ◌∷◌, ◌++◌, Option, Some, None, Ok, Err, refl, sym, ap, subst, ◌∙◌, append_assoc}
 use Rattle.std.specs.Option.{IfSome}
 use Rattle.std.specs.List.{AllByRecursion}
@@ -14,14 +14,14 @@ use Rattle.cyc_parse.proofs.Rules.{Front, leaf_at}
 use Rattle.cyc_parse.proofs.Locality.{left_of, one_refusal}
 use Rattle.cyc_parse.proofs.LocalExpressions.{was_read}
 
--- Symbols begin with a yield that keeps the limits, of which this holds.
+-- The symbols begin with a yield that keeps the limits and satisfies `Post`.
 pub record Derived (ts rest : List Symbol) (Post : Yield → Type 0) : Type 0 where
   pub leaves : Yield
   pub front : Front leaves ts rest
   pub within : AllByRecursion IsWithin leaves
   pub post : Post leaves
 
--- The yield begins with the symbols, up to the first of those that are left.
+-- The yield begins with the symbols up to the first of those left.
 pub record Begins (leaves : Yield) (ts left : List Symbol) : Type 0 where
   pub done : Yield
   pub more : Yield
@@ -31,7 +31,7 @@ pub record Begins (leaves : Yield) (ts left : List Symbol) : Type 0 where
   pub left_are : left ≡ symbol ∷ back
   pub front : Front done ts back
 
--- something of which it holds, where no symbol follows
+-- some result satisfies `Post` with no symbol after it
 pub record Possible {A : Type 0} (Post : A → Yield → List Symbol → Type 0) : Type 0 where
   pub value : A
   pub leaves : Yield
@@ -40,16 +40,16 @@ pub record Possible {A : Type 0} (Post : A → Yield → List Symbol → Type 0)
 pub possibly : {A : Type 0} {Post : A → Yield → List Symbol → Type 0} (x : A) (ls : Yield) → Post x ls [] → Possible Post
 possibly x ls post = record { value = x; leaves = ls; post = post }
 
--- the same, beginning with a symbol that has this terminal and this place
+-- some result satisfies `Post` and its yield begins with a symbol of this terminal and this place
 pub record Opened {A : Type 0} (Post : A → Yield → List Symbol → Type 0) (u : Terminal) (p : Place) : Type 0 where
   pub value : A
   pub leaf : Leaf
-  pub behind : Yield
+  pub following : Yield
   pub terminal : u ≡ leaf.terminal
   pub place : IfSome leaf.place (λ q. p ≡ q)
-  pub post : Post value (leaf ∷ behind) []
+  pub post : Post value (leaf ∷ following) []
 
--- the same, beginning with these symbols up to one that is refused
+-- some result satisfies `Post` and its yield begins with these symbols, up to the rejected one
 pub record Completed {A : Type 0} (Post : A → Yield → List Symbol → Type 0) (ts left : List Symbol) : Type 0 where
   pub value : A
   pub leaves : Yield
@@ -61,15 +61,15 @@ IsLimit Unexpected = ⊥
 IsLimit TooDeep = Unit {0}
 IsLimit TooLong = Unit {0}
 
--- What holds of each answer on these symbols: of what is answered, of what it was read from, and of the symbols that
--- are left. Where a limit refuses a symbol, the symbols up to it begin something of which it holds.
+-- A fact about each result on these symbols: about the value, the symbols read, and the symbols left. If a limit rejects a symbol, the
+-- symbols up to it begin some result that satisfies the fact.
 pub record Gives {A : Type 0} (p : Parser A) (Post : A → Yield → List Symbol → Type 0) (ts : List Symbol) : Type 0 where
   pub gives : (rest : List Symbol) (x : A) → p ts ≡ Ok (x, rest) → Derived ts rest (λ ls. Post x ls rest)
   pub goes : (e : Refusal) → p ts ≡ Err e → IsLimit e.reason → Completed Post ts e.left
-  -- where no symbols are left, there is something of which it holds
+  -- if no symbols are left, some result satisfies the fact
   pub ending : ts ≡ [] → Possible Post
 
--- behind leaves that were read before, the yield of what is answered, and what is asked of it
+-- the fact for leaves read before, followed by the yield of the result, and a condition on the result
 abbrev pub Follows : {A : Type 0} → Yield → (A → Yield) → (A → List Symbol → Type 0) → A → Yield → List Symbol → Type 0
 Follows before yield Is x ls rest = (before ++ ls ≡ yield x) × Is x rest
 
@@ -89,8 +89,8 @@ pub within-append : (xs ys : Yield) → AllByRecursion IsWithin xs → AllByRecu
 within-append [] ys f g = g
 within-append (l ∷ xs) ys (one, f) g = (one, within-append xs ys f g)
 
-begins_behind : (xs : Yield) {ys : Yield} {ts mid left : List Symbol} → Front xs ts mid → Begins ys mid left → Begins (xs ++ ys) ts left
-begins_behind xs {ts = ts} {mid = mid} front b = record {
+begins_after : (xs : Yield) {ys : Yield} {ts mid left : List Symbol} → Front xs ts mid → Begins ys mid left → Begins (xs ++ ys) ts left
+begins_after xs {ts = ts} {mid = mid} front b = record {
   done = xs ++ b.done;
   more = b.more;
   symbol = b.symbol;
@@ -100,10 +100,10 @@ begins_behind xs {ts = ts} {mid = mid} front b = record {
   front = front-append xs b.done ts mid b.back front b.front;
 }
 
--- behind one symbol
+-- a yield that begins with the symbols still does so after one more leaf
 pub leaf_begins : (leaf : Leaf) (t : Symbol) {ys : Yield} {more mid left : List Symbol} → t.terminal ≡ leaf.terminal → IfSome leaf.place (λ q. t.place ≡ q) → more ≡ mid → Begins ys mid left
     → Begins (leaf ∷ ys) (t ∷ more) left
-leaf_begins leaf t {more = more} terminal place same b = begins_behind (leaf ∷ []) (t, more, refl, record { terminal = terminal; place = place }, same) b
+leaf_begins leaf t {more = more} terminal place same b = begins_after (leaf ∷ []) (t, more, refl, record { terminal = terminal; place = place }, same) b
 
 begins_before : {xs : Yield} (ys : Yield) {ts left : List Symbol} → Begins xs ts left → Begins (xs ++ ys) ts left
 begins_before ys b = record {
@@ -116,12 +116,12 @@ begins_before ys b = record {
   front = b.front;
 }
 
--- the refused symbol is the first
-pub begins_here : (leaf : Leaf) (behind : Yield) (t : Symbol) (more left : List Symbol) → t.terminal ≡ leaf.terminal → IfSome leaf.place (λ q. t.place ≡ q) → left ≡ t ∷ more
-    → Begins (leaf ∷ behind) (t ∷ more) left
-begins_here leaf behind t more left terminal place same = record {
+-- the rejected symbol is the first one
+pub begins_here : (leaf : Leaf) (following : Yield) (t : Symbol) (more left : List Symbol) → t.terminal ≡ leaf.terminal → IfSome leaf.place (λ q. t.place ≡ q) → left ≡ t ∷ more
+    → Begins (leaf ∷ following) (t ∷ more) left
+begins_here leaf following t more left terminal place same = record {
   done = leaf ∷ [];
-  more = behind;
+  more = following;
   symbol = t;
   back = more;
   are = refl;
@@ -129,7 +129,7 @@ begins_here leaf behind t more left terminal place same = record {
   front = (t, more, refl, record { terminal = terminal; place = place }, refl);
 }
 
--- ---- refusals
+-- ---- rejections
 
 pub no_limit : {P : Type 0} {A : Type 0} (left : List Symbol) (e : Refusal) → ◌≡◌ {A = Outcome A} (Err (record { reason = Unexpected; left = left })) (Err e) → IsLimit e.reason → P
 no_limit left e h limit = absurd (subst IsLimit (sym (ap (λ (r : Refusal). r.reason) (one_refusal _ e h))) limit)
@@ -137,7 +137,7 @@ no_limit left e h limit = absurd (subst IsLimit (sym (ap (λ (r : Refusal). r.re
 pub no_refusal : {P : Type 0} {A : Type 0} {e : Refusal} {r : A × List Symbol} → ◌≡◌ {A = Outcome A} (Ok r) (Err e) → P
 no_refusal h = absurd (cc)
 
--- either of two parsers refuses
+-- a composed parser rejects: either its first part rejects, or its second part does
 pub data WasRefused {A B : Type 0} (p : Parser A) (f : A → Parser B) (ts : List Symbol) (e : Refusal) : Type 0 where
   in_first : p ts ≡ Err e → WasRefused p f ts e
   in_second : (x : A) (mid : List Symbol) → p ts ≡ Ok (x, mid) → f x mid ≡ Err e → WasRefused p f ts e
@@ -180,9 +180,9 @@ part_then {p = p} {f = f} {Q = Q} {ts = ts} first second = record {
     completed e limit (in_second x mid h k) =
         let a = first.gives mid x h in
         let b = (second x a.leaves mid a.post).goes e k limit in
-        record { value = b.value; leaves = a.leaves ++ b.leaves; begins = begins_behind a.leaves a.front b.begins; post = b.post }
+        record { value = b.value; leaves = a.leaves ++ b.leaves; begins = begins_after a.leaves a.front b.begins; post = b.post }
 
--- a part whose yield is known
+-- a first part with a known yield, followed by another parser
 pub spelled_then : {A B : Type 0} {p : Parser A} {f : A → Parser B} {yield : A → Yield} {Is : A → List Symbol → Type 0} {Q : B → Yield → List Symbol → Type 0} {ts : List Symbol}
     → Gives p (Spells yield Is) ts → ((x : A) (mid : List Symbol) → Is x mid → Gives (f x) (λ y ys rest. Q y (yield x ++ ys) rest) mid) → Gives (bind p f) Q ts
 spelled_then {f = f} {yield = yield} {Q = Q} first second =
@@ -192,7 +192,7 @@ abbrev pub answer_of : {A : Type 0} → A → Outcome A → A
 answer_of other (Ok q) = q.0
 answer_of other (Err e) = other
 
--- a last part, and something made of it
+-- a last part, and a node made of its result
 pub last_then : {A B : Type 0} {p : Parser A} (make : A → B) {yield : A → Yield} {Is : A → List Symbol → Type 0} {Q : B → Yield → List Symbol → Type 0} {ts : List Symbol}
     → Gives p (Spells yield Is) ts → ((x : A) (rest : List Symbol) → Is x rest → Q (make x) (yield x) rest) → Gives (bind p (λ x. pure (make x))) Q ts
 last_then {A} {B} {p = p} make {yield = yield} {Is = Is} {Q = Q} {ts = ts} first post = record {
@@ -232,9 +232,9 @@ pure_gives {A} {Q = Q} {ts = ts} {x = x} post = record {
   ending = λ none. record { value = x; leaves = []; post = subst (λ (s : List Symbol). Q x [] s) none post };
 }
 
--- ---- parsers that refuse
+-- ---- parsers that reject
 
--- what comes is unexpected
+-- a parser that rejects the next symbol as unexpected
 pub unexpected_gives : {A : Type 0} {Q : A → Yield → List Symbol → Type 0} {ts : List Symbol} → Possible Q → Gives (refuse {A = A} Unexpected) Q ts
 unexpected_gives {ts = ts} possible = record { gives = λ rest y h. absurd (cc); goes = λ e h limit. no_limit ts e h limit; ending = λ none. possible }
 
@@ -255,9 +255,9 @@ then_unexpected {A} {Q = Q} {ts = ts} possible = record {
 
 completed_here : {A : Type 0} {Q : A → Yield → List Symbol → Type 0} (t : Symbol) (more left : List Symbol) → left ≡ t ∷ more → Opened Q t.terminal t.place → Completed Q (t ∷ more) left
 completed_here t more left same o =
-    record { value = o.value; leaves = o.leaf ∷ o.behind; begins = begins_here o.leaf o.behind t more left o.terminal o.place same; post = o.post }
+    record { value = o.value; leaves = o.leaf ∷ o.following; begins = begins_here o.leaf o.following t more left o.terminal o.place same; post = o.post }
 
--- a limit refuses this symbol
+-- a parser that rejects the next symbol for a limit
 pub limit_gives : {A : Type 0} {Q : A → Yield → List Symbol → Type 0} {ts : List Symbol} (why : Reason) (u : Terminal) → next ts ≡ Some u → ((p : Place) → Opened Q u p) → Gives (refuse {A = A} why) Q ts
 limit_gives {A} {Q = Q} {ts = ts} why u comes opened = record {
   gives = λ rest y h. absurd (cc);
@@ -272,7 +272,7 @@ limit_gives {A} {Q = Q} {ts = ts} why u comes opened = record {
     start [] e is same = absurd (nothing is)
     start (t ∷ more) e is same = let terminal : t.terminal ≡ u = cc in completed_here t more e.left (sym same) (subst (λ (w : Terminal). Opened Q w t.place) (sym terminal) (opened t.place))
 
--- of the symbols that may begin an item, each begins one
+-- each symbol that may begin an item does begin one
 pub begun_gives : {A : Type 0} {Q : A → Yield → List Symbol → Type 0} {ts : List Symbol} (begins : Terminal → Bool) (why : Reason) → starts begins (next ts) ≡ true
     → ((u : Terminal) (p : Place) → begins u ≡ true → Opened Q u p) → Gives (refuse {A = A} why) Q ts
 begun_gives {A} {Q = Q} {ts = ts} begins why comes opened = go (next ts) refl comes
@@ -299,9 +299,9 @@ item_refusal_gives {A} {Q = Q} {ts = ts} begins why possible opened = record {
     start [] e h limit = no_limit [] e h limit
     start (t ∷ more) e h limit = by_begin (begins t.terminal) t more e refl h limit
 
--- ---- said otherwise
+-- ---- weakening and rewriting of facts
 
--- what holds may be said otherwise
+-- a fact may be replaced by one that it implies
 pub gives_as : {A : Type 0} {p : Parser A} {P Q : A → Yield → List Symbol → Type 0} {ts : List Symbol} → ((x : A) (ls : Yield) (rest : List Symbol) → P x ls rest → Q x ls rest) → Gives p P ts → Gives p Q ts
 gives_as weaker h = record {
   gives = λ rest x e. let a = h.gives rest x e in record { leaves = a.leaves; front = a.front; within = a.within; post = weaker x a.leaves rest a.post };
@@ -309,7 +309,7 @@ gives_as weaker h = record {
   ending = λ none. let a = h.ending none in record { value = a.value; leaves = a.leaves; post = weaker a.value a.leaves [] a.post };
 }
 
--- the parser does here what another does
+-- a parser may be replaced by one that returns an equal result on these symbols
 pub gives_instead : {A : Type 0} {p : Parser A} (q : Parser A) {Q : A → Yield → List Symbol → Type 0} {ts : List Symbol} → p ts ≡ q ts → Gives q Q ts → Gives p Q ts
 gives_instead q same h = record { gives = λ rest x e. h.gives rest x (sym same ∙ e); goes = λ e is limit. h.goes e (sym same ∙ is) limit; ending = h.ending }
 
@@ -341,24 +341,24 @@ item_gives {yield = yield} i few h = record {
   ending = λ none. let a = h.ending none in record { value = a.value; leaves = item_number i a.leaves; post = (ap (item_number i) a.post.0, a.post.1) };
 }
 
--- ---- what begins with a symbol
+-- ---- results whose yield begins with a given symbol
 
-pub opened_at : {A : Type 0} {Q : A → Yield → List Symbol → Type 0} (d : ℕ) (u : Terminal) (p : Place) (x : A) (behind : Yield) → Q x (leaf_at d u p ∷ behind) [] → Opened Q u p
-opened_at d u p x behind post = record { value = x; leaf = leaf_at d u p; behind = behind; terminal = refl; place = refl; post = post }
+pub opened_at : {A : Type 0} {Q : A → Yield → List Symbol → Type 0} (d : ℕ) (u : Terminal) (p : Place) (x : A) (following : Yield) → Q x (leaf_at d u p ∷ following) [] → Opened Q u p
+opened_at d u p x following post = record { value = x; leaf = leaf_at d u p; following = following; terminal = refl; place = refl; post = post }
 
--- whose place is not kept, and which is the item of this number
-pub opened_item : {A : Type 0} {Q : A → Yield → List Symbol → Type 0} (d i : ℕ) (u : Terminal) (p : Place) (x : A) (behind : Yield) → Q x (record { terminal = u; place = None; nesting = d; item = i } ∷ behind) [] → Opened Q u p
-opened_item d i u p x behind post = record { value = x; leaf = record { terminal = u; place = None; nesting = d; item = i }; behind = behind; terminal = refl; place = tt; post = post }
+-- a result whose first leaf has no stored place and is the item of this number
+pub opened_item : {A : Type 0} {Q : A → Yield → List Symbol → Type 0} (d i : ℕ) (u : Terminal) (p : Place) (x : A) (following : Yield) → Q x (record { terminal = u; place = None; nesting = d; item = i } ∷ following) [] → Opened Q u p
+opened_item d i u p x following post = record { value = x; leaf = record { terminal = u; place = None; nesting = d; item = i }; following = following; terminal = refl; place = tt; post = post }
 
 pub numbered : {A : Type 0} {yield : A → Yield} {Is : A → List Symbol → Type 0} {u : Terminal} {p : Place} (i : ℕ) → Opened (Spells yield Is) u p → Opened (Spells (λ x. item_number i (yield x)) Is) u p
-numbered i o = record { value = o.value; leaf = record o.leaf { item = i }; behind = o.behind; terminal = o.terminal; place = o.place; post = (ap (item_number i) o.post.0, o.post.1) }
+numbered i o = record { value = o.value; leaf = record o.leaf { item = i }; following = o.following; terminal = o.terminal; place = o.place; post = (ap (item_number i) o.post.0, o.post.1) }
 
--- a part that begins so, and what stands behind it
+-- a part whose yield begins with the symbol, followed by another part
 pub opened_then : {A B : Type 0} {yield : A → Yield} {Is : A → List Symbol → Type 0} {Q : B → Yield → List Symbol → Type 0} {u : Terminal} {p : Place}
     → Opened (Spells yield Is) u p → ((x : A) → Is x [] → Possible (λ y ys rest. Q y (yield x ++ ys) rest)) → Opened Q u p
 opened_then {Q = Q} o more =
     let b = more o.value o.post.1 in
-    record { value = b.value; leaf = o.leaf; behind = o.behind ++ b.leaves; terminal = o.terminal; place = o.place; post = subst (λ (zs : Yield). Q b.value (zs ++ b.leaves) []) (sym o.post.0) b.post }
+    record { value = b.value; leaf = o.leaf; following = o.following ++ b.leaves; terminal = o.terminal; place = o.place; post = subst (λ (zs : Yield). Q b.value (zs ++ b.leaves) []) (sym o.post.0) b.post }
 
 pub opening_as : {A : Type 0} {P Q : A → Yield → List Symbol → Type 0} {u : Terminal} {p : Place} → ((x : A) (ls : Yield) → P x ls [] → Q x ls []) → Opened P u p → Opened Q u p
-opening_as weaker o = record { value = o.value; leaf = o.leaf; behind = o.behind; terminal = o.terminal; place = o.place; post = weaker o.value (o.leaf ∷ o.behind) o.post }
+opening_as weaker o = record { value = o.value; leaf = o.leaf; following = o.following; terminal = o.terminal; place = o.place; post = weaker o.value (o.leaf ∷ o.following) o.post }

@@ -1,4 +1,4 @@
--- What the parsers of declarations answer is what the symbols spell, formed as the grammar asks.
+-- The parsers of declarations return a tree that the symbols spell and that is well-formed by the grammar.
 use Rattle.std.proofs.Common.{◌≡◌, ℕ, zero, suc, ◌+◌, ◌≤◌, Bool, true, List, [], ◌∷◌, ◌++◌, ◌⊎◌, inl, inr, Option, Some, None, Ok, Err, refl, sym, ap, ◌∙◌, arith, append-nil, append_assoc}
 use Rattle.std.specs.List.{AllByRecursion}
 use Rattle.cyc_syntax.specs.declared.tokens.Keyword.TheVariants as words
@@ -33,7 +33,7 @@ module _ {A : Type 0} (begins : Terminal → Bool) (item : Parser A) (yield : A 
   some_of_gives : (ts : List Symbol) → Gives (some_of begins item) (Spells (yields.each yield 1) (λ xs _. IsNonempty xs)) ts
   some_of_gives ts = spelled_then (item_gives 1 (omega arith) (h ts)) (λ x mid _. last_then (λ xs. x ∷ xs) (more_of_give 63 2 refl mid) (λ xs rest _. (refl, tt)))
 
--- ---- parts with brackets of their own, where one level of room may be left
+-- ---- parts with their own brackets, with possibly one level of room left
 
 int_rest : (room d : ℕ) → Fits room d → (ts : List Symbol) → Gives (bind (sign room signs.LeftParen) (λ _. bind (word (inside room) words.Int) (λ _. bind (sign (inside room) signs.RightParen) (λ _. pure true)))) (Spells (yields.has_int d) Any) ts
 int_rest zero d fits ts = stuck_sign d signs.LeftParen _ (possibly true _ (refl, tt))
@@ -96,7 +96,7 @@ number_is : (u : Terminal) (n : ℕ) → number_value u ≡ Some n → u ≡ ter
 number_is (terminals.Number m) n h = cc
 number_is _ n h = absurd (cc)
 
--- A global's value, behind its sign. The nesting is that of the sign.
+-- The value of a global after its sign is parsed at the nesting of the sign.
 value_gives : (room d : ℕ) → Fits (suc room) d → suc d ≤ max_nesting → (o : Option Terminal) (ts : List Symbol) → next ts ≡ o
     → Gives (value_by room o) (Follows (leaf_of d (Mark signs.Assign) ∷ []) (yields.global_value d) Any) ts
 value_gives room d fits shallow (Some (terminals.Number n)) ts e = advance_then (suc d) (terminals.Number n) e shallow (λ p mid. pure_gives (refl, tt))
@@ -113,7 +113,7 @@ value_gives room d fits shallow _ ts e = unexpected_gives (possibly (Positive so
 any_value_gives : (room d : ℕ) → Fits (suc room) d → suc d ≤ max_nesting → (ts : List Symbol) → Gives (value room) (Follows (leaf_of d (Mark signs.Assign) ∷ []) (yields.global_value d) Any) ts
 any_value_gives room d fits shallow ts = choose_gives (λ o e. value_gives room d fits shallow o ts e)
 
--- with at least one level of room left in brackets
+-- ---- with at least one level of room left inside brackets
 module _ (room d : ℕ) (fits : Fits (suc room) d) (shallow : suc d ≤ max_nesting) where
   deeper : Fits room (suc d)
   deeper = omega arith
@@ -139,7 +139,7 @@ module _ (room d : ℕ) (fits : Fits (suc room) d) (shallow : suc d ≤ max_nest
   struct_fields_give s rs ts = sign_then (suc room) d signs.LeftBrace fits (λ _ mid. spelled_then (some_of_gives begins_type (field room) (yields.field (suc d)) (field_gives room (suc d) deeper shallow) (field_opened (suc d)) mid) (λ fs mid some.
       sign_then room (suc d) signs.RightBrace deeper (λ _ mid. sign_then (suc room) d signs.Semicolon fits (λ _ mid. pure_gives (refl, some)))))
 
-  -- `struct`, whose place a type keeps and a declared struct does not
+  -- `struct`, whose place is stored by a type but not by a struct declaration
   struct_then : {C : Type 0} {f : Place → Parser C} {Q : C → Yield → List Symbol → Type 0} {ts : List Symbol} → next ts ≡ Some (Word words.Struct)
       → ((q : Place) (mid : List Symbol) → Gives (f q) (λ y ys rest. Q y (leaf_at d (Word words.Struct) q ∷ ys) rest ⊎ Q y (leaf_of d (Word words.Struct) ∷ ys) rest) mid) → Gives (bind advance f) Q ts
   unfolding bind

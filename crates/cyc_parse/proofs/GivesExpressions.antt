@@ -1,4 +1,4 @@
--- What the parsers of expressions answer is what the symbols spell, formed as the grammar asks.
+-- The parsers of expressions return a tree that the symbols spell and that is well-formed by the grammar.
 use Rattle.std.proofs.Common.{◌≡◌, ℕ, zero, suc, ◌+◌, ◌≤◌, ◌<◌, Bool, true, false, List, [], ◌∷◌, ◌++◌, length, Option, Some, None, refl, sym, ap, subst, ◌∙◌, arith, append-nil, append_assoc, eqb-true}
 use Rattle.std.specs.Prelude.{nat_eq, if◌then◌else◌}
 use Rattle.std.specs.List.{AllByRecursion}
@@ -53,7 +53,7 @@ module _ (d : ℕ) (shallow : d ≤ max_nesting) where
   operations_give operand k h zero i count ts = is_gives (operator_at (suc k)) (λ o e. let (comes, same) = operator_read (suc k) (next ts) o e in limit_gives TooLong (Mark (operator_sign o)) comes (λ p. record {
     value = ThenOperation o p (zero_at p) NoOperations;
     leaf = record { terminal = Mark (operator_sign o); place = Some p; nesting = d; item = i };
-    behind = leaf_at d (terminals.Number 0) p ∷ [];
+    following = leaf_at d (terminals.Number 0) p ∷ [];
     terminal = refl;
     place = refl;
     post = (refl, (same, tt, tt));
@@ -93,7 +93,7 @@ chain_are : (es : List Expression) → AllByRecursion (λ e. IsExpression 11 e) 
 chain_are [] all = tt
 chain_are (e ∷ es) (is, all) = (is, chain_are es all)
 
--- ---- at one depth
+-- ---- the parsers at one depth
 
 pub record NestedGive (d : ℕ) (inner : Nested) : Type 0 where
   pub unary : (ts : List Symbol) → Gives inner.unary (Spells (yields.expression d) (Level 0)) ts
@@ -194,7 +194,7 @@ module _ (room d : ℕ) (inner : Nested) (fits : Fits (suc room) d) (h : NestedG
   climbed_gives : (e : Expression) → IsExpression 0 e → (ts : List Symbol) → Gives (climb (unary room inner) 10 e) (Follows (yields.expression d e) (yields.expression d) (Level 10)) ts
   climbed_gives e is ts = climb_gives d shallow (unary room inner) unary_gives 10 (omega arith) e is ts
 
-  -- the chains that begin with this name
+  -- the operator chains that begin with this name
   pub named_climb_gives : (x : Named) (ts : List Symbol) → Gives (bind (with_postfixes room inner (from_name room inner x)) (climb (unary room inner) 10)) (Follows (leaf_at d (Identifier x.name) x.place ∷ []) (yields.expression d) (Level 10)) ts
   named_climb_gives x ts = part_then (named_gives x ts) (λ e xs mid (eq, is). gives_as (λ y ys rest (e', is'). (ap (λ (zs : Yield). zs ++ ys) eq ∙ e', is')) (climbed_gives e is mid))
 
@@ -204,7 +204,7 @@ module _ (room d : ℕ) (inner : Nested) (fits : Fits (suc room) d) (h : NestedG
   expression_gives : (ts : List Symbol) → Gives (expression room inner) (Spells (yields.expression d) (Level 11)) ts
   expression_gives ts = spelled_then (binary_gives ts) (λ e mid is. assignment_gives e is mid)
 
-  -- ---- what `new` puts into the new object
+  -- ---- the initial contents of a new object
 
   more_values_give : (turns : ℕ) (ts : List Symbol) → Gives (more_values room inner turns) (Spells (yields.more_values (suc d)) (λ es _. AreExpressions es)) ts
   unfolding more_values

@@ -1,4 +1,4 @@
--- What the parsers of statements and items answer is what the symbols spell, formed as the grammar asks.
+-- The parsers of statements and items return a tree that the symbols spell and that is well-formed by the grammar.
 use Rattle.std.proofs.Common.{◌≡◌, ℕ, zero, suc, ◌≤◌, ◌<◌, Bool, true, false, ◌&&◌, ◌||◌, List, [], ◌∷◌, ◌++◌, length, Option, Some, refl, sym, ap, ◌∙◌, arith, append-nil, append_assoc, true≢false}
 use Rattle.cyc_words.proofs.Booleans.{and_right, anything_from_false_is_true}
 use Rattle.cyc_syntax.specs.declared.tokens.Keyword.TheVariants as words
@@ -11,7 +11,7 @@ use Rattle.cyc_syntax.specs.Grammar.{IsExpression, IsExpressionOrNone, wants_els
 use Rattle.cyc_parse.specs.inside.Parsing.{TooDeep, next, bind, pure, inside, sees, starts, opens_low_byte, sign, word, identifier}
 use Rattle.cyc_parse.specs.inside.Expressions.{nested}
 use Rattle.cyc_parse.specs.inside.Statements.{begins_statement, begins_item, begins_clause, is_case, is_default, is_else, is_unary, ends_in_new, end_of_swap, Nested, body, expression, expression_from, swap}
-use Rattle.cyc_parse.specs.inside.Statements.{behind, statement_from_name, else_part, return_value, thrown, caught, clauses_in, clauses, if_statement, while_statement, throw_statement, try_statement}
+use Rattle.cyc_parse.specs.inside.Statements.{following, statement_from_name, else_part, return_value, thrown, caught, clauses_in, clauses, if_statement, while_statement, throw_statement, try_statement}
 use Rattle.cyc_parse.specs.inside.Statements.{statement_by, statement, local_value, local, opened_key, region, alias, new_key, dynamic_region, let_by, executed, item_by, item, items_in, items, nested_statements}
 use Rattle.cyc_parse.proofs.Rules.{Fits, leaf_of, leaf_at}
 use Rattle.cyc_parse.proofs.Gives.{Gives, Follows, Spells, Any, part_then, spelled_then, last_then, pure_gives, possibly, unexpected_gives, then_unexpected, begun_gives, item_refusal_gives, gives_as, gives_instead}
@@ -25,7 +25,7 @@ unary_of (Binary e os) is u = absurd (cc)
 unary_of (Assign a b) is u = absurd (cc)
 unary_of e is u = is
 
--- ---- parts with brackets of their own, where one level of room may be left
+-- ---- parts with their own brackets, with possibly one level of room left
 
 closed_name : (room d : ℕ) → Fits room d → (ts : List Symbol)
     → Gives (bind (sign room signs.LeftParen) (λ _. bind (identifier (inside room)) (λ v. bind (sign (inside room) signs.RightParen) (λ _. pure (Some v))))) (Spells (yields.optional (yields.caught d)) Any) ts
@@ -52,7 +52,7 @@ end_of_swap_gives : (room d : ℕ) → Fits room d → (e : Expression) (ts : Li
 end_of_swap_gives room d fits e ts = sees_gives signs.Semicolon (bare_gives (sign_then room d signs.Semicolon fits (λ _ mid. pure_gives (refl, tt))))
     (test_gives (λ s. sees signs.Less s && ends_in_new e) (λ _. then_unexpected (possibly some_place _ (refl, tt))) (λ _. unexpected_gives (possibly some_place _ (refl, tt))))
 
--- ---- at one depth
+-- ---- the parsers at one depth
 
 pub record StatementsGive (d : ℕ) (inner : Nested) : Type 0 where
   pub statement : (ts : List Symbol) → Gives inner.statement (Spells (yields.statement d) IsStatementBefore) ts
@@ -84,18 +84,18 @@ module _ (room d : ℕ) (inner : Nested) (fits : Fits (suc room) d) (h : Stateme
   swap_gives : (a : Expression) → IsExpression 0 a → (ts : List Symbol) → Gives (swap room inner a) (Follows (yields.expression d a) (yields.statement d) IsStatementBefore) ts
   swap_gives a is ts = sign_then (suc room) d signs.Swap fits (λ _ mid. spelled_then (this.unary mid) (λ b mid isb. spelled_then (end_of_swap_gives (suc room) d fits b mid) (λ _ mid _. pure_gives (refl, ((is, isb), anything_from_false_is_true)))))
 
-  behind_gives : (e : Expression) → IsExpression 11 e → (ts : List Symbol) → Gives (behind room inner e) (Follows (yields.expression d e) (yields.statement d) IsStatementBefore) ts
-  behind_gives e is ts = test_gives (λ s. sees signs.Swap s && is_unary e) (λ t. swap_gives e (unary_of e is (and_right (sees signs.Swap ts) (is_unary e) t)) ts)
+  after_gives : (e : Expression) → IsExpression 11 e → (ts : List Symbol) → Gives (following room inner e) (Follows (yields.expression d e) (yields.statement d) IsStatementBefore) ts
+  after_gives e is ts = test_gives (λ s. sees signs.Swap s && is_unary e) (λ t. swap_gives e (unary_of e is (and_right (sees signs.Swap ts) (is_unary e) t)) ts)
       (λ _. sign_then (suc room) d signs.Semicolon fits (λ _ mid. pure_gives (refl, (is, anything_from_false_is_true))))
 
   statement_from_name_gives : (x : Named) (ts : List Symbol) → Gives (statement_from_name room inner x) (Follows (leaf_at d (Identifier x.name) x.place ∷ []) (yields.statement d) IsStatementBefore) ts
   statement_from_name_gives x ts = sees_gives signs.Colon (sign_then (suc room) d signs.Colon fits (λ _ mid. last_then (Labelled x) (body_gives mid) (λ b rest is. (refl, (is, anything_from_false_is_true)))))
-      (part_then (expression_from_gives x ts) (λ e xs mid (eq, is). gives_as (λ y ys rest (e', is'). (ap (λ (zs : Yield). zs ++ ys) eq ∙ e', is')) (behind_gives e is mid)))
+      (part_then (expression_from_gives x ts) (λ e xs mid (eq, is). gives_as (λ y ys rest (e', is'). (ap (λ (zs : Yield). zs ++ ys) eq ∙ e', is')) (after_gives e is mid)))
 
   abbrev condition : Expression → Yield
   condition c = leaf_of d (Mark signs.LeftParen) ∷ (yields.expression (suc d) c ++ leaf_of (suc d) (Mark signs.RightParen) ∷ [])
 
-  -- what stands behind a condition
+  -- the yield of a condition and the symbols after it, regrouped
   regroup : (l : Leaf) (c : Expression) (zs : Yield) → l ∷ (condition c ++ zs) ≡ l ∷ leaf_of d (Mark signs.LeftParen) ∷ (yields.expression (suc d) c ++ leaf_of (suc d) (Mark signs.RightParen) ∷ zs)
   regroup l c zs = ap (λ (ys : Yield). l ∷ leaf_of d (Mark signs.LeftParen) ∷ ys) (append_assoc (yields.expression (suc d) c) (leaf_of (suc d) (Mark signs.RightParen) ∷ []) zs)
 
@@ -171,7 +171,7 @@ module _ (room d : ℕ) (inner : Nested) (fits : Fits (suc room) d) (h : Stateme
   statement_by_gives (Some (Word words.Continue)) ts e = advance_then d (Word words.Continue) e shallow (λ p mid. sign_then (suc room) d signs.Semicolon fits (λ _ mid. pure_gives (refl, (tt, anything_from_false_is_true))))
   statement_by_gives (Some (Word words.Throw)) ts e = advance_then d (Word words.Throw) e shallow (λ p mid. throw_statement_gives p mid)
   statement_by_gives (Some (Word words.Try)) ts e = advance_then d (Word words.Try) e shallow (λ p mid. try_statement_gives p mid)
-  statement_by_gives _ ts e = spelled_then (expression_gives ts) (λ x mid is. behind_gives x is mid)
+  statement_by_gives _ ts e = spelled_then (expression_gives ts) (λ x mid is. after_gives x is mid)
 
   pub statement_gives : (ts : List Symbol) → Gives (statement room inner) (Spells (yields.statement d) IsStatementBefore) ts
   unfolding statement

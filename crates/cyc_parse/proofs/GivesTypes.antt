@@ -1,4 +1,4 @@
--- What the parsers of lists, regions and types answer is what the symbols spell.
+-- The parsers of lists, regions and types return a tree that the symbols spell.
 use Rattle.std.proofs.Common.{◌≡◌, ℕ, zero, suc, ◌+◌, ◌≤◌, Bool, true, List, [], ◌∷◌, ◌++◌, Option, Some, None, refl, ap, arith}
 use Rattle.std.specs.List.{AllByRecursion}
 use Rattle.cyc_syntax.specs.declared.tokens.Keyword.TheVariants as words
@@ -17,7 +17,7 @@ use Rattle.cyc_parse.proofs.Gives.{Gives, Follows, Spells, Any, spelled_then, la
 use Rattle.cyc_parse.proofs.GivesSymbols.{some_place, sign_then, region_then, identifier_then, advance_then, advance_leaf_then, choose_gives, sees_gives, starts_gives, is_gives, bare_gives}
 use Rattle.cyc_parse.proofs.Openings.{region_opened}
 
--- ---- lists with commas between
+-- ---- lists separated by commas
 
 module _ {A : Type 0} (room d : ℕ) (fits : Fits room d) (begins : Terminal → Bool) (item : Parser A) (yield : A → Yield) (Is : A → Type 0)
     (h : (ts : List Symbol) → Gives item (Spells yield (λ x _. Is x)) ts) (opened : (u : Terminal) (p : Place) → begins u ≡ true → Opened (Spells yield (λ x _. Is x)) u p) where

@@ -1,9 +1,9 @@
--- what the answers of `parse` and of the laws cite
+-- lemmas that the proofs of `parse` and of the laws cite
 pub mod Accepted
 pub mod Ends
 pub mod Naming
 pub mod OneTree
--- completeness: where symbols have a tree, the parser answers it, or refuses the first limit that it breaks
+-- completeness: if symbols have a tree, the parser returns it, or rejects the first limit that it breaks
 pub mod Completeness
 pub mod Rules
 pub mod Signs
@@ -21,7 +21,7 @@ pub mod StatementStarts
 pub mod StatementReads
 pub mod ItemReads
 pub mod DeclarationReads
--- soundness: what the parser answers is a tree, and what a limit refuses is begun by a program
+-- soundness: a tree that the parser returns is a tree of the symbols; a symbol rejected for a limit begins some program
 pub mod Soundness
 pub mod Gives
 pub mod GivesSymbols
@@ -30,14 +30,14 @@ pub mod GivesTypes
 pub mod GivesExpressions
 pub mod GivesStatements
 pub mod GivesDeclarations
--- what a refusal means: the parser looks at no symbol behind the one that it refuses
+-- the meaning of a rejection: the parser looks at no symbol after the rejected one
 pub mod Refused
 pub mod Locality
 pub mod LocalTypes
 pub mod LocalExpressions
 pub mod LocalStatements
 pub mod LocalDeclarations
--- what the loops of the code and its levels of nesting cite
+-- lemmas about the loops of the code and its levels of nesting
 pub mod Loops
 pub mod Rounds
 pub mod NextItems

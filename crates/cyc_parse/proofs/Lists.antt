@@ -1,4 +1,4 @@
--- Lists with commas are read as they are written, up to their limit.
+-- Lists separated by commas are parsed back from their yields, up to the limit on items.
 use Rattle.std.proofs.Common.{◌≡◌, ℕ, zero, suc, ◌+◌, ◌≤◌, ◌<◌, Bool, false, List, [], ◌∷◌, ◌++◌, Some, Ok, Err, refl, sym, ap, subst, ◌∙◌, arith}
 use Rattle.std.specs.List.{AllByRecursion}
 use Rattle.cyc_words.proofs.Numbers.{lt-nat_lt, le-nat_lt}
@@ -15,7 +15,7 @@ judge-long : {A : Type 0} (leaf : Leaf) (i : ℕ) (ys : Yield) (t : Symbol) (ts 
     → judge (record leaf { item = i } ∷ ys) (t ∷ ts) outcome ≡ Err (record { reason = TooLong; left = t ∷ ts })
 judge-long leaf i ys t ts outcome shallow many = rw (le-nat_lt max_nesting leaf.nesting shallow, lt-nat_lt max_items i many) refl
 
--- the item that is one too many
+-- an item that is one too many of its list
 pub long_reads : {A : Type 0} (begins : Terminal → Bool) (d i : ℕ) (xs ys : Yield) {x : A} {Ends : List Symbol → Type 0} → d ≤ max_nesting → max_items < i → Starts begins d xs
     → Reads (refuse_item begins TooLong) x (item_number i xs ++ ys) Ends
 long_reads begins d i xs ys {x = x} {Ends = Ends} shallow many s = subst (λ (zs : Yield). Reads (refuse_item begins TooLong) x (item_number i zs ++ ys) Ends) (sym s.are) (record {
@@ -24,17 +24,17 @@ long_reads begins d i xs ys {x = x} {Ends = Ends} shallow many s = subst (λ (zs
       (refuse_item-is begins TooLong t more (ap begins is_leaf.terminal ∙ s.begin) ∙ sym (judge-long s.first i (s.others ++ ys) t more (Ok (x, rest)) (omega arith) many));
 })
 
--- An item of a list, and how the parser of items reads it.
+-- An item of a list is parsed back by the parser of items.
 pub record IsRead {A : Type 0} (d : ℕ) (begins : Terminal → Bool) (item : Parser A) (yield : A → Yield) (Ends : List Symbol → Type 0) (x : A) : Type 0 where
   pub starts : Starts begins d (yield x)
   pub reads : Reads item x (yield x) Ends
 
--- what may follow a list with commas
+-- the symbols that may follow a list separated by commas
 pub record EndsList (Ends : List Symbol → Type 0) (ts : List Symbol) : Type 0 where
   pub item : Ends ts
   pub comma : sees signs.Comma ts ≡ false
 
--- ---- with commas between
+-- ---- lists separated by commas
 
 module _ {A : Type 0} (room d : ℕ) (fits : Fits room d) (shallow : d ≤ max_nesting) (begins : Terminal → Bool) (item : Parser A) (yield : A → Yield)
     (Ends : List Symbol → Type 0) (before_comma : (ts : List Symbol) → next ts ≡ Some (Mark signs.Comma) → Ends ts) where
@@ -60,9 +60,9 @@ module _ {A : Type 0} (room d : ℕ) (fits : Fits room d) (shallow : d ≤ max_n
   separated_reads x xs (one, all) =
       then_reads _ (number_reads begins d 1 (omega arith) one.starts one.reads) (last_reads (λ (v : List A). pure (x ∷ v)) (λ ts. refl) (more_reads 63 2 xs refl all)) (more_ends 2 xs)
 
--- ---- one after the other
+-- ---- lists without separators
 
--- what may follow such a list
+-- the symbols that may follow a list without separators
 pub record EndsItems (begins : Terminal → Bool) (ts : List Symbol) : Type 0 where
   pub other : starts begins (next ts) ≡ false
 

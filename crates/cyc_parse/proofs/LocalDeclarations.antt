@@ -1,4 +1,4 @@
--- The parsers of declarations and of programs look no further.
+-- The parsers of declarations and of programs have bounded lookahead.
 use Rattle.std.proofs.Common.{◌≡◌, ℕ, zero, suc, ◌≤◌, Bool, true, false, List, [], ◌∷◌, length, Option, Some, None, refl, arith}
 use Rattle.cyc_syntax.specs.declared.tokens.Keyword.TheVariants as words
 use Rattle.cyc_syntax.specs.declared.tokens.Sign.TheVariants as signs
@@ -10,7 +10,7 @@ use Rattle.cyc_parse.specs.inside.Types.{begins_type}
 use Rattle.cyc_parse.specs.inside.Statements.{nested_statements}
 use Rattle.cyc_parse.specs.inside.Declarations.{begins_void, begins_constructor, number_value, member, field, has_int, constructor, more_of, some_of, parameter_list, effect_regions, effect, constraint, constraints}
 use Rattle.cyc_parse.specs.inside.Declarations.{parameters, value_by, value, global_value, function, typed, struct_fields, struct_or_typed, exceptions, declaration_by, declaration, declarations_in, program}
-use Rattle.cyc_parse.proofs.Locality.{Local, then_runs, pure_runs, unexpected_runs, weaker_runs, take_runs, sign_runs, word_runs, identifier_runs, region_name_runs, advance_runs, choose_runs, sees_runs, starts_runs, starts_limit_runs, same_behind_read, same_first, turns_run}
+use Rattle.cyc_parse.proofs.Locality.{Local, then_runs, pure_runs, unexpected_runs, weaker_runs, take_runs, sign_runs, word_runs, identifier_runs, region_name_runs, advance_runs, choose_runs, sees_runs, starts_runs, starts_limit_runs, same_after_read, same_first, turns_run}
 use Rattle.cyc_parse.proofs.LocalTypes.{separated_runs, regions_run, written_type_runs, with_pointers_run, optional_regions_run}
 use Rattle.cyc_parse.proofs.LocalStatements.{body_runs, nested_statements_run}
 
@@ -114,7 +114,7 @@ module _ (room : ℕ) where
   declarations_enough (suc n) zero [] few few' = refl
   declarations_enough (suc n) zero (t ∷ ts) few few' = absurd (omega arith)
   declarations_enough (suc n) (suc m) [] few few' = refl
-  declarations_enough (suc n) (suc m) (t ∷ ts) few few' = same_behind_read _ _ (t ∷ ts) declaration_runs
+  declarations_enough (suc n) (suc m) (t ∷ ts) few few' = same_after_read _ _ (t ∷ ts) declaration_runs
       (λ d rest less. same_first (declarations_in room n) (declarations_in room m) _ rest (declarations_enough n m rest (omega arith) (omega arith)))
 
   pub program_runs : Local true (program room)

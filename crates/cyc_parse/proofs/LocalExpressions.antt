@@ -1,4 +1,4 @@
--- The parsers of expressions look no further.
+-- The parsers of expressions have bounded lookahead.
 use Rattle.std.proofs.Common.{◌≡◌, ℕ, zero, suc, ◌≤◌, Bool, true, false, cond, List, [], ◌∷◌, ◌++◌, length, ◌&&◌, ◌||◌, Option, Some, None, is_some, Ok, Err, refl, sym, ap, subst, ◌∙◌, arith, true≢false}
 use Rattle.cyc_syntax.specs.declared.tokens.Keyword.TheVariants as words
 use Rattle.cyc_syntax.specs.declared.tokens.Sign.TheVariants as signs
@@ -16,7 +16,7 @@ use Rattle.cyc_parse.specs.inside.Statements.{ends_in_new, ends_in_name, is_vari
 use Rattle.cyc_parse.specs.Refusals.{region_next}
 use Rattle.cyc_parse.proofs.Locality.{IsSuffix, left_of, IsLess, Differ, Beyond, reads_on, refuses_on, opens, overflows, Agrees, both_read, both_refuse, goes_on, Runs, Local, Never, Tolerates, beyond_suffix}
 use Rattle.cyc_parse.proofs.Locality.{beyond_as, open_then_runs, then_runs, tolerates_pure, tolerates_then, pure_runs, unexpected_runs, opens_as, runs_open, sign_runs, word_runs, identifier_runs}
-use Rattle.cyc_parse.proofs.Locality.{advance_runs, choose_runs, sees_runs, is_runs, is_limit_runs, sees_limit_runs, item_refusal_runs, same_behind, same_behind_read, same_first, sees_same, turns_run}
+use Rattle.cyc_parse.proofs.Locality.{advance_runs, choose_runs, sees_runs, is_runs, is_limit_runs, sees_limit_runs, item_refusal_runs, same_after, same_after_read, same_first, sees_same, turns_run}
 use Rattle.cyc_parse.proofs.LocalTypes.{separated_runs, regions_run, region_list_runs}
 
 abbrev pub Anything : {A : Type 0} → A → Type 0
@@ -31,7 +31,7 @@ IsOpenInitial i = ends_in_name i ≡ true
 -- ---- chains of binary operators
 
 module _ {c : Bool} (operand : Parser Expression) (h : Runs c Anything operand) (k : ℕ) where
-  -- behind an operator
+  -- lookahead after an operator
   operand_runs : (left : ℕ) → Runs false Anything (operations operand k left) → Tolerates Anything (operations operand k left) → (o : BinaryOperator) (p : Place)
       → Runs c Anything (bind operand (λ e. bind (operations operand k left) (λ os. pure (ThenOperation o p e os))))
   operand_runs left more tolerates o p = open_then_runs h (λ e. open_then_runs more (λ os. pure_runs _) (λ os _. tolerates_pure _ tt)) (λ e _. tolerates_then _ _ tolerates (λ os. pure_runs _) (λ os _. tolerates_pure _ tt))
@@ -46,7 +46,7 @@ module _ {c : Bool} (operand : Parser Expression) (h : Runs c Anything operand) 
   one_more left more tolerates None t a b less differ = opens NoOperations t refl tt less differ
   one_more left more tolerates (Some o) t a b less differ = beyond_suffix _ ((operand_runs left more tolerates o t.place).suffix a)
 
-  -- both, for so many operators
+  -- both facts about a chain, for this many operators
   record Chains (left : ℕ) : Type 0 where
     runs : Runs false Anything (operations operand k left)
     tolerates : Tolerates Anything (operations operand k left)
@@ -73,7 +73,7 @@ module _ {c : Bool} (unary : Parser Expression) (h : Runs c Anything unary) wher
     pub runs : (e : Expression) → Runs false Anything (climb unary k e)
     pub tolerates : (e : Expression) → Tolerates Anything (climb unary k e)
 
-  -- an operand of the next level
+  -- an operand of the next level has bounded lookahead
   operand_climbs : (k : ℕ) → Climbs k → Runs c Anything (bind unary (climb unary k))
   operand_climbs k below = open_then_runs h (λ e. below.runs e) (λ e _. below.tolerates e)
 
@@ -95,7 +95,7 @@ module _ {c : Bool} (unary : Parser Expression) (h : Runs c Anything unary) wher
   climbs zero = record { runs = λ e. pure_runs e; tolerates = λ e. tolerates_pure e tt }
   climbs (suc k) = one_climb k (climbs k)
 
--- ---- no chain of all levels leaves `<`
+-- ---- a complete chain is never followed by `<`
 
 abbrev pub NoLess : List Symbol → Type 0
 NoLess ts = next ts ≡ Some (Mark signs.Less) → ⊥
@@ -103,7 +103,7 @@ NoLess ts = next ts ≡ Some (Mark signs.Less) → ⊥
 abbrev pub Halts : {A : Type 0} → Parser A → Type 0
 Halts {A} p = (ts rest : List Symbol) (x : A) → p ts ≡ Ok (x, rest) → NoLess rest
 
--- what was read by one parser and then another
+-- the symbols read by a sequence of two parsers
 pub record WasRead {A B : Type 0} (p : Parser A) (f : A → Parser B) (ts rest : List Symbol) (y : B) : Type 0 where
   pub value : A
   pub mid : List Symbol
@@ -118,7 +118,7 @@ was_read {A} {B} p f ts rest y h = go (p ts) refl h
     go (Ok q) e h = record { value = q.0; mid = q.1; first = e; second = h }
     go (Err r) e h = absurd (cc)
 
--- a parser, and something made of what it gives
+-- a sequence of parsers never stops before `<` if its last part never does
 halts_then : {A B : Type 0} (p : Parser A) (f : A → Parser B) → ((x : A) → Halts (f x)) → Halts (bind p f)
 halts_then p f h ts rest y e = let w = was_read p f ts rest y e in h w.value w.mid rest y w.second
 
@@ -128,7 +128,7 @@ halts_made p make ts rest y h e =
     let same : w.mid ≡ rest = ap left_of w.second in
     h w.value (subst (λ (s : List Symbol). p ts ≡ Ok (w.value, s)) same w.first)
 
--- `Ready` says of the symbols before an operator that `<` does not come, unless as an operator of this level
+-- `Ready` holds of symbols before an operator that do not begin with `<`, except as an operator of this level
 module _ (operand : Parser Expression) (k : ℕ) (Ready : List Symbol → Type 0) (stops : (ts : List Symbol) → Ready ts → operator_at k (next ts) ≡ None → NoLess ts)
     (ready : (ts rest : List Symbol) (e : Expression) → operand ts ≡ Ok (e, rest) → Ready rest) where
   stopped : (ts rest : List Symbol) (os : Operations) → Ready ts → operator_at k (next ts) ≡ None → pure NoOperations ts ≡ Ok (os, rest) → NoLess rest
@@ -159,7 +159,7 @@ less_operator ts none less = absurd (is_none (ap (operator_at 4) (sym less) ∙ 
     is_none e = cc
 
 module _ (unary : Parser Expression) where
-  -- the chains of the level of `<`, and all looser ones
+  -- the chains of the level of `<`, and of all looser levels
   climb_halts : (j : ℕ) (e : Expression) → Halts (climb unary (suc (suc (suc (suc j)))) e)
   unfolding climb
   climb_halts zero e ts rest y h =
@@ -172,7 +172,7 @@ module _ (unary : Parser Expression) where
       (λ os e'. operations_halt (bind unary (climb unary (suc (suc (suc (suc j)))))) (suc (suc (suc (suc (suc j))))) NoLess (λ ts no _. no)
       (halts_then unary (climb unary (suc (suc (suc (suc j))))) (λ x. climb_halts j x)) max_items w.mid rest os (climb_halts j e ts w.mid w.value w.first) e') w.second
 
--- where no answer leaves `<`
+-- a parser that never stops before `<` looks at no further symbol
 local_if_halts : {A : Type 0} {c : Bool} {Open : A → Type 0} {p : Parser A} → Runs c Open p → Halts p → Local c p
 local_if_halts {A} {Open = Open} {p = p} h halts = record { suffix = h.suffix; shorter = h.shorter; ends = h.ends; agrees = λ front a b. agree (front ++ a) a b (h.agrees front a b) }
   where
@@ -187,7 +187,7 @@ local_if_halts {A} {Open = Open} {p = p} h halts = record { suffix = h.suffix; s
 pub climb_all_runs : {c : Bool} (operand : Parser Expression) → Runs c Anything operand → (e : Expression) → Local false (climb operand 10 e)
 climb_all_runs operand h e = local_if_halts ((climbs operand h 10).runs e) (climb_halts operand 6 e)
 
--- ---- at one depth
+-- ---- the parsers at one depth
 
 pub record NestedRuns (inner : Nested) : Type 0 where
   pub unary : Runs true IsOpen inner.unary
@@ -260,7 +260,7 @@ module _ (room : ℕ) (inner : Nested) (h : NestedRuns inner) where
   pub expression_runs : Local true (expression room inner)
   expression_runs = then_runs binary_runs (λ e. assignment_runs e)
 
-  -- ---- what `new` puts into the new object
+  -- ---- the initial contents of a new object
 
   more_values_run : (turns : ℕ) → Local false (more_values room inner turns)
   unfolding more_values
@@ -274,8 +274,8 @@ module _ (room : ℕ) (inner : Nested) (h : NestedRuns inner) where
   values_enough zero (suc m) (t ∷ ts) few few' = absurd (omega arith)
   values_enough (suc n) zero [] few few' = refl
   values_enough (suc n) zero (t ∷ ts) few few' = absurd (omega arith)
-  values_enough (suc n) (suc m) ts few few' = sees_same signs.Comma _ _ _ ts (same_behind_read _ _ ts (sign_runs {Open = Never} room signs.Comma)
-      (λ _ rest less. same_behind _ _ rest h.expression (λ e left le. same_first (more_values room inner n) (more_values room inner m) _ left (values_enough n m left (omega arith) (omega arith)))))
+  values_enough (suc n) (suc m) ts few few' = sees_same signs.Comma _ _ _ ts (same_after_read _ _ ts (sign_runs {Open = Never} room signs.Comma)
+      (λ _ rest less. same_after _ _ rest h.expression (λ e left le. same_first (more_values room inner n) (more_values room inner m) _ left (values_enough n m left (omega arith) (omega arith)))))
 
   values_run : Local true (values room inner)
   values_run = then_runs h.expression (λ e. then_runs (turns_run (more_values room inner) more_values_run values_enough) (λ es. pure_runs _))
@@ -283,7 +283,7 @@ module _ (room : ℕ) (inner : Nested) (h : NestedRuns inner) where
   fields_run : (s : Named) (rs : List Named) → Local true (fields room inner s rs)
   fields_run s rs = then_runs (sign_runs _ signs.LeftBrace) (λ _. then_runs values_run (λ es. then_runs (sign_runs _ signs.RightBrace) (λ _. pure_runs _)))
 
-  -- ---- a struct's name, or a name that begins an expression
+  -- ---- a name that opens a struct, or begins an expression
 
   abbrev with_regions : Named → Parser Initial
   with_regions s = bind (region_list (suc room)) (λ rs. fields room inner s rs)
@@ -306,15 +306,15 @@ module _ (room : ℕ) (inner : Nested) (h : NestedRuns inner) where
   from_name_alone_runs : (s : Named) → Runs false IsOpenInitial (from_name_alone s)
   from_name_alone_runs s = then_runs (with_postfixes_run (from_name_run s)) (λ e. pure_runs _)
 
-  -- where the first of the symbols behind is the end, a or b
+  -- the decision by the symbol after `<`, which may be the end of the first symbols
   by_region : (s : Named) (t : Symbol) (a b : List Symbol) (x y : Bool) → IsLess t → region_next a ≡ x → region_next b ≡ y
       → Agrees IsOpenInitial a b (cond x (with_regions s) (from_name_alone s) (t ∷ a)) (cond y (with_regions s) (from_name_alone s) (t ∷ b))
   by_region s t a b true true less e e' = (with_regions_run s).agrees (t ∷ []) a b
   by_region s t a b false false less e e' = (from_name_alone_runs s).agrees (t ∷ []) a b
-  by_region s t a b true false less e e' = goes_on (beyond_as (regions_taken s t a less) (beyond_suffix _ (behind.suffix a)))
+  by_region s t a b true false less e e' = goes_on (beyond_as (regions_taken s t a less) (beyond_suffix _ (following.suffix a)))
     where
-      behind : Local true (bind (bind (regions (suc room)) (λ rs. bind (sign (suc room) signs.Greater) (λ _. pure rs))) (λ rs. fields room inner s rs))
-      behind = then_runs (then_runs (regions_run (suc room)) (λ rs. then_runs (sign_runs _ signs.Greater) (λ _. pure_runs _))) (λ rs. fields_run s rs)
+      following : Local true (bind (bind (regions (suc room)) (λ rs. bind (sign (suc room) signs.Greater) (λ _. pure rs))) (λ rs. fields room inner s rs))
+      following = then_runs (then_runs (regions_run (suc room)) (λ rs. then_runs (sign_runs _ signs.Greater) (λ _. pure_runs _))) (λ rs. fields_run s rs)
   by_region s t a b false true less e e' = goes_on (opens (Plain (Variable s)) t (name_taken s t a less) refl less (λ same. absurd (true≢false (sym e' ∙ sym same ∙ e))))
 
   is_less : (u : Terminal) → is_some (is_sign signs.Less u) ≡ true → u ≡ Mark signs.Less
@@ -377,11 +377,11 @@ module _ (room : ℕ) (inner : Nested) (h : NestedRuns inner) where
   unfolding initial
   initial_runs = choose_runs initial_by_runs
 
-  -- an expression that begins with this name
+  -- an expression that begins with this name has bounded lookahead
   pub named_run : (x : Named) → Local false (bind (with_postfixes room inner (from_name room inner x)) (climb (unary room inner) 10))
   named_run x = then_runs (with_postfixes_run (from_name_run x)) (λ e. climb_all_runs (unary room inner) (opens_as (λ e _. tt) unary_runs) e)
 
-  -- an expression that begins with the low byte of a value, behind its word
+  -- a conversion to a low byte, after its keyword, has bounded lookahead
   pub low_byte_run : (p : Place) → Local true (bind (with_postfixes room inner (bind (group room inner) (λ e. pure (LowByteOf p e)))) (climb (unary room inner) 10))
   low_byte_run p = then_runs (with_postfixes_run (then_runs group_runs (λ e. pure_runs _))) (λ e. climb_all_runs (unary room inner) (opens_as (λ e _. tt) unary_runs) e)
 

@@ -1,4 +1,4 @@
--- The parsers of statements and of items look no further.
+-- The parsers of statements and of items have bounded lookahead.
 use Rattle.std.proofs.Common.{◌≡◌, ℕ, zero, suc, ◌≤◌, Bool, true, false, cond, List, [], ◌∷◌, length, ◌&&◌, Option, Some, Err, refl, sym, ap, subst, arith}
 use Rattle.cyc_syntax.specs.declared.tokens.Keyword.TheVariants as words
 use Rattle.cyc_syntax.specs.declared.tokens.Sign.TheVariants as signs
@@ -9,22 +9,22 @@ use Rattle.cyc_parse.specs.inside.Parsing.{Parser, Unexpected, TooDeep, bind, pu
 use Rattle.cyc_parse.specs.inside.Types.{with_pointers, written_type}
 use Rattle.cyc_parse.specs.inside.Expressions.{nested, group, primary, with_postfixes, unary, climb, assignment}
 use Rattle.cyc_parse.specs.inside.Statements.{begins_statement, begins_item, begins_clause, is_case, is_default, is_else, is_unary, ends_in_new, end_of_swap, Nested, body, expression, expression_from, swap}
-use Rattle.cyc_parse.specs.inside.Statements.{behind, statement_from_name, else_part, return_value, thrown, caught, clauses_in, clauses, if_statement, while_statement, throw_statement, try_statement, statement_by}
+use Rattle.cyc_parse.specs.inside.Statements.{following, statement_from_name, else_part, return_value, thrown, caught, clauses_in, clauses, if_statement, while_statement, throw_statement, try_statement, statement_by}
 use Rattle.cyc_parse.specs.inside.Statements.{statement, local_value, local, opened_key, region, alias, new_key, dynamic_region, let_by, executed, char_item, item_by, item, items_in, items, nested_statements}
 use Rattle.cyc_parse.proofs.Locality.{suffix_whole, IsLess, refuses_on, Local, Never, open_then_runs, then_runs, pure_runs, unexpected_runs, sign_runs, word_runs, identifier_runs, advance_runs}
-use Rattle.cyc_parse.proofs.Locality.{runs_as, choose_runs, test_runs, sees_runs, starts_runs, starts_limit_runs, item_refusal_runs, same_behind, same_behind_read, same_first, starts_same, turns_run}
+use Rattle.cyc_parse.proofs.Locality.{runs_as, choose_runs, test_runs, sees_runs, starts_runs, starts_limit_runs, item_refusal_runs, same_after, same_after_read, same_first, starts_same, turns_run}
 use Rattle.cyc_parse.proofs.LocalTypes.{with_pointers_run, written_type_runs, region_of_runs}
 use Rattle.cyc_parse.proofs.LocalExpressions.{IsOpen, nested_runs, named_run, low_byte_run, assignment_runs}
 
 end_of_swap_runs : (room : ℕ) (e : Expression) → Local false (end_of_swap room e)
 end_of_swap_runs room e = sees_runs signs.Semicolon (sign_runs _ signs.Semicolon) (test_runs (λ t. sees_terminal signs.Less t && ends_in_new e) (then_runs advance_runs (λ _. unexpected_runs)) unexpected_runs)
 
--- behind `new` and a name, region arguments would stand: what is refused is the symbol behind `<`
+-- after `new` and a name, `<` could open region arguments, so the symbol after `<` is the rejected one
 end_refuses : (room : ℕ) (a b : Expression) (t : Symbol) (rest : List Symbol) → IsOpen b → IsLess t → bind (end_of_swap room b) (λ _. pure (Swap a b)) (t ∷ rest) ≡ Err (record { reason = Unexpected; left = rest })
 unfolding bind if_sees
 end_refuses room a b t rest ready less = rw (less, ready) refl
 
--- ---- at one depth
+-- ---- the parsers at one depth
 
 pub record StatementsRun (inner : Nested) : Type 0 where
   pub statement : Local true inner.statement
@@ -45,11 +45,11 @@ module _ (room : ℕ) (inner : Nested) (h : StatementsRun inner) where
   swap_runs a = then_runs (sign_runs _ signs.Swap) (λ _. open_then_runs (nested_runs (suc room)).unary (λ b. then_runs (end_of_swap_runs _ b) (λ _. pure_runs _))
       (λ b ready t a' b' less differ. refuses_on (record { reason = Unexpected; left = a' }) (end_refuses (suc room) a b t a' ready less) (suffix_whole a')))
 
-  behind_runs : (e : Expression) → Local false (behind room inner e)
-  behind_runs e = test_runs (λ t. sees_terminal signs.Swap t && is_unary e) (swap_runs e) (then_runs (sign_runs _ signs.Semicolon) (λ _. pure_runs _))
+  following_runs : (e : Expression) → Local false (following room inner e)
+  following_runs e = test_runs (λ t. sees_terminal signs.Swap t && is_unary e) (swap_runs e) (then_runs (sign_runs _ signs.Semicolon) (λ _. pure_runs _))
 
   statement_from_name_run : (x : Named) → Local false (statement_from_name room inner x)
-  statement_from_name_run x = sees_runs signs.Colon (then_runs (sign_runs _ signs.Colon) (λ _. then_runs body_runs (λ b. pure_runs _))) (then_runs (expression_from_run x) (λ e. behind_runs e))
+  statement_from_name_run x = sees_runs signs.Colon (then_runs (sign_runs _ signs.Colon) (λ _. then_runs body_runs (λ b. pure_runs _))) (then_runs (expression_from_run x) (λ e. following_runs e))
 
   else_part_runs : (p : Place) (c : Expression) (s : Statement) → Local false (else_part room inner p c s)
   else_part_runs p c s = starts_runs is_else (then_runs (word_runs _ words.Else) (λ _. then_runs h.statement (λ t. pure_runs _))) (pure_runs _)
@@ -78,12 +78,12 @@ module _ (room : ℕ) (inner : Nested) (h : StatementsRun inner) where
   clauses_enough (suc n) zero [] few few' = refl
   clauses_enough (suc n) zero (t ∷ ts) few few' = absurd (omega arith)
   clauses_enough (suc n) (suc m) ts few few' = starts_same is_case _ _ _ ts
-      (same_behind_read _ _ ts (word_runs {Open = Never} room words.Case) (λ _ r0 l0.
-      same_behind _ _ r0 (sign_runs {Open = Never} room signs.And) (λ _ r1 l1.
-      same_behind _ _ r1 (identifier_runs room) (λ x r2 l2.
-      same_behind _ _ r2 caught_runs (λ v r3 l3.
-      same_behind _ _ r3 (sign_runs {Open = Never} room signs.Colon) (λ _ r4 l4.
-      same_behind _ _ r4 h.items (λ is r5 l5.
+      (same_after_read _ _ ts (word_runs {Open = Never} room words.Case) (λ _ r0 l0.
+      same_after _ _ r0 (sign_runs {Open = Never} room signs.And) (λ _ r1 l1.
+      same_after _ _ r1 (identifier_runs room) (λ x r2 l2.
+      same_after _ _ r2 caught_runs (λ v r3 l3.
+      same_after _ _ r3 (sign_runs {Open = Never} room signs.Colon) (λ _ r4 l4.
+      same_after _ _ r4 h.items (λ is r5 l5.
       same_first (clauses_in room inner n) (clauses_in room inner m) _ r5 (clauses_enough n m r5 (omega arith) (omega arith)))))))))
 
   clauses_run : Local false (clauses room inner)
@@ -112,7 +112,7 @@ module _ (room : ℕ) (inner : Nested) (h : StatementsRun inner) where
   statement_by_runs (Some (Word words.Continue)) = then_runs advance_runs (λ p. then_runs (sign_runs _ signs.Semicolon) (λ _. pure_runs _))
   statement_by_runs (Some (Word words.Throw)) = then_runs advance_runs (λ p. throw_statement_runs p)
   statement_by_runs (Some (Word words.Try)) = then_runs advance_runs (λ p. try_statement_runs p)
-  statement_by_runs _ = then_runs expression_runs (λ e. behind_runs e)
+  statement_by_runs _ = then_runs expression_runs (λ e. following_runs e)
 
   pub statement_runs : Local true (statement room inner)
   unfolding statement
@@ -146,27 +146,27 @@ module _ (room : ℕ) (inner : Nested) (h : StatementsRun inner) where
   let_by_runs (Some (Word words.NewDynamicRegion)) = dynamic_region_runs
   let_by_runs _ = unexpected_runs
 
-  -- Whether an item that begins with `char` is a declaration, the symbol behind it decides. It is read either way: so the
-  -- item may be said to look at one symbol at a time.
+  -- The symbol after `char` decides if an item is a declaration. The symbol after `char` is read in both cases, so the item needs only one
+  -- symbol of lookahead.
 
   abbrev low_byte_from : Place → Parser Statement
-  low_byte_from p = bind (bind (bind (with_postfixes room (nested room) (bind (group room (nested room)) (λ e. pure (LowByteOf p e)))) (climb (unary room (nested room)) 10)) (assignment room (nested room))) (behind room inner)
+  low_byte_from p = bind (bind (bind (with_postfixes room (nested room) (bind (group room (nested room)) (λ e. pure (LowByteOf p e)))) (climb (unary room (nested room)) 10)) (assignment room (nested room))) (following room inner)
 
   abbrev char_local : Place → Parser Item
   char_local p = bind (with_pointers (suc room) p Char) (λ t. bind (identifier (suc room)) (λ x. bind (local_value room inner) (λ v. bind (sign (suc room) signs.Semicolon) (λ _. pure (trees.Local t x v)))))
 
-  abbrev behind_char : Place → Parser Item
-  behind_char p = if_sees signs.LeftParen (bind (low_byte_from p) (λ s. pure (Execute s))) (char_local p)
+  abbrev after_char : Place → Parser Item
+  after_char p = if_sees signs.LeftParen (bind (low_byte_from p) (λ s. pure (Execute s))) (char_local p)
 
-  behind_char_runs : (p : Place) → Local false (behind_char p)
-  behind_char_runs p = sees_runs signs.LeftParen
-      (then_runs (then_runs (then_runs (low_byte_run room (nested room) (nested_runs room) p) (λ e. assignment_runs room (nested room) (nested_runs room) e)) (λ e. behind_runs e)) (λ s. pure_runs _))
+  after_char_runs : (p : Place) → Local false (after_char p)
+  after_char_runs p = sees_runs signs.LeftParen
+      (then_runs (then_runs (then_runs (low_byte_run room (nested room) (nested_runs room) p) (λ e. assignment_runs room (nested room) (nested_runs room) e)) (λ e. following_runs e)) (λ s. pure_runs _))
       (then_runs (with_pointers_run _ _ _) (λ t. then_runs (identifier_runs _) (λ x. then_runs local_value_runs (λ v. then_runs (sign_runs _ signs.Semicolon) (λ _. pure_runs _)))))
 
   abbrev char_at : Place → Symbol
   char_at p = record { terminal = Word words.Char; place = p }
 
-  char_item_reads : (p : Place) (ts : List Symbol) → char_item room inner (char_at p ∷ ts) ≡ behind_char p ts
+  char_item_reads : (p : Place) (ts : List Symbol) → char_item room inner (char_at p ∷ ts) ≡ after_char p ts
   unfolding bind choose if_sees nested unary primary statement written_type
   char_item_reads p ts = by_next (sees signs.LeftParen ts)
     where
@@ -175,12 +175,12 @@ module _ (room : ℕ) (inner : Nested) (h : StatementsRun inner) where
       by_next false = refl
 
   abbrev read_by : Option Terminal → Parser Item
-  read_by (Some (Word words.Char)) = bind advance behind_char
+  read_by (Some (Word words.Char)) = bind advance after_char
   read_by t = item_by room inner t
 
   read_by_runs : (t : Option Terminal) → Local true (read_by t)
   read_by_runs (Some (Word words.Int)) = local_runs
-  read_by_runs (Some (Word words.Char)) = then_runs advance_runs (λ p. behind_char_runs p)
+  read_by_runs (Some (Word words.Char)) = then_runs advance_runs (λ p. after_char_runs p)
   read_by_runs (Some (Word words.Struct)) = local_runs
   read_by_runs (Some (Word words.RegionType)) = local_runs
   read_by_runs (Some (Word words.KeyType)) = local_runs
@@ -192,7 +192,7 @@ module _ (room : ℕ) (inner : Nested) (h : StatementsRun inner) where
   unfolding bind
   item_as_read (Word words.Char) t ts is =
       let char : t ≡ char_at t.place = ap (λ (u : Terminal). record { terminal = u; place = t.place }) is in
-      subst (λ (s : Symbol). char_item room inner (s ∷ ts) ≡ behind_char t.place ts) (sym char) (char_item_reads t.place ts)
+      subst (λ (s : Symbol). char_item room inner (s ∷ ts) ≡ after_char t.place ts) (sym char) (char_item_reads t.place ts)
   item_as_read (Word _) t ts is = refl
   item_as_read _ t ts is = refl
 
@@ -217,7 +217,7 @@ module _ (room : ℕ) (inner : Nested) (h : StatementsRun inner) where
   items_enough (suc n) zero [] few few' = refl
   items_enough (suc n) zero (t ∷ ts) few few' = absurd (omega arith)
   items_enough (suc n) (suc m) ts few few' = starts_same begins_item _ _ _ ts
-      (same_behind_read _ _ ts item_runs (λ i rest less. same_first (items_in room inner n) (items_in room inner m) _ rest (items_enough n m rest (omega arith) (omega arith))))
+      (same_after_read _ _ ts item_runs (λ i rest less. same_first (items_in room inner n) (items_in room inner m) _ rest (items_enough n m rest (omega arith) (omega arith))))
 
   pub items_run : Local false (items room inner)
   items_run = turns_run (items_in room inner) items_in_run items_enough

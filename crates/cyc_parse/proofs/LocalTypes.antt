@@ -1,4 +1,4 @@
--- The parsers of lists, regions and types look no further.
+-- The parsers of lists, regions and types have bounded lookahead.
 use Rattle.std.proofs.Common.{ℕ, zero, suc, Bool, true, false, Option, Some, refl}
 use Rattle.cyc_syntax.specs.declared.tokens.Keyword.TheVariants as words
 use Rattle.cyc_syntax.specs.declared.tokens.Sign.TheVariants as signs

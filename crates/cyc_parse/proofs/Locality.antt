@@ -1,6 +1,6 @@
--- What a parser looks at: it refuses a symbol, or leaves it, and looks at none behind that one. There is one place
--- where it looks at one symbol more: `<` behind `new` and a name opens region arguments where a region comes, and else
--- goes on with an expression. (Behind `char` at the front of an item it looks at one more, too, but reads it.)
+-- The parser's lookahead: it rejects or leaves a symbol, and looks at no symbol after it. The one exception to this lookahead is: `<` after
+-- `new` and a name opens region arguments if a region follows, otherwise it continues an expression. (After `char` at the start of an item
+-- it looks at one more symbol, too, but reads it.)
 use Rattle.std.proofs.Common.{◌≡◌, ℕ, zero, suc, ◌+◌, ◌≤◌, ◌<◌, Bool, true, false, cond, List, [], ◌∷◌, ◌++◌, length, Option, Some, None, is_some, Ok, Err, refl, sym, ap, subst, ◌∙◌, arith, append_assoc, length-append}
 use Rattle.std.proofs.Math.Path.{fun_ext}
 use Rattle.cyc_syntax.specs.declared.tokens.Keyword.{Keyword}
@@ -10,7 +10,7 @@ use Rattle.cyc_syntax.specs.Symbols.{Place, Terminal, Mark, Symbol}
 use Rattle.cyc_parse.specs.Refusals.{region_next}
 use Rattle.cyc_parse.specs.inside.Parsing.{Parser, Outcome, Refusal, Reason, Unexpected, TooDeep, TooLong, and_then, bind, choose, next, take, sees_terminal, sign, word, identifier, region_name, accept_if, advance, if_sees, refuse, refuse_item, reason_by, starts, if_starts, on_some, if_is, pure}
 
--- ---- parts at the end
+-- ---- suffixes of a list of symbols
 
 pub record IsSuffix (left ts : List Symbol) : Type 0 where
   pub before : List Symbol
@@ -22,13 +22,13 @@ suffix_whole ts = record { before = []; are = refl }
 pub suffix_of_suffix : {left mid ts : List Symbol} → IsSuffix left mid → IsSuffix mid ts → IsSuffix left ts
 suffix_of_suffix {left = left} h k = record { before = k.before ++ h.before; are = k.are ∙ ap (λ (w : List Symbol). k.before ++ w) h.are ∙ sym (append_assoc k.before h.before left) }
 
-pub suffix_behind : {left ts : List Symbol} (t : Symbol) → IsSuffix left ts → IsSuffix left (t ∷ ts)
-suffix_behind t h = record { before = t ∷ h.before; are = ap (λ (w : List Symbol). t ∷ w) h.are }
+pub suffix_after : {left ts : List Symbol} (t : Symbol) → IsSuffix left ts → IsSuffix left (t ∷ ts)
+suffix_after t h = record { before = t ∷ h.before; are = ap (λ (w : List Symbol). t ∷ w) h.are }
 
 pub suffix-length : {left ts : List Symbol} → IsSuffix left ts → length left ≤ length ts
 suffix-length {left = left} {ts = ts} h = subst (λ (w : List Symbol). length left ≤ length w) (sym h.are) (omega (arith, length-append h.before left))
 
--- the symbols that an outcome leaves
+-- the symbols left by an outcome
 abbrev pub left_of : {A : Type 0} → Outcome A → List Symbol
 left_of (Ok p) = p.1
 left_of (Err e) = e.left
@@ -36,7 +36,7 @@ left_of (Err e) = e.left
 pub one_refusal : {A : Type 0} (r e : Refusal) → ◌≡◌ {A = Outcome A} (Err r) (Err e) → r ≡ e
 one_refusal r e h = cc
 
--- ---- where one symbol more is looked at
+-- ---- the case of one more symbol of lookahead
 
 abbrev pub IsLess : Symbol → Type 0
 IsLess t = t.terminal ≡ Mark signs.Less
@@ -44,24 +44,23 @@ IsLess t = t.terminal ≡ Mark signs.Less
 abbrev pub Differ : List Symbol → List Symbol → Type 0
 Differ a b = region_next a ≡ region_next b → ⊥
 
--- The outcome on symbols whose end is a, where b may come in its place. `Open` says behind which answers `<` may open
--- region arguments. The parser reads into a; or it stands at such a `<` right before a, and b does not go on with it in
--- the same way.
+-- The outcome on symbols that end in `a`, if `a` may be replaced by `b`. `Open` says after which results `<` may open region arguments.
+-- Either the parser reads into `a`, or it stops at such a `<` right before `a`, which `b` continues differently.
 pub data Beyond {A : Type 0} (Open : A → Type 0) (a b : List Symbol) (o : Outcome A) : Type 0 where
   reads_on : (x : A) (rest : List Symbol) → o ≡ Ok (x, rest) → IsSuffix rest a → Beyond Open a b o
   refuses_on : (e : Refusal) → o ≡ Err e → IsSuffix (e.left) a → Beyond Open a b o
   opens : (x : A) (t : Symbol) → o ≡ Ok (x, t ∷ a) → Open x → IsLess t → Differ a b → Beyond Open a b o
   overflows : (t : Symbol) → o ≡ Err (record { reason = TooLong; left = t ∷ a }) → IsLess t → Differ a b → Beyond Open a b o
 
--- The outcomes with a and with b at the end: they are the same before the end, or the first goes beyond.
+-- The outcomes with `a` and with `b` as the end of the symbols: they are equal, or the first looks beyond the common part.
 pub data Agrees {A : Type 0} (Open : A → Type 0) (a b : List Symbol) (o u : Outcome A) : Type 0 where
   both_read : (x : A) (t : Symbol) (f : List Symbol) → o ≡ Ok (x, t ∷ (f ++ a)) → u ≡ Ok (x, t ∷ (f ++ b)) → Agrees Open a b o u
   both_refuse : (why : Reason) (t : Symbol) (f : List Symbol) → o ≡ Err (record { reason = why; left = t ∷ (f ++ a) }) → u ≡ Err (record { reason = why; left = t ∷ (f ++ b) }) → Agrees Open a b o u
   goes_on : Beyond Open a b o → Agrees Open a b o u
 
--- A parser that looks no further. `consumes` says that it reads at least one symbol where it answers.
+-- A parser with bounded lookahead. `consumes` says that it reads at least one symbol if it succeeds.
 pub record Runs {A : Type 0} (consumes : Bool) (Open : A → Type 0) (p : Parser A) : Type 0 where
-  -- it leaves symbols at the end
+  -- the symbols left are a suffix of the input
   pub suffix : (ts : List Symbol) → IsSuffix (left_of (p ts)) ts
   pub shorter : consumes ≡ true → (ts rest : List Symbol) (x : A) → p ts ≡ Ok (x, rest) → length rest < length ts
   -- at the end of the text no limit is broken
@@ -86,15 +85,15 @@ beyond_as {Open = Open} {a = a} {b = b} e h = subst (λ (w : Outcome _). Beyond 
 pub agree_as : {A : Type 0} {Open : A → Type 0} {a b : List Symbol} {o o' u u' : Outcome A} → o ≡ o' → u ≡ u' → Agrees Open a b o' u' → Agrees Open a b o u
 agree_as {Open = Open} {a = a} {b = b} {o' = o'} {u = u} e e' h = subst (λ (w : Outcome _). Agrees Open a b w u) (sym e) (subst (λ (w : Outcome _). Agrees Open a b o' w) (sym e') h)
 
--- an answer that leaves what stands behind the front
+-- a success that leaves the symbols after the common part
 pub answered : {A : Type 0} {Open : A → Type 0} (x : A) (f a b : List Symbol) → Agrees Open a b (Ok (x, f ++ a)) (Ok (x, f ++ b))
 answered x [] a b = goes_on (reads_on x a refl (suffix_whole a))
 answered x (t ∷ f) a b = both_read x t f refl refl
 
--- ---- rules
+-- ---- rules for composed parsers
 
--- what may follow an answer behind which `<` may open region arguments: it does not refuse that `<`, but for a chain
--- that is too long
+-- A parser that may follow a result after which `<` may open region arguments. The parser rejects that `<` only for a chain that is too
+-- long.
 abbrev pub Tolerates : {B : Type 0} → (B → Type 0) → Parser B → Type 0
 Tolerates Open q = (t : Symbol) (a b : List Symbol) → IsLess t → Differ a b → Beyond Open a b (q (t ∷ a))
 
@@ -165,7 +164,7 @@ unexpected_runs {A} {Open = Open} = record {
     refused [] a b = goes_on (refuses_on _ refl (suffix_whole a))
     refused (t ∷ front) a b = both_refuse Unexpected t front refl refl
 
--- it may be said to read none, and `<` to go on behind its answers
+-- weakening: a parser may be treated as one that may read nothing, and whose results `<` may continue
 pub weaker_runs : {A : Type 0} {c : Bool} {Open : A → Type 0} {p : Parser A} → Runs c Open p → Runs false Open p
 weaker_runs h = record { suffix = h.suffix; shorter = λ is. absurd (cc); ends = h.ends; agrees = h.agrees }
 
@@ -183,7 +182,7 @@ opens_as {A} {Open = Open} {Open' = Open'} {p = p} weaker h = record { suffix = 
 pub runs_open : {A : Type 0} {c : Bool} {Open : A → Type 0} {p : Parser A} → Local c p → Runs c Open p
 runs_open h = opens_as (λ x no. absurd no) h
 
--- the same parser, written otherwise
+-- a parser that is equal at each input to another has the lookahead of the other
 pub runs_as : {A : Type 0} {c : Bool} {Open : A → Type 0} {p q : Parser A} → ((ts : List Symbol) → p ts ≡ q ts) → Runs c Open q → Runs c Open p
 runs_as {c = c} {Open = Open} same h = subst (λ (r : Parser _). Runs c Open r) (sym (fun_ext same)) h
 
@@ -207,7 +206,7 @@ take_runs {A} {B} {Open = Open} room reads give = record {
     one : (room : ℕ) (o : Option A) (t : Symbol) (ts : List Symbol) → IsSuffix (left_of (accept_if room o give t ts)) (t ∷ ts)
     one room None t ts = suffix_whole (t ∷ ts)
     one zero (Some x) t ts = suffix_whole (t ∷ ts)
-    one (suc room) (Some x) t ts = suffix_behind t (suffix_whole ts)
+    one (suc room) (Some x) t ts = suffix_after t (suffix_whole ts)
 
     suffix : (ts : List Symbol) → IsSuffix (left_of (take room reads give ts)) ts
     suffix [] = suffix_whole []
@@ -252,7 +251,7 @@ advance_runs = record { suffix = suffix; shorter = shorter; ends = ends; agrees 
   where
     suffix : (ts : List Symbol) → IsSuffix (left_of (advance ts)) ts
     suffix [] = suffix_whole []
-    suffix (t ∷ ts) = suffix_behind t (suffix_whole ts)
+    suffix (t ∷ ts) = suffix_after t (suffix_whole ts)
 
     shorter : true ≡ true → (ts rest : List Symbol) (x : Place) → advance ts ≡ Ok (x, rest) → length rest < length ts
     shorter is [] rest x h = absurd (cc)
@@ -266,7 +265,7 @@ advance_runs = record { suffix = suffix; shorter = shorter; ends = ends; agrees 
     agree [] a b = goes_on (beyond_suffix (advance a) (suffix a))
     agree (t ∷ f) a b = answered t.place f a b
 
--- ---- by the next symbol
+-- ---- decisions by the next symbol
 
 pub next_runs : {A : Type 0} {c : Bool} {Open : A → Type 0} (f : Option Terminal → Parser A) → ((t : Option Terminal) → Runs c Open (f t)) → Runs c Open (λ ts. f (next ts) ts)
 next_runs {A} {Open = Open} f h = record {
@@ -308,7 +307,7 @@ is_runs {A} {Open = Open} reads {f = f} {q = q} h k = next_runs (λ t. on_some (
     chosen (Some x) = weaker_runs (h x)
     chosen None = weaker_runs k
 
--- What stands there is refused for a limit. At the end of the text nothing does.
+-- A limit rejects the next symbol. At the end of the text it rejects nothing.
 pub limit_runs : {A : Type 0} {d : Bool} {Open : A → Type 0} (g : Option Terminal → Bool) (why : Reason) {q : Parser A} → g None ≡ false → Runs d Open q → Runs false Open (λ ts. cond (g (next ts)) (refuse why) q ts)
 limit_runs {A} {d} {Open = Open} g why {q = q} none h = record {
   suffix = λ ts. left (g (next ts)) ts;
@@ -370,28 +369,28 @@ item_refusal_runs {A} {Open = Open} begins why = record {
     agree [] a b = goes_on (refuses_on _ refl (suffix_whole a))
     agree (t ∷ front) a b = both_refuse _ t front refl refl
 
--- ---- lists whose turns are counted by the symbols
+-- ---- lists, with as many rounds as there are symbols
 
--- two parsers that answer alike behind what is read
-pub same_behind : {A B : Type 0} {c : Bool} {Open : A → Type 0} {p : Parser A} (f g : A → Parser B) (ts : List Symbol) → Runs c Open p
+-- two continuations with equal results on the symbols left
+pub same_after : {A B : Type 0} {c : Bool} {Open : A → Type 0} {p : Parser A} (f g : A → Parser B) (ts : List Symbol) → Runs c Open p
     → ((x : A) (rest : List Symbol) → length rest ≤ length ts → f x rest ≡ g x rest) → bind p f ts ≡ bind p g ts
 unfolding bind
-same_behind {A} {p = p} f g ts h same = go (p ts) (h.suffix ts)
+same_after {A} {p = p} f g ts h same = go (p ts) (h.suffix ts)
   where
     go : (o : Outcome A) → IsSuffix (left_of o) ts → and_then o f ≡ and_then o g
     go (Ok q) s = same q.0 q.1 (suffix-length s)
     go (Err e) s = refl
 
-pub same_behind_read : {A B : Type 0} {Open : A → Type 0} {p : Parser A} (f g : A → Parser B) (ts : List Symbol) → Runs true Open p
+pub same_after_read : {A B : Type 0} {Open : A → Type 0} {p : Parser A} (f g : A → Parser B) (ts : List Symbol) → Runs true Open p
     → ((x : A) (rest : List Symbol) → length rest < length ts → f x rest ≡ g x rest) → bind p f ts ≡ bind p g ts
 unfolding bind
-same_behind_read {A} {p = p} f g ts h same = go (p ts) refl
+same_after_read {A} {p = p} f g ts h same = go (p ts) refl
   where
     go : (o : Outcome A) → p ts ≡ o → and_then o f ≡ and_then o g
     go (Ok q) e = same q.0 q.1 (h.shorter refl ts q.1 q.0 e)
     go (Err e) _ = refl
 
--- the first of two parsers may be another that answers alike here
+-- the first of two parsers may be replaced by one that returns an equal result on these symbols
 pub same_first : {A B : Type 0} (p q : Parser A) (f : A → Parser B) (ts : List Symbol) → p ts ≡ q ts → bind p f ts ≡ bind q f ts
 unfolding bind
 same_first p q f ts e = ap (λ (o : Outcome _). and_then o f) e
@@ -408,7 +407,7 @@ pub starts_same : {A : Type 0} (begins : Terminal → Bool) (p p' q : Parser A) 
 unfolding if_starts
 starts_same begins p p' q ts e = cond_same (starts begins (next ts)) p p' q ts e
 
--- with as many turns as there are symbols, more of them change nothing
+-- further rounds after one for each symbol do not change the parser's result
 pub turns_run : {A : Type 0} {Open : A → Type 0} (q : ℕ → Parser A) → ((n : ℕ) → Runs false Open (q n)) → ((n m : ℕ) (ts : List Symbol) → length ts ≤ n → length ts ≤ m → q n ts ≡ q m ts)
     → Runs false Open (λ ts. q (length ts) ts)
 turns_run {A} {Open = Open} q h enough = record {

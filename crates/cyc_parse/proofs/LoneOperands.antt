@@ -1,5 +1,5 @@
--- An operand of operators that is one number or one name: neither arguments nor a postfix nor a tighter operator comes behind it.
--- And a postfix that is no index.
+-- Operands that are a single number or name: neither arguments nor a postfix nor a tighter operator follows. The file also covers postfixes
+-- that are not an index.
 use Rattle.std.proofs.Common.{◌≡◌, ℕ, zero, suc, Bool, true, false, not, ◌||◌, List, [], ◌∷◌, Option, None, Some, is_some, Ok, refl, ap, subst, ◌∙◌}
 use Rattle.std.proofs.lemmas.Bool.{or_parts}
 use Rattle.cyc_words.proofs.Options.{none_from_is_some}
@@ -10,7 +10,7 @@ use Rattle.cyc_syntax.specs.Grammar.{max_items}
 use Rattle.cyc_syntax.specs.Trees.{Expression, Number, Variable, NoPostfixes}
 use Rattle.cyc_parse.specs.inside.Parsing.{Outcome, and_then, bind, choose, if_sees, next, sees, advance}
 use Rattle.cyc_parse.specs.inside.Expressions.{Nested, nested, unary, primary, postfixes}
-use Rattle.cyc_parse.specs.inside.Steps.{one_field, one_postfix, with_chain, level_at, behind, is_continued, has_more, is_plain_before, is_plain, operand}
+use Rattle.cyc_parse.specs.inside.Steps.{one_field, one_postfix, with_chain, level_at, following, is_continued, has_more, is_plain_before, is_plain, operand}
 use Rattle.cyc_parse.proofs.Levels.{climb_all, climb_ends}
 
 no_postfix_seen : (room left : ℕ) (inner : Nested) (ts : List Symbol) → sees signs.LeftBracket ts || sees signs.Arrow ts ≡ false → postfixes room inner left ts ≡ Ok (NoPostfixes, ts)
@@ -23,7 +23,7 @@ pub no_chain : (room : ℕ) (e : Expression) (ts : List Symbol) → sees signs.L
 unfolding bind
 no_chain room e ts none = rw (no_postfix_seen room max_items (nested room) ts none) refl
 
--- an operand of which the first symbols are all
+-- an operand that ends after its first symbols
 operand_ends : (room below : ℕ) (e : Expression) (ts us : List Symbol) → unary room (nested room) ts ≡ Ok (e, us) → level_at 0 below (next us) ≡ None → operand room (nested room) below ts ≡ Ok (e, us)
 unfolding bind
 operand_ends room below e ts us first none = rw first (climb_all room below e us ∙ climb_ends room 0 below e us none)
@@ -55,12 +55,12 @@ terminal_of : Terminal → Option Terminal → Terminal
 terminal_of t None = t
 terminal_of t (Some u) = u
 
-pub lone_number : (room below n : ℕ) (ts us : List Symbol) (p : Place) → next ts ≡ Some (terminals.Number n) → advance ts ≡ Ok (p, us) → is_continued below (behind ts) ≡ false → operand room (nested room) below ts ≡ Ok (Number p n, us)
+pub lone_number : (room below n : ℕ) (ts us : List Symbol) (p : Place) → next ts ≡ Some (terminals.Number n) → advance ts ≡ Ok (p, us) → is_continued below (following ts) ≡ false → operand room (nested room) below ts ≡ Ok (Number p n, us)
 unfolding terminal_of
 lone_number room below n [] us p is taken alone = absurd (cc)
 lone_number room below n (t ∷ ts) us p is taken alone = number room below t ts alone n (ap (terminal_of t.terminal) is) ∙ ap (λ (o : Outcome Place). and_then o (λ q vs. Ok (Number q n, vs))) taken
 
-pub lone_variable : (room below x : ℕ) (ts us : List Symbol) (p : Place) → next ts ≡ Some (Identifier x) → advance ts ≡ Ok (p, us) → is_continued below (behind ts) ≡ false → operand room (nested room) below ts ≡ Ok (Variable (record { name = x; place = p }), us)
+pub lone_variable : (room below x : ℕ) (ts us : List Symbol) (p : Place) → next ts ≡ Some (Identifier x) → advance ts ≡ Ok (p, us) → is_continued below (following ts) ≡ false → operand room (nested room) below ts ≡ Ok (Variable (record { name = x; place = p }), us)
 unfolding terminal_of
 lone_variable room below x [] us p is taken alone = absurd (cc)
 lone_variable room below x (t ∷ ts) us p is taken alone = variable room below t ts alone x (ap (terminal_of t.terminal) is) ∙ ap (λ (o : Outcome Place). and_then o (λ q vs. Ok (Variable (record { name = x; place = q }), vs))) taken

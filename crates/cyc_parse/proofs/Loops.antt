@@ -1,4 +1,4 @@
--- A list that the code reads in a loop is what the parser of the list gives.
+-- A list that the code reads in a loop equals the result of the list's parser.
 use Rattle.std.proofs.Common.{◌≡◌, ℕ, suc, ◌+◌, ◌-◌, ◌<◌, ◌≤◌, Bool, true, false, cond, List, [], ◌∷◌, ◌++◌, map, Option, Some, None, option_map, Ok, Err, refl, sym, ap, ◌∙◌, arith}
 use Rattle.cyc_syntax.specs.declared.tokens.Sign.TheVariants as signs
 use Rattle.cyc_syntax.specs.Symbols.{Terminal, Symbol}
@@ -19,22 +19,22 @@ use Rattle.cyc_parse.specs.inside.Steps.{after_comma, one_pointer, one_postfix, 
 use Rattle.cyc_parse.specs.inside.Parsing.{Parser, Outcome, and_then, bind, pure, choose, next, advance, if_sees, sees, sign, identifier, if_is, on_some}
 use Rattle.cyc_parse.specs.inside.Declarations.{declaration, declarations_in}
 
--- what is still to be read behind one step of a list
-abbrev pub behind : {Y B : Type 0} → (Y → B → B) → Parser B → Parser B → Option Y → Parser B
-behind add last rest None ts = last ts
-behind add last rest (Some y) ts = and_then (rest ts) (λ b us. Ok (add y b, us))
+-- the symbols left to read after one step of a list
+abbrev pub following : {Y B : Type 0} → (Y → B → B) → Parser B → Parser B → Option Y → Parser B
+following add last rest None ts = last ts
+following add last rest (Some y) ts = and_then (rest ts) (λ b us. Ok (add y b, us))
 
--- `many` reads a list by steps: so many steps are left
+-- `many` reads a list step by step; the number is the number of steps left
 pub record Steps {Y B : Type 0} (add : Y → B → B) (last : Parser B) (one : Parser (Option Y)) (many : ℕ → Parser B) : Type 0 where
-  pub step : (n : ℕ) (ts : List Symbol) → many (suc n) ts ≡ and_then (one ts) (behind add last (many n))
+  pub step : (n : ℕ) (ts : List Symbol) → many (suc n) ts ≡ and_then (one ts) (following add last (many n))
 
 module _ {X Y B : Type 0} (view : X → Y) (add : Y → B → B) where
-  -- items in front of a list
+  -- the items read so far, put before a list
   abbrev pub onto : List X → B → B
   onto [] b = b
   onto (x ∷ xs) b = add (view x) (onto xs b)
 
-  -- what was read before, and what is still read
+  -- the outcome for the rest of a list, with the items read before put in front
   abbrev pub with_front : List X → Outcome B → Outcome B
   with_front front outcome = and_then outcome (λ b ts. Ok (onto front b, ts))
 
@@ -52,7 +52,7 @@ module _ {X Y B : Type 0} (view : X → Y) (add : Y → B → B) where
     goes_on front count i ts us read x whole lt h is so_far =
         let k : count - i ≡ suc (count - (i + 1)) = omega arith in
         let found : one ts ≡ Ok (Some (view x), us) = h ∙ ap (λ (o : Option X). Ok (option_map view o, us)) is in
-        let step : many (count - i) ts ≡ and_then (many (count - (i + 1)) us) (λ b vs. Ok (add (view x) b, vs)) = ap (λ (n : ℕ). many n ts) k ∙ steps.step _ ts ∙ ap (λ (o : Outcome (Option Y)). and_then o (behind add last (many (count - (i + 1))))) found in
+        let step : many (count - i) ts ≡ and_then (many (count - (i + 1)) us) (λ b vs. Ok (add (view x) b, vs)) = ap (λ (n : ℕ). many n ts) k ∙ steps.step _ ts ∙ ap (λ (o : Outcome (Option Y)). and_then o (following add last (many (count - (i + 1))))) found in
         sym (ap (with_front front) step ∙ regroup front x (many (count - (i + 1)) us)) ∙ so_far
 
     pub ends : (front : List X) (count i : ℕ) (ts us : List Symbol) (read : Option X) (whole : Outcome B) → i < count → one ts ≡ Ok (option_map view read, us) → read ≡ None → (b : B) (vs : List Symbol) → last us ≡ Ok (b, vs)
@@ -60,7 +60,7 @@ module _ {X Y B : Type 0} (view : X → Y) (add : Y → B → B) where
     ends front count i ts us read whole lt h is b vs rest so_far =
         let k : count - i ≡ suc (count - (i + 1)) = omega arith in
         let found : one ts ≡ Ok (None, us) = h ∙ ap (λ (o : Option X). Ok (option_map view o, us)) is in
-        let step : many (count - i) ts ≡ Ok (b, vs) = ap (λ (n : ℕ). many n ts) k ∙ steps.step _ ts ∙ ap (λ (o : Outcome (Option Y)). and_then o (behind add last (many (count - (i + 1))))) found ∙ rest in
+        let step : many (count - i) ts ≡ Ok (b, vs) = ap (λ (n : ℕ). many n ts) k ∙ steps.step _ ts ∙ ap (λ (o : Outcome (Option Y)). and_then o (following add last (many (count - (i + 1))))) found ∙ rest in
         sym so_far ∙ ap (with_front front) step
 
     pub fails : (e : Stop) (front : List X) (count i : ℕ) (ts us : List Symbol) (whole : Outcome B) → i < count → Stops e (one ts) us
@@ -68,7 +68,7 @@ module _ {X Y B : Type 0} (view : X → Y) (add : Y → B → B) where
     fails stops.Memory front count i ts us whole lt h so_far = tt
     fails (stops.Refused why) front count i ts us whole lt h so_far =
         let k : count - i ≡ suc (count - (i + 1)) = omega arith in
-        let step : many (count - i) ts ≡ Err (record { reason = view_reason why; left = us }) = ap (λ (n : ℕ). many n ts) k ∙ steps.step _ ts ∙ ap (λ (o : Outcome (Option Y)). and_then o (behind add last (many (count - (i + 1))))) h in
+        let step : many (count - i) ts ≡ Err (record { reason = view_reason why; left = us }) = ap (λ (n : ℕ). many n ts) k ∙ steps.step _ ts ∙ ap (λ (o : Outcome (Option Y)). and_then o (following add last (many (count - (i + 1))))) h in
         sym so_far ∙ ap (with_front front) step
 
     pub fails_full : (e : Stop) (front : List X) (count i : ℕ) (ts us : List Symbol) (whole : Outcome B) → count ≤ i → Stops e (many 0 ts) us
@@ -85,7 +85,7 @@ module _ {X Y B : Type 0} (view : X → Y) (add : Y → B → B) where
         let step : many (count - i) ts ≡ Ok (b, us) = ap (λ (n : ℕ). many n ts) k ∙ h in
         sym so_far ∙ ap (with_front front) step
 
--- the same where a list that ends so is shown so
+-- the relation between the list built by the code and the list returned by the parser
 module _ {X Y B : Type 0} (view : X → Y) (add : Y → B → B) (nothing : B) (show : List X → B) (shows : (xs : List X) → onto view add xs nothing ≡ show xs)
     (one : Parser (Option Y)) (many : ℕ → Parser B) (steps : Steps add (pure nothing) one many) where
   pub ends_as : (front : List X) (count i : ℕ) (ts us : List Symbol) (read : Option X) (whole : Outcome B) → i < count → one ts ≡ Ok (option_map view read, us) → read ≡ None
@@ -114,29 +114,29 @@ onto-operations (x ∷ xs) = ap (then_operation x) (onto-operations xs)
 
 -- ---- the steps of each list
 
--- an item, and then the rest
+-- an item, followed by the rest of the list
 after_item : {A Y B : Type 0} (make : A → Y) (add : Y → B → B) (last rest : Parser B) (o : Outcome A)
-    → and_then o (λ a. bind rest (λ b. pure (add (make a) b))) ≡ and_then (and_then o (λ a. pure (Some (make a)))) (behind add last rest)
+    → and_then o (λ a. bind rest (λ b. pure (add (make a) b))) ≡ and_then (and_then o (λ a. pure (Some (make a)))) (following add last rest)
 unfolding bind
 after_item make add last rest (Ok p) = refl
 after_item make add last rest (Err e) = refl
 
 after_sign : {A Y B P : Type 0} (make : A → Y) (add : Y → B → B) (last rest : Parser B) (item : Parser A) (o : Outcome P)
-    → and_then o (λ _. bind item (λ a. bind rest (λ b. pure (add (make a) b)))) ≡ and_then (and_then o (λ _. bind item (λ a. pure (Some (make a))))) (behind add last rest)
+    → and_then o (λ _. bind item (λ a. bind rest (λ b. pure (add (make a) b)))) ≡ and_then (and_then o (λ _. bind item (λ a. pure (Some (make a))))) (following add last rest)
 unfolding bind
 after_sign make add last rest item (Ok p) = after_item make add last rest (item p.1)
 after_sign make add last rest item (Err e) = refl
 
 by_comma : {A B : Type 0} (add : A → B → B) (nothing : B) (room : ℕ) (item : Parser A) (rest : Parser B) (ts : List Symbol) (b : Bool)
     → cond b (bind (sign room signs.Comma) (λ _. bind item (λ x. bind rest (λ xs. pure (add x xs))))) (pure nothing) ts
-    ≡ and_then (cond b (bind (sign room signs.Comma) (λ _. bind item (λ x. pure (Some x)))) (pure None) ts) (behind add (pure nothing) rest)
+    ≡ and_then (cond b (bind (sign room signs.Comma) (λ _. bind item (λ x. pure (Some x)))) (pure None) ts) (following add (pure nothing) rest)
 unfolding bind
 by_comma add nothing room item rest ts false = refl
 by_comma add nothing room item rest ts true = after_sign (λ x. x) add (pure nothing) rest item (sign room signs.Comma ts)
 
 by_mark : (room : ℕ) (rest : Parser (List Pointer)) (kind : Option PointerKind) (ts : List Symbol)
     → on_some kind (λ k. bind advance (λ _. bind (optional_region room) (λ r. bind rest (λ ms. pure (record { kind = k; region = r } ∷ ms))))) (pure []) ts
-    ≡ and_then ((elim kind as (λ _. Parser (Option Pointer)) [ None ↦ pure None | Some k ↦ bind advance (λ _. bind (optional_region room) (λ r. pure (Some (record { kind = k; region = r })))) ]) ts) (behind (λ m ms. m ∷ ms) (pure []) rest)
+    ≡ and_then ((elim kind as (λ _. Parser (Option Pointer)) [ None ↦ pure None | Some k ↦ bind advance (λ _. bind (optional_region room) (λ r. pure (Some (record { kind = k; region = r })))) ]) ts) (following (λ m ms. m ∷ ms) (pure []) rest)
 unfolding bind
 by_mark room rest None ts = refl
 by_mark room rest (Some k) ts = after_sign (λ r. record { kind = k; region = r }) (λ m ms. m ∷ ms) (pure []) rest (optional_region room) (advance ts)
@@ -145,7 +145,7 @@ pub pointers_of_steps : (room : ℕ) → Steps (λ m ms. m ∷ ms) (pure []) (on
 unfolding pointers_of choose if_is
 pointers_of_steps room = record { step = λ n ts. by_mark room (pointers_of room n) (mark_at (next ts)) ts }
 
--- a step, and then what follows it
+-- a step, followed by its continuation
 pub lift : {A B C : Type 0} (k : C → Parser B) (o : Outcome A) (f : A → Parser C) (g : A → Parser B) → ((a : A) (us : List Symbol) → g a us ≡ and_then (f a us) k) → and_then o g ≡ and_then (and_then o f) k
 lift k (Ok p) f g h = h p.0 p.1
 lift k (Err e) f g h = refl
@@ -164,7 +164,7 @@ postfixes_steps room inner = record {
 
 by_operator : (operand : Parser Expression) (rest : Parser Operations) (operator : Option BinaryOperator) (ts : List Symbol)
     → on_some operator (λ o. bind advance (λ p. bind operand (λ e. bind rest (λ os. pure (ThenOperation o p e os))))) (pure NoOperations) ts
-    ≡ and_then ((elim operator as (λ _. Parser (Option (Operations → Operations))) [ None ↦ pure None | Some o ↦ bind advance (λ p. bind operand (λ e. pure (Some (ThenOperation o p e)))) ]) ts) (behind (λ f os. f os) (pure NoOperations) rest)
+    ≡ and_then ((elim operator as (λ _. Parser (Option (Operations → Operations))) [ None ↦ pure None | Some o ↦ bind advance (λ p. bind operand (λ e. pure (Some (ThenOperation o p e)))) ]) ts) (following (λ f os. f os) (pure NoOperations) rest)
 unfolding bind
 by_operator operand rest None ts = refl
 by_operator operand rest (Some o) ts = lift _ (advance ts) _ _ (λ p us. lift _ (operand us) _ _ (λ e vs. refl))
@@ -179,7 +179,7 @@ more_values_steps room inner = record { step = λ n ts. by_comma MoreExpressions
 
 by_symbol : (room : ℕ) (rest : Parser (List Declaration)) (next : Option Terminal) (ts : List Symbol)
     → (elim next as (λ _. Parser (List Declaration)) [ None ↦ pure [] | Some t ↦ bind (declaration room) (λ d. bind rest (λ ds. pure (d ∷ ds))) ]) ts
-    ≡ and_then ((elim next as (λ _. Parser (Option Declaration)) [ None ↦ pure None | Some t ↦ bind (declaration room) (λ d. pure (Some d)) ]) ts) (behind (λ d ds. d ∷ ds) (pure []) rest)
+    ≡ and_then ((elim next as (λ _. Parser (Option Declaration)) [ None ↦ pure None | Some t ↦ bind (declaration room) (λ d. pure (Some d)) ]) ts) (following (λ d ds. d ∷ ds) (pure []) rest)
 unfolding bind
 by_symbol room rest None ts = refl
 by_symbol room rest (Some t) ts = lift _ (declaration room ts) _ _ (λ d us. refl)
@@ -188,7 +188,7 @@ pub declarations_steps : (room : ℕ) → Steps (λ d ds. d ∷ ds) (pure []) (o
 unfolding declarations_in choose
 declarations_steps room = record { step = λ n ts. by_symbol room (declarations_in room n) (next ts) ts }
 
--- by what comes next a declaration comes, or none
+-- if no symbol is left, no further declaration is read
 pub no_declaration : (room : ℕ) (ts : List Symbol) → next ts ≡ None → one_declaration room ts ≡ Ok (None, ts)
 unfolding choose
 no_declaration room ts none = ap (λ (o : Option Terminal). (elim o as (λ _. Parser (Option Declaration)) [ None ↦ pure None | Some t ↦ bind (declaration room) (λ d. pure (Some d)) ]) ts) none

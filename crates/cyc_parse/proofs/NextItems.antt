@@ -1,4 +1,4 @@
--- What one step of a list gives, by what comes next.
+-- One step of a list, decided by the next symbol.
 use Rattle.std.proofs.Common.{◌≡◌, ℕ, true, false, List, Option, Some, None, Ok, refl, ap, ◌∙◌}
 use Rattle.cyc_syntax.specs.declared.tokens.Sign.TheVariants as signs
 use Rattle.cyc_syntax.specs.declared.tree.BinaryOperator.{BinaryOperator}
@@ -11,12 +11,12 @@ use Rattle.cyc_parse.specs.inside.Parsing.{Parser, Outcome, and_then, bind, pure
 use Rattle.cyc_parse.specs.inside.Expressions.{operator_at}
 use Rattle.cyc_parse.specs.inside.Steps.{after_comma, one_operation}
 
--- ---- behind a comma
+-- ---- the item after a comma
 
 module _ {A : Type 0} (room : ℕ) (item : Parser A) (ts : List Symbol) where
-  pub no_item_behind : sees signs.Comma ts ≡ false → after_comma room item ts ≡ Ok (None, ts)
+  pub no_item_after : sees signs.Comma ts ≡ false → after_comma room item ts ≡ Ok (None, ts)
   unfolding if_sees
-  no_item_behind h = rw h refl
+  no_item_after h = rw h refl
 
   pub comma_stops : (e : Stop) (us : List Symbol) → sees signs.Comma ts ≡ true → Stops e (sign room signs.Comma ts) us → Stops e (after_comma room item ts) us
   unfolding if_sees bind
@@ -24,16 +24,16 @@ module _ {A : Type 0} (room : ℕ) (item : Parser A) (ts : List Symbol) where
   comma_stops (stops.Refused why) us h stopped = rw h (rw stopped refl)
 
   module _ (p : Place) (us vs : List Symbol) (comes : sees signs.Comma ts ≡ true) (taken : sign room signs.Comma ts ≡ Ok (p, us)) where
-    pub item_behind : (x : A) → item us ≡ Ok (x, vs) → after_comma room item ts ≡ Ok (Some x, vs)
+    pub item_after : (x : A) → item us ≡ Ok (x, vs) → after_comma room item ts ≡ Ok (Some x, vs)
     unfolding if_sees bind
-    item_behind x is = rw comes (rw taken (rw is refl))
+    item_after x is = rw comes (rw taken (rw is refl))
 
     pub item_stops : (e : Stop) → Stops e (item us) vs → Stops e (after_comma room item ts) vs
     unfolding if_sees bind
     item_stops stops.Memory stopped = tt
     item_stops (stops.Refused why) stopped = rw comes (rw taken (rw stopped refl))
 
--- ---- behind an operator
+-- ---- the operand after an operator
 
 module _ (operand : Parser Expression) (k : ℕ) (ts : List Symbol) where
   pub no_operation : operator_at k (next ts) ≡ None → one_operation operand k ts ≡ Ok (None, ts)

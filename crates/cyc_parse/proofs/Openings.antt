@@ -1,4 +1,4 @@
--- Of the symbols that may begin a type, an expression, a statement or an item, each begins one: here is such a one.
+-- Each symbol that may begin a type, an expression, a statement or an item does begin one. This file constructs examples.
 use Rattle.std.proofs.Common.{◌≡◌, ℕ, suc, ◌≤◌, true, false, List, [], ◌∷◌, ◌++◌, Option, Some, None, is_some, refl, sym, arith, true≢false}
 use Rattle.cyc_syntax.specs.declared.tokens.Keyword.{Keyword}
 use Rattle.cyc_syntax.specs.declared.tokens.Keyword.TheVariants as words
@@ -21,7 +21,7 @@ use Rattle.cyc_parse.proofs.Rules.{leaf_of}
 use Rattle.cyc_parse.proofs.OperatorSigns.{is_prefix_sign}
 use Rattle.cyc_parse.proofs.Gives.{Spells, Any, Opened, possibly, opened_at, opened_item, opened_then}
 
--- a name, and a number
+-- a name and a number, as examples
 abbrev pub named_at : Place → Named
 named_at p = record { name = 0; place = p }
 
@@ -104,7 +104,7 @@ group_opened d (terminals.Character c) p h = absurd (true≢false (sym h))
 group_opened d (Word k) p h = absurd (true≢false (sym h))
 
 as_plain : {d : ℕ} {u : Terminal} {p : Place} → Opened (Spells (yields.expression d) (λ e _. IsExpression 0 e)) u p → Opened (Spells (yields.initial d) (λ i _. IsInitial i)) u p
-as_plain o = record { value = Plain o.value; leaf = o.leaf; behind = o.behind; terminal = o.terminal; place = o.place; post = o.post }
+as_plain o = record { value = Plain o.value; leaf = o.leaf; following = o.following; terminal = o.terminal; place = o.place; post = o.post }
 
 pub initial_opened : (d : ℕ) (u : Terminal) (p : Place) → begins_initial u ≡ true → Opened (Spells (yields.initial d) (λ i _. IsInitial i)) u p
 initial_opened d (Mark signs.LeftBrace) p h = opened_item d 0 (Mark signs.LeftBrace) p (Array p (named_at p) (zero_at p) (zero_at p)) _ (refl, (tt, tt))
@@ -117,7 +117,7 @@ initial_opened d (Word k) p h = as_plain (expression_opened d (Word k) p h)
 
 -- ---- statements
 
--- A statement, and what may follow it: one that ends in an `if` without `else` takes an `else` that comes.
+-- A statement together with the symbols after it: a statement that ends in an `if` without `else` is not followed by `else`.
 abbrev pub IsStatementBefore : Statement → List Symbol → Type 0
 IsStatementBefore s rest = IsStatement s × (wants_else s ≡ true → starts is_else (next rest) ≡ false)
 
@@ -164,7 +164,7 @@ declared : {d : ℕ} {u : Terminal} {p : Place} → Opened (Spells (yields.writt
 declared {p = p} o = opened_then o (λ t _. possibly (Local t (named_at p) None) _ (refl, tt))
 
 executed : {d : ℕ} {u : Terminal} {p : Place} → OpenedStatement d u p → OpenedItem d u p
-executed o = record { value = Execute o.value; leaf = o.leaf; behind = o.behind; terminal = o.terminal; place = o.place; post = (o.post.0, o.post.1.0) }
+executed o = record { value = Execute o.value; leaf = o.leaf; following = o.following; terminal = o.terminal; place = o.place; post = (o.post.0, o.post.1.0) }
 
 item_word_opened : (d : ℕ) (k : Keyword) (p : Place) → item_word k ≡ true → OpenedItem d (Word k) p
 item_word_opened d words.Int p h = declared (type_opened d (Word words.Int) p refl)

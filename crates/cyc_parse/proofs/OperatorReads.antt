@@ -1,4 +1,4 @@
--- Chains of binary operators are read by their levels.
+-- Chains of binary operators are parsed back from their yields, level by level.
 use Rattle.std.proofs.Common.{◌≡◌, ℕ, zero, suc, ◌+◌, ◌≤◌, ◌<◌, Bool, true, false, cond, ◌&&◌, is_some, List, ◌∷◌, ◌++◌, Some, Ok, Err, refl, sym, ap, subst, ◌∙◌, arith}
 use Rattle.std.proofs.lemmas.Bool.{eq-eqb}
 use Rattle.cyc_words.proofs.Booleans.{and_false}
@@ -19,7 +19,7 @@ use Rattle.cyc_parse.proofs.OperatorSigns.{at_operator_sign, operator_binds}
 at_its_level : (o : BinaryOperator) (k : ℕ) → level o ≡ k → operator_at k (Some (Mark (operator_sign o))) ≡ Some o
 at_its_level o k same = ap (of_level k) (at_operator_sign o) ∙ rw (eq-eqb (level o) k same) refl
 
--- ---- an operator ends its left operand, which is tighter
+-- ---- an operator ends its left operand, which is of a tighter level
 
 begins_no_region : (t : Terminal) → begins_expression t ≡ true → begins_region t ≡ false
 begins_no_region (RegionName r) h = absurd (cc)
@@ -38,7 +38,7 @@ stops_operator k d i o p e ys mid rest same (t, more, is, is_leaf, front) =
 
 -- ---- the operators of one level
 
--- how the operands of a chain are read
+-- the operands of a chain are parsed back
 abbrev pub OperationParts : Parser Expression → ℕ → ℕ → Operations → Type 0
 OperationParts operand k d NoOperations = Unit {0}
 OperationParts operand k d (ThenOperation o p e os) = (level o ≡ suc k) × Reads operand e (yields.expression d e) (Stops k) × OperationParts operand k d os
@@ -57,10 +57,10 @@ module _ (operand : Parser Expression) (k d : ℕ) (shallow : d ≤ max_nesting)
       (advance_reads_item d i (Mark (operator_sign o)) p _ shallow (omega arith)
       (then_reads _ one (last_reads (λ (v : Operations). pure (ThenOperation o p e v)) (λ ts. refl) (operations_reads left (suc i) os (omega arith) parts)) (λ mid rest front ends. between (suc i) os mid rest parts front ends)))
 
--- ---- level by level
+-- ---- induction on the levels
 
 module _ (unary : Parser Expression) where
-  -- the operators of one level behind a first operand
+  -- extends a first operand by the operators of one level
   abbrev pub at_level : ℕ → Expression → Parser Expression
   at_level k first = bind (operations (bind unary (climb unary k)) (suc k) max_items) (λ os. pure (binary_of first os))
 
@@ -76,7 +76,7 @@ module _ (unary : Parser Expression) where
   unfolding climb
   climb_zero {e = e} h = last_reads (climb unary zero) (λ ts. refl) h
 
-  -- An operand is one of the next level too, if no operator of that level follows.
+  -- An operand of one level is also an operand of the next if no operator of that level follows.
   pub climb_more : {e : Expression} {xs : Yield} (k : ℕ) → Reads (bind unary (climb unary k)) e xs (Stops k) → Reads (bind unary (climb unary (suc k))) e xs (Stops (suc k))
   climb_more {e = e} k h = reads_instead (bind (bind unary (climb unary k)) (at_level k)) (λ ts rest front ends. climb-suc k ts)
       (nothing_reads (at_level k) h (last_reads (λ (v : Operations). pure (binary_of e v)) (λ ts. refl) (operations_reads (bind unary (climb unary k)) k 0 (omega arith) 64 1 NoOperations refl tt))
@@ -90,7 +90,7 @@ module _ (unary : Parser Expression) where
   some-binary e NoOperations some = absurd some
   some-binary e (ThenOperation o p r os) some = refl
 
-  -- a chain of this level
+  -- a chain of this level is parsed back from its yield
   pub chain_reads : (k d : ℕ) → d ≤ max_nesting → (e : Expression) (os : Operations) → IsSomeOperation os → Reads (bind unary (climb unary k)) e (yields.expression d e) (Stops k)
       → OperationParts (bind unary (climb unary k)) k d os → Reads (bind unary (climb unary (suc k))) (Binary e os) (yields.expression d e ++ yields.operations d 1 os) (Stops (suc k))
   chain_reads k d shallow e os some first parts = reads_instead (bind (bind unary (climb unary k)) (at_level k)) (λ ts rest front ends. climb-suc k ts)

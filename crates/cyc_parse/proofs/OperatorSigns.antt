@@ -12,9 +12,10 @@ use Rattle.cyc_syntax.specs.Grammar.{level}
 use Rattle.cyc_parse.specs.inside.Expressions.{prefix_operator, begins_by_sign, binary_operator}
 use Rattle.cyc_parse.proofs.Stops.{binds_terminal}
 
--- What is said of every operator, or of every sign, is computed for one after the other: a first one is named so that they are told apart.
+-- A fact about every operator or sign is computed case by case. In each proof, one operator or sign is named first, so that the cases are
+-- distinguished.
 
--- ---- in front of an operand
+-- ---- prefix operators
 
 pub at_prefix_sign : (o : PrefixOperator) → prefix_operator (prefix_sign o) ≡ Some o
 at_prefix_sign prefixes.Not = refl
@@ -32,7 +33,7 @@ pub prefix_begins : (o : PrefixOperator) → begins_by_sign (prefix_sign o) ≡ 
 prefix_begins prefixes.Not = refl
 prefix_begins o = refl
 
--- ---- between two operands
+-- ---- binary operators
 
 pub at_operator_sign : (o : BinaryOperator) → binary_operator (operator_sign o) ≡ Some o
 at_operator_sign operators.Add = refl

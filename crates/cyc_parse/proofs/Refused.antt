@@ -1,4 +1,4 @@
--- What the parser refuses: no program goes on so, or each that goes on so breaks a limit there.
+-- The meaning of a rejection: no program continues these symbols, or each program that does breaks a limit there.
 use Rattle.std.proofs.Common.{◌≡◌, ℕ, suc, ◌+◌, ◌<◌, Bool, true, false, cond, List, [], ◌∷◌, ◌++◌, length, Ok, Err, refl, sym, ap, subst, ◌∙◌, arith, append_assoc, append-nil, length-append, ltb-true, ltb-false}
 use Rattle.std.specs.Prelude.{nat_lt}
 use Rattle.std.specs.List.{AllByRecursion}
@@ -18,7 +18,7 @@ use Rattle.cyc_parse.proofs.OneTree.{judge-within}
 use Rattle.cyc_parse.proofs.Locality.{one_refusal, IsSuffix, suffix-length, left_of, IsLess, reads_on, refuses_on, opens, overflows, Agrees, both_read, both_refuse, goes_on, Never}
 use Rattle.cyc_parse.proofs.LocalDeclarations.{program_runs}
 
--- ---- a refusal looks at no symbol behind it
+-- ---- a rejection does not depend on the symbols after the rejected one
 
 one_symbol : (t s : Symbol) (f back : List Symbol) → t ∷ (f ++ back) ≡ s ∷ back → f ≡ []
 one_symbol t s [] back e = refl
@@ -60,7 +60,7 @@ at_end front why h = (program_runs 200).ends (front ++ []) (record { reason = wh
 
 -- ---- a tree and the first limit that it breaks
 
--- where it does so: behind so many symbols, and symbols are left there
+-- the tree breaks a limit after this many symbols, and symbols are left there
 record IsBroken (leaves : Yield) (ts : List Symbol) (e : Refusal) : Type 0 where
   count : ℕ
   place : count + length e.left ≡ length ts
@@ -75,7 +75,7 @@ broken_later l ls t ts e good h = record {
   first = record {
     before = l ∷ h.first.before;
     leaf = h.first.leaf;
-    behind = h.first.behind;
+    following = h.first.following;
     are = ap (λ (ys : Yield). l ∷ ys) h.first.are;
     place = ap suc h.first.place;
     within = (good, h.first.within);
@@ -88,7 +88,7 @@ broken_here l ls t ts why e breaks same = subst (IsBroken (l ∷ ls) (t ∷ ts))
   count = 0;
   place = omega arith;
   some = omega arith;
-  first = record { before = []; leaf = l; behind = ls; are = refl; place = refl; within = tt; breaks = breaks };
+  first = record { before = []; leaf = l; following = ls; are = refl; place = refl; within = tt; breaks = breaks };
 })
 
 judged_refusal : {A : Type 0} (leaves : Yield) (ts : List Symbol) (x : A × List Symbol) (e : Refusal) → IsSpelled leaves ts → judge leaves ts (Ok x) ≡ Err e → IsBroken leaves ts e
@@ -104,7 +104,7 @@ judged_refusal {A} (l ∷ ls) (t ∷ ts) x e (is, more) h = go (nat_lt max_nesti
     go false true shallow many h later = broken_here l ls t ts TooLong e (ltb-false max_nesting l.nesting shallow, ltb-true max_items l.item many) (one_refusal _ _ h)
     go false false shallow few h later = broken_later l ls t ts e (record { nesting = ltb-false max_nesting l.nesting shallow; item = ltb-false max_items l.item few }) (later h)
 
--- ---- what a refusal says
+-- ---- the meaning of a rejection
 
 front_count : (front : List Symbol) (s : Symbol) (more : List Symbol) (leaves : Yield) (why : Reason) → IsBroken leaves (front ++ s ∷ more) (record { reason = why; left = s ∷ more }) → BreaksFirst why leaves (length front)
 front_count front s more leaves why h = subst (BreaksFirst why leaves) (omega (arith, h.place, length-append front (s ∷ more))) h.first
@@ -141,35 +141,35 @@ program_of-refused ts e h = let s = program_suffix ts e h in record {
   holds = holds s.before e.left e.reason (ap program_of (sym s.are) ∙ h);
 }
 
--- ---- what is refused, and what is not
+-- ---- rejected and accepted symbols
 
--- symbols with a tree that keeps the limits are never refused
+-- symbols with a tree that keeps the limits are never rejected
 pub within_limits_answered : (ts : List Symbol) (tree : List Declaration) → HasTree ts tree → IsWithinLimits tree → program_of ts ≡ Ok (tree, [])
 within_limits_answered ts tree has small = program_of-complete ts tree has ∙ judge-within (yields.program tree) ts (Ok (tree, [])) small
 
-judge_breaks : {A : Type 0} (before : Yield) (leaf : Leaf) (behind : Yield) (front : List Symbol) (s : Symbol) (back : List Symbol) (why : Reason) (outcome : Outcome A)
-    → length before ≡ length front → AllByRecursion IsWithin before → Breaks why leaf → judge (before ++ leaf ∷ behind) (front ++ s ∷ back) outcome ≡ Err (record { reason = why; left = s ∷ back })
-judge_breaks [] leaf behind [] s back TooDeep outcome same all deep = rw (lt-nat_lt max_nesting leaf.nesting deep) refl
-judge_breaks [] leaf behind [] s back TooLong outcome same all (shallow, many) = rw (le-nat_lt max_nesting leaf.nesting shallow, lt-nat_lt max_items leaf.item many) refl
-judge_breaks [] leaf behind [] s back Unexpected outcome same all no_limit = absurd no_limit
-judge_breaks [] leaf behind (t ∷ front) s back why outcome same all breaks = absurd (omega (arith, same))
-judge_breaks (l ∷ ls) leaf behind [] s back why outcome same all breaks = absurd (omega (arith, same))
-judge_breaks (l ∷ ls) leaf behind (t ∷ front) s back why outcome same (one, all) breaks =
-    rw (le-nat_lt max_nesting l.nesting one.nesting, le-nat_lt max_items l.item one.item) (judge_breaks ls leaf behind front s back why outcome (omega (arith, same)) all breaks)
+judge_breaks : {A : Type 0} (before : Yield) (leaf : Leaf) (following : Yield) (front : List Symbol) (s : Symbol) (back : List Symbol) (why : Reason) (outcome : Outcome A)
+    → length before ≡ length front → AllByRecursion IsWithin before → Breaks why leaf → judge (before ++ leaf ∷ following) (front ++ s ∷ back) outcome ≡ Err (record { reason = why; left = s ∷ back })
+judge_breaks [] leaf following [] s back TooDeep outcome same all deep = rw (lt-nat_lt max_nesting leaf.nesting deep) refl
+judge_breaks [] leaf following [] s back TooLong outcome same all (shallow, many) = rw (le-nat_lt max_nesting leaf.nesting shallow, lt-nat_lt max_items leaf.item many) refl
+judge_breaks [] leaf following [] s back Unexpected outcome same all no_limit = absurd no_limit
+judge_breaks [] leaf following (t ∷ front) s back why outcome same all breaks = absurd (omega (arith, same))
+judge_breaks (l ∷ ls) leaf following [] s back why outcome same all breaks = absurd (omega (arith, same))
+judge_breaks (l ∷ ls) leaf following (t ∷ front) s back why outcome same (one, all) breaks =
+    rw (le-nat_lt max_nesting l.nesting one.nesting, le-nat_lt max_items l.item one.item) (judge_breaks ls leaf following front s back why outcome (omega (arith, same)) all breaks)
 
--- where a tree breaks a limit, its symbols are refused for the first that it breaks, there
+-- if a tree breaks a limit, its symbols are rejected for the first limit that it breaks, at that symbol
 pub first_limit_refused : (front back : List Symbol) (s : Symbol) (tree : List Declaration) (why : Reason) → HasTree (front ++ s ∷ back) tree → BreaksFirst why (yields.program tree) (length front)
     → program_of (front ++ s ∷ back) ≡ Err (record { reason = why; left = s ∷ back })
 first_limit_refused front back s tree why has h =
     program_of-complete (front ++ s ∷ back) tree has
     ∙ ap (λ (ys : Yield). judge ys (front ++ s ∷ back) (Ok (tree, []))) h.are
-    ∙ judge_breaks h.before h.leaf h.behind front s back why (Ok (tree, [])) h.place h.within h.breaks
+    ∙ judge_breaks h.before h.leaf h.following front s back why (Ok (tree, [])) h.place h.within h.breaks
 
--- ---- what is refused has no tree that keeps the limits
+-- ---- rejected symbols have no tree that keeps the limits
 
-all_behind : (before : Yield) (leaf : Leaf) (behind : Yield) → AllByRecursion IsWithin (before ++ leaf ∷ behind) → IsWithin leaf
-all_behind [] leaf behind (one, all) = one
-all_behind (l ∷ ls) leaf behind (one, all) = all_behind ls leaf behind all
+all_after : (before : Yield) (leaf : Leaf) (following : Yield) → AllByRecursion IsWithin (before ++ leaf ∷ following) → IsWithin leaf
+all_after [] leaf following (one, all) = one
+all_after (l ∷ ls) leaf following (one, all) = all_after ls leaf following all
 
 keeps_no_limit : (why : Reason) (leaf : Leaf) → IsWithin leaf → Breaks why leaf → ⊥
 keeps_no_limit TooDeep leaf good deep = omega (arith, good.nesting, deep)
@@ -177,7 +177,7 @@ keeps_no_limit TooLong leaf good (shallow, many) = omega (arith, good.item, many
 keeps_no_limit Unexpected leaf good none = none
 
 broken_not_within : (why : Reason) (leaves : Yield) (count : ℕ) → BreaksFirst why leaves count → AllByRecursion IsWithin leaves → ⊥
-broken_not_within why leaves count h all = keeps_no_limit why h.leaf (all_behind h.before h.leaf h.behind (subst (λ (ys : Yield). AllByRecursion IsWithin ys) h.are all)) h.breaks
+broken_not_within why leaves count h all = keeps_no_limit why h.leaf (all_after h.before h.leaf h.following (subst (λ (ys : Yield). AllByRecursion IsWithin ys) h.are all)) h.breaks
 
 none_within_limits : (why : Reason) (front left : List Symbol) (tree : List Declaration) → Holds why front left → HasTree (front ++ left) tree → IsWithinLimits tree → ⊥
 none_within_limits Unexpected front [] tree h has small = h tree (subst (λ (ts : List Symbol). HasTree ts tree) (append-nil front) has)

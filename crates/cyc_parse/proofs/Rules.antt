@@ -1,5 +1,4 @@
--- What a parser does on symbols that begin with a yield, and the rules by which this follows for parsers made of
--- parsers.
+-- The result of a parser on symbols that begin with a given yield, and the rules for composed parsers.
 use Rattle.std.proofs.Common.{◌≡◌, ℕ, zero, suc, ◌+◌, ◌≤◌, ◌<◌, Bool, true, false, cond, List, [], ◌∷◌, ◌++◌, Option, Some, None, Ok, Err, refl, sym, ap, subst, ◌∙◌, arith, append-nil, append_assoc, length, zero-le, suc-le-suc}
 use Rattle.std.specs.Option.{IfSome}
 use Rattle.std.specs.Prelude.{nat_lt}
@@ -16,12 +15,12 @@ use Rattle.cyc_syntax.specs.Grammar.{IsLeaf, max_nesting, max_items}
 use Rattle.cyc_parse.specs.inside.Parsing.{Parser, Outcome, Reason, TooDeep, TooLong, and_then, bind, choose, next, take, is_sign, is_word, identifier_name, region_of_terminal, named, only_place}
 use Rattle.cyc_parse.specs.inside.Parsing.{sign, word, identifier, region_name, accept, accept_if, advance, if_sees, sees, sees_terminal, refuse, refuse_item, starts, if_starts, on_some, if_is, pure}
 
--- the symbols begin with the yield, and these follow it
+-- the symbols begin with the yield, and `rest` follows it
 abbrev pub Front : Yield → List Symbol → List Symbol → Type 0
 Front [] ts rest = ts ≡ rest
 Front (leaf ∷ leaves) ts rest = (t : Symbol) × (more : List Symbol) × (ts ≡ t ∷ more) × IsLeaf leaf t × Front leaves more rest
 
--- the outcome, unless a limit is broken before: then its refusal at the first such leaf
+-- the outcome, unless a leaf of the yield breaks a limit: then the rejection at the first such leaf
 abbrev pub judge : {A : Type 0} → Yield → List Symbol → Outcome A → Outcome A
 judge [] ts outcome = outcome
 judge (leaf ∷ leaves) [] outcome = outcome
@@ -30,15 +29,14 @@ judge (leaf ∷ leaves) (t ∷ ts) outcome =
     (cond (nat_lt max_items leaf.item) (Err (record { reason = TooLong; left = t ∷ ts }))
     (judge leaves ts outcome))
 
--- Where symbols begin with the yield of x, and what follows does not go on with it, the parser gives x, or the refusal
--- of the first limit that is broken.
+-- On symbols that begin with the yield of x and do not continue it, the parser returns x, or rejects the first broken limit.
 pub record Reads {A : Type 0} (p : Parser A) (x : A) (leaves : Yield) (Ends : List Symbol → Type 0) : Type 0 where
   pub reads : (ts rest : List Symbol) → Front leaves ts rest → Ends rest → p ts ≡ judge leaves ts (Ok (x, rest))
 
 abbrev pub Always : List Symbol → Type 0
 Always ts = Unit {0}
 
--- ---- fronts and judgements of two parts
+-- ---- splitting and joining of yields
 
 pub front-split : (xs ys : Yield) (ts rest : List Symbol) → Front (xs ++ ys) ts rest → (mid : List Symbol) × Front xs ts mid × Front ys mid rest
 front-split [] ys ts rest f = (ts, refl, f)
@@ -63,9 +61,9 @@ and_then-judge {A} {B} (l ∷ xs) (t ∷ ts) outcome f =
     (and_then-cond (nat_lt max_items l.item) (Err (record { reason = TooLong; left = t ∷ ts })) (judge xs ts outcome) f
     ∙ ap (λ (o : Outcome B). cond (nat_lt max_items l.item) (Err (record { reason = TooLong; left = t ∷ ts })) o) (and_then-judge xs ts outcome f))
 
--- ---- rules
+-- ---- rules for composed parsers
 
--- one parser and then another
+-- a parser followed by another
 pub then_reads : {A B : Type 0} {p : Parser A} (f : A → Parser B) {x : A} {y : B} {xs ys : Yield} {EndsX EndsY : List Symbol → Type 0}
     → Reads p x xs EndsX → Reads (f x) y ys EndsY → ((mid rest : List Symbol) → Front ys mid rest → EndsY rest → EndsX mid) → Reads (bind p f) y (xs ++ ys) EndsY
 unfolding bind
@@ -81,7 +79,7 @@ then_reads {p = p} f {x = x} {y = y} {xs = xs} {ys = ys} first second between = 
 pub pure_reads : {A : Type 0} (x : A) (Ends : List Symbol → Type 0) → Reads (pure x) x [] Ends
 pure_reads x Ends = record { reads = λ ts rest front ends. ap (λ (s : List Symbol). Ok (x, s)) front }
 
--- a parser, and something made of what it gives
+-- a parser, and a node made of its result
 pub last_reads : {A B : Type 0} {p : Parser A} (f : A → Parser B) {x : A} {y : B} {xs : Yield} {Ends : List Symbol → Type 0} → ((ts : List Symbol) → f x ts ≡ Ok (y, ts))
     → Reads p x xs Ends → Reads (bind p f) y xs Ends
 unfolding bind
@@ -90,19 +88,19 @@ last_reads f {x = x} {y = y} {xs = xs} is h = record {
       ap (λ (o : Outcome _). and_then o f) (h.reads ts rest front ends) ∙ and_then-judge xs ts (Ok (x, rest)) f ∙ ap (judge xs ts) (is rest);
 }
 
--- The parser does there what another does.
+-- A parser may be replaced by one that returns an equal result on these symbols.
 pub reads_instead : {A : Type 0} {p : Parser A} (q : Parser A) {x : A} {xs : Yield} {Ends : List Symbol → Type 0}
     → ((ts rest : List Symbol) → Front xs ts rest → Ends rest → p ts ≡ q ts) → Reads q x xs Ends → Reads p x xs Ends
 reads_instead q same h = record { reads = λ ts rest front ends. same ts rest front ends ∙ h.reads ts rest front ends }
 
--- what follows may be said to be more
+-- the condition on the following symbols may be strengthened
 pub reads_before : {A : Type 0} {p : Parser A} {x : A} {xs : Yield} (Ends : List Symbol → Type 0) {More : List Symbol → Type 0}
     → Reads p x xs Ends → ((rest : List Symbol) → More rest → Ends rest) → Reads p x xs More
 reads_before Ends h weaker = record { reads = λ ts rest front ends. h.reads ts rest front (weaker rest ends) }
 
 -- ---- one symbol
 
--- the nesting of a leaf and the room for it
+-- the relation between the nesting of a leaf and the room left for it
 abbrev pub Fits : ℕ → ℕ → Type 0
 Fits room d = room + d ≡ suc max_nesting
 
@@ -120,7 +118,7 @@ accept_reads : {B C : Type 0} (room : ℕ) (b : B) (f : B → Parser C) (leaf : 
 accept_reads zero b f leaf ys t more outcome fits few e = sym (judge-deep leaf ys t more outcome (omega arith))
 accept_reads (suc room) b f leaf ys t more outcome fits few e = e ∙ sym (judge-leaf leaf ys t more outcome (omega arith) few)
 
--- a symbol that is read, and then another parser
+-- a symbol that is read, followed by another parser
 pub token_reads : {A B C : Type 0} (room : ℕ) (reads : Terminal → Option A) (give : A → Place → B) (f : B → Parser C) {y : C} {ys : Yield} {Ends : List Symbol → Type 0} (leaf : Leaf) (a : A)
     → Fits room leaf.nesting → leaf.item ≤ max_items → reads leaf.terminal ≡ Some a
     → ((p : Place) → IfSome leaf.place (λ q. p ≡ q) → Reads (f (give a p)) y ys Ends)
@@ -133,7 +131,7 @@ token_reads room reads give f {y = y} {ys = ys} leaf a fits few is next = record
       ∙ accept_reads room (give a t.place) f leaf ys t more (Ok (y, rest)) fits few ((next t.place is_leaf.place).reads more rest front ends));
 }
 
--- of which the place is not kept, or is kept
+-- a leaf without or with a stored place
 abbrev pub leaf_of : ℕ → Terminal → Leaf
 leaf_of d t = record { terminal = t; place = None; nesting = d; item = 0 }
 
@@ -170,16 +168,16 @@ identifier_reads room d x f {y = y} {ys = ys} {Ends = Ends} fits next =
     token_reads room identifier_name named f (leaf_at d (Identifier x.name) x.place) x.name fits (omega arith) refl
     (λ p e. subst (λ (q : Place). Reads (f (named x.name q)) y ys Ends) (sym e) next)
 
--- the number of its item may be any within the limit
+-- a region name is read; the number of its item may be any within the limit
 pub region_reads : {C : Type 0} (room d i : ℕ) (x : Named) (f : Named → Parser C) {y : C} {ys : Yield} {Ends : List Symbol → Type 0} → Fits room d → i ≤ max_items
     → Reads (f x) y ys Ends → Reads (bind (region_name room) f) y (record { terminal = RegionName x.name; place = Some x.place; nesting = d; item = i } ∷ ys) Ends
 region_reads room d i x f {y = y} {ys = ys} {Ends = Ends} fits few next =
     token_reads room region_of_terminal named f (record { terminal = RegionName x.name; place = Some x.place; nesting = d; item = i }) x.name fits few refl
     (λ p e. subst (λ (q : Place). Reads (f (named x.name q)) y ys Ends) (sym e) next)
 
--- ---- by the next symbol
+-- ---- decisions by the next symbol
 
--- the symbols begin with this leaf's
+-- the symbols begin with the symbol of this leaf
 pub front-next : (leaf : Leaf) (ys : Yield) (ts rest : List Symbol) → Front (leaf ∷ ys) ts rest → next ts ≡ Some leaf.terminal
 front-next leaf ys ts rest (t, more, e, is_leaf, front) = ap next e ∙ ap Some is_leaf.terminal
 
@@ -192,7 +190,7 @@ advance_reads f {y = y} {ys = ys} leaf shallow few next = record {
       ((next t.place is_leaf.place).reads more rest front ends ∙ sym (judge-leaf leaf ys t more (Ok (y, rest)) shallow few));
 }
 
--- of which the place is kept
+-- reads the next symbol, whose place is stored
 pub advance_reads_at : {C : Type 0} (d : ℕ) (t : Terminal) (q : Place) (f : Place → Parser C) {y : C} {ys : Yield} {Ends : List Symbol → Type 0} → d ≤ max_nesting
     → Reads (f q) y ys Ends → Reads (bind advance f) y (leaf_at d t q ∷ ys) Ends
 advance_reads_at d t q f {y = y} {ys = ys} {Ends = Ends} shallow next =
@@ -233,19 +231,19 @@ pub isnt_reads : {A B : Type 0} (reads : Option Terminal → Option A) (f : A �
 unfolding if_is
 isnt_reads reads f q isnt h = reads_instead q (λ ts rest front ends. ap (λ (o : Option _). on_some o f q ts) (isnt ts rest front ends)) h
 
--- a parser, and one that reads nothing
+-- a parser followed by one that reads nothing
 pub nothing_reads : {A B : Type 0} {p : Parser A} (f : A → Parser B) {x : A} {y : B} {xs : Yield} {EndsX EndsY : List Symbol → Type 0}
     → Reads p x xs EndsX → Reads (f x) y [] EndsY → ((rest : List Symbol) → EndsY rest → EndsX rest) → Reads (bind p f) y xs EndsY
 nothing_reads {p = p} f {y = y} {xs = xs} {EndsX = EndsX} {EndsY = EndsY} first second between =
     subst (λ (zs : Yield). Reads (bind p f) y zs EndsY) (append-nil xs) (then_reads f first second (λ mid rest front ends. subst EndsX (sym front) (between rest ends)))
 
--- what begins here is refused by the limit that it breaks
+-- an item that begins here is rejected for the limit that it breaks
 pub refuse_item-is : {A : Type 0} (begins : Terminal → Bool) (why : Reason) (t : Symbol) (ts : List Symbol) → begins t.terminal ≡ true
     → refuse_item {A = A} begins why (t ∷ ts) ≡ Err (record { reason = why; left = t ∷ ts })
 unfolding refuse_item
 refuse_item-is begins why t ts is = rw is refl
 
--- ---- a yield that begins as an item does
+-- ---- yields that begin like an item
 
 pub record Starts (begins : Terminal → Bool) (d : ℕ) (leaves : Yield) : Type 0 where
   pub first : Leaf
@@ -255,7 +253,7 @@ pub record Starts (begins : Terminal → Bool) (d : ℕ) (leaves : Yield) : Type
   pub nesting : first.nesting ≡ d
   pub item : first.item ≤ max_items
 
--- where no room is left
+-- a first symbol that is nested too deep is rejected
 pub deep_reads : {A : Type 0} (begins : Terminal → Bool) (d : ℕ) {x : A} {xs : Yield} {Ends : List Symbol → Type 0} → max_nesting < d → Starts begins d xs → Reads (refuse_item begins TooDeep) x xs Ends
 deep_reads begins d {x = x} {Ends = Ends} deep s = subst (λ (xs : Yield). Reads (refuse_item begins TooDeep) x xs Ends) (sym s.are) (record {
   reads = λ ts rest (t, more, e, is_leaf, front) ends.
@@ -284,18 +282,18 @@ starts_append ys s = record { first = s.first; others = s.others ++ ys; are = ap
 pub starts_number : {begins : Terminal → Bool} {d : ℕ} {xs : Yield} (i : ℕ) → i ≤ max_items → Starts begins d xs → Starts begins d (item_number i xs)
 starts_number i few s = record { first = record (s.first) { item = i }; others = s.others; are = ap (item_number i) s.are; begin = s.begin; nesting = s.nesting; item = few }
 
--- where no room is left, what would come then does not matter
+-- if the limit on nesting rejects the first symbol, the result does not depend on the parsers of the later symbols
 pub deep_then_reads : {A B : Type 0} (begins : Terminal → Bool) (d : ℕ) (f : A → Parser B) {x : B} {xs : Yield} {Ends : List Symbol → Type 0} → max_nesting < d → Starts begins d xs
     → Reads (bind (refuse_item begins TooDeep) f) x xs Ends
 deep_then_reads begins d f deep s = reads_instead (refuse_item begins TooDeep) (λ ts rest front ends. deep_bind begins f ts) (deep_reads begins d deep s)
 
--- an item of a list, within its limit
+-- an item of a list, within the limit on items
 pub number_reads : {A : Type 0} {p : Parser A} {x : A} {xs : Yield} {Ends : List Symbol → Type 0} (begins : Terminal → Bool) (d i : ℕ) → i ≤ max_items → Starts begins d xs
     → Reads p x xs Ends → Reads p x (item_number i xs) Ends
 number_reads {p = p} {x = x} {Ends = Ends} begins d i few s h =
     subst (λ (ys : Yield). Reads p x (item_number i ys) Ends) (sym s.are) (first_in_item i s.first s.others (omega arith) few (subst (λ (ys : Yield). Reads p x ys Ends) s.are h))
 
--- the next symbol of what begins so
+-- the next symbol of a yield that begins like an item
 pub starts-next : {begins : Terminal → Bool} {d : ℕ} {xs : Yield} (s : Starts begins d xs) (ys : Yield) (ts rest : List Symbol) → Front (xs ++ ys) ts rest → next ts ≡ Some s.first.terminal
 starts-next s ys ts rest front = front-next s.first (s.others ++ ys) ts rest (subst (λ (zs : Yield). Front (zs ++ ys) ts rest) s.are front)
 
@@ -319,7 +317,7 @@ long_leaf_reads {x = x} leaf ys shallow many = record {
       subst (λ (w : List Symbol). refuse TooLong w ≡ judge (leaf ∷ ys) w (Ok (x, rest))) (sym e) (rw (le-nat_lt max_nesting leaf.nesting shallow, lt-nat_lt max_items leaf.item many) refl);
 }
 
--- a parser of which nothing is made
+-- a parser whose result is returned unchanged
 pub bare_reads : {A : Type 0} {p : Parser A} {x : A} {xs : Yield} {Ends : List Symbol → Type 0} → Reads (bind p (λ v. pure v)) x xs Ends → Reads p x xs Ends
 unfolding bind
 bare_reads {A} {p = p} {x = x} {xs = xs} h = record { reads = λ ts rest front ends. sym (same (p ts)) ∙ h.reads ts rest front ends }
@@ -334,20 +332,20 @@ pub advance_reads_item : {C : Type 0} (d i : ℕ) (t : Terminal) (q : Place) (f 
 advance_reads_item d i t q f {y = y} {ys = ys} {Ends = Ends} shallow few next =
     advance_reads f (record { terminal = t; place = Some q; nesting = d; item = i }) shallow few (λ p e. subst (λ (x : Place). Reads (f x) y ys Ends) (sym e) next)
 
--- the symbols are at least as many as the leaves
+-- the number of symbols is at least the number of leaves
 pub front-length : (xs : Yield) (ts rest : List Symbol) → Front xs ts rest → length xs ≤ length ts
 front-length [] ts rest front = zero-le
 front-length (leaf ∷ xs) ts rest (t, more, e, is_leaf, front) = subst (λ (s : List Symbol). suc (length xs) ≤ length s) (sym e) (suc-le-suc (front-length xs more rest front))
 
--- the same leaves, grouped otherwise
+-- a parser that reads a yield also reads an equal yield, for example one with another grouping
 pub yield_reads : {A : Type 0} {q : Parser A} {x : A} {xs ys : Yield} {Ends : List Symbol → Type 0} → xs ≡ ys → Reads q x xs Ends → Reads q x ys Ends
 yield_reads {q = q} {x = x} {Ends = Ends} same h = subst (λ (zs : Yield). Reads q x zs Ends) same h
 
--- what stands between two leaves, and what follows them
+-- a part between two leaves, and the symbols after it
 pub between_then : {A : Type 0} {q : Parser A} {x : A} {Ends : List Symbol → Type 0} (l r : Leaf) (xs ys : Yield) → Reads q x ((l ∷ (xs ++ r ∷ [])) ++ ys) Ends → Reads q x (l ∷ (xs ++ r ∷ ys)) Ends
 between_then l r xs ys h = yield_reads (ap (λ (zs : Yield). l ∷ zs) (append_assoc xs (r ∷ []) ys)) h
 
--- a symbol where no room is left: what would come then does not matter
+-- a symbol without room left: the parsers after it do not matter
 pub token_deep_reads : {A B C : Type 0} (reads : Terminal → Option A) (give : A → Place → B) (f : B → Parser C) {y : C} {ys : Yield} {Ends : List Symbol → Type 0} (leaf : Leaf) (a : A)
     → max_nesting < leaf.nesting → reads leaf.terminal ≡ Some a → Reads (bind (take zero reads give) f) y (leaf ∷ ys) Ends
 unfolding bind take
@@ -363,7 +361,7 @@ word_deep_reads d k f deep = token_deep_reads (is_word k) only_place f (leaf_of 
 pub sign_deep_reads : {C : Type 0} (d : ℕ) (s : Sign) (f : Place → Parser C) {y : C} {ys : Yield} {Ends : List Symbol → Type 0} → max_nesting < d → Reads (bind (sign zero s) f) y (leaf_of d (Mark s) ∷ ys) Ends
 sign_deep_reads d s f deep = token_deep_reads (is_sign s) only_place f (leaf_of d (Mark s)) tt deep (same_sign-self s)
 
--- a test that what begins so meets
+-- a test that each yield of this kind passes
 pub starting_reads : {A : Type 0} (begins : Terminal → Bool) (d : ℕ) (p q : Parser A) {x : A} {xs : Yield} {Ends : List Symbol → Type 0} → Starts begins d xs → Reads p x xs Ends → Reads (if_starts begins p q) x xs Ends
 starting_reads begins d p q {x = x} {Ends = Ends} s h = subst (λ (zs : Yield). Reads (if_starts begins p q) x zs Ends) (sym s.are)
     (starts_reads begins p q s.first s.others s.begin (subst (λ (zs : Yield). Reads p x zs Ends) s.are h))

@@ -1,5 +1,5 @@
--- SOUNDNESS: what the parser answers is a tree of all the symbols, and keeps the limits. And where it refuses a symbol
--- for a limit, some program begins with the symbols up to that one.
+-- SOUNDNESS: a tree that the parser returns is a tree of all the symbols and keeps the limits. If it rejects a symbol for a limit, some
+-- program begins with the symbols up to that one.
 use Rattle.std.proofs.Common.{◌≡◌, ℕ, zero, suc, ◌≤◌, List, [], ◌∷◌, ◌++◌, length, Option, Some, None, Ok, Err, refl, sym, ap, subst, ◌∙◌, arith, append_assoc}
 use Rattle.std.proofs.lemmas.List.{append_cancel_right}
 use Rattle.std.specs.Option.{IfSome}
@@ -36,7 +36,7 @@ declarations_leave_none (suc turns) (t ∷ ts) rest ds few h =
     ends_made (declarations_in 200 turns) (λ ds. w.value ∷ ds) w.mid rest ds
     (λ ds left e. declarations_leave_none turns w.mid left ds (omega (arith, few, (declaration_runs 200).shorter refl (t ∷ ts) w.mid w.value w.first)) e) w.second
 
--- ---- the tree
+-- ---- the returned tree
 
 one_gives : (ts : List Symbol) → Gives (declaration 200) (Spells (yields.declaration 0) (λ x _. IsDeclaration x)) ts
 one_gives = declaration_gives 200 0 refl (omega arith)
@@ -92,16 +92,16 @@ program_of-sound ts left tree h =
           within = subst IsWithinLimits value small;
         }
 
--- what is answered weighs as much as there are symbols
+-- the weight of a returned tree is the number of symbols
 pub answered_weight : (ts left : List Symbol) (tree : List Declaration) → program_of ts ≡ Ok (tree, left) → tree_weight tree ≡ length ts
 answered_weight ts left tree h = tree_weight-length ts tree (program_of-sound ts left tree h).has
 
--- ---- what is refused for a limit
+-- ---- symbols rejected for a limit
 
 program_gives : (ts : List Symbol) → Gives (program 200) (Spells yields.program (λ ds _. IsNonempty ds × AreDeclarations ds)) ts
 program_gives ts = spelled_then (one_gives ts) (λ d mid is. last_then (λ ds. d ∷ ds) (gives_instead (declarations_in 200 (length mid)) refl (declarations_give (length mid) mid)) (λ ds rest are. (refl, (tt, (is, are)))))
 
--- symbols that leaves stand for
+-- symbols that realize the leaves of a yield
 abbrev place_or : Option Place → Place
 place_or None = some_place
 place_or (Some p) = p
@@ -140,9 +140,9 @@ limit_begun front back s why limit h =
     let c = (program_gives (front ++ s ∷ back)).goes (record { reason = why; left = s ∷ back }) h limit in
     let b = c.begins in
     let (before, are, spelled) = before_rest b.done (front ++ s ∷ back) b.back b.front in
-    let behind : back ≡ b.back = rest_same back b.back s b.symbol b.left_are in
+    let following : back ≡ b.back = rest_same back b.back s b.symbol b.left_are in
     let same : before ≡ front ++ s ∷ [] =
-    append_cancel_right before (front ++ s ∷ []) back (ap (λ (us : List Symbol). before ++ us) behind ∙ sym are ∙ sym (append_assoc front (s ∷ []) back)) in
+    append_cancel_right before (front ++ s ∷ []) back (ap (λ (us : List Symbol). before ++ us) following ∙ sym are ∙ sym (append_assoc front (s ∷ []) back)) in
     let whole : IsSpelled (b.done ++ b.more) (before ++ symbols_for b.more) = spelled-append b.done b.more before (symbols_for b.more) spelled (for_spelled b.more) in
     let symbols : before ++ symbols_for b.more ≡ front ++ s ∷ symbols_for b.more = ap (λ (us : List Symbol). us ++ symbols_for b.more) same ∙ append_assoc front (s ∷ []) (symbols_for b.more) in (
       symbols_for b.more,

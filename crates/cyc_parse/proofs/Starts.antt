@@ -1,4 +1,4 @@
--- How the yields of expressions begin.
+-- The first symbols of the yields of expressions.
 use Rattle.std.proofs.Common.{◌≡◌, ℕ, ◌≤◌, ◌<◌, Bool, true, false, [], ◌∷◌, ◌++◌, Some, refl, arith, zero-le}
 use Rattle.cyc_syntax.specs.declared.tokens.Sign.TheVariants as signs
 use Rattle.cyc_syntax.specs.declared.tree.BinaryOperator.{BinaryOperator}
@@ -22,7 +22,7 @@ expression_starts d (Binary e os) = starts_append (operations d 1 os) (expressio
 expression_starts d (Assign a b) = starts_append _ (expression_starts d a)
 expression_starts d e = record { first = _; others = _; are = refl; begin = refl; nesting = refl; item = zero-le }
 
--- the same where a brace may begin, too
+-- the first symbol of an expression also begins an initial value, which may begin with a brace
 in_initial : (t : Terminal) → begins_expression t ≡ true → begins_initial t ≡ true
 in_initial (Mark signs.LeftBrace) h = refl
 in_initial (Mark _) h = h
@@ -33,7 +33,7 @@ initial_starts d (Plain e) = let s = expression_starts d e in record { first = s
 initial_starts d (Fields s rs es) = record { first = _; others = _; are = refl; begin = refl; nesting = refl; item = zero-le }
 initial_starts d (Array p x n e) = record { first = _; others = _; are = refl; begin = refl; nesting = refl; item = zero-le }
 
--- ---- what stands behind a name at the front of an expression of a level: nothing, or what goes on with it
+-- ---- the symbols after a name at the start of an expression of a level: none, or symbols that continue it
 
 pub data IsSecond (k : ℕ) : Yield → Type 0 where
   alone : IsSecond k []
@@ -69,7 +69,7 @@ second_goes_on k d (Binary e os) x (below, less, limit, first, some, are) named 
 second_goes_on k d (Assign a b) x (most, left, right) named = second_append _ (second_less (omega arith) (second_goes_on 10 d a x left named)) (goes_on _ _ (omega arith) refl)
 second_goes_on k d e x is named = absurd (cc)
 
--- ---- what stands behind `char` at the front of an expression: a bracket
+-- ---- the symbol after `char` at the start of an expression is a parenthesis
 
 abbrev pub OpensParen : Yield → Type 0
 OpensParen [] = ⊥
@@ -87,7 +87,7 @@ char_opens d (Binary e os) h = opens_append _ _ (char_opens d e h)
 char_opens d (Assign a b) h = opens_append _ _ (char_opens d a h)
 char_opens d e h = absurd (cc)
 
--- ---- how operands begin
+-- ---- first symbols of operands
 
 abbrev pub begins_primary : Terminal → Bool
 begins_primary (Identifier x) = true

@@ -1,4 +1,4 @@
--- The lists of items and of clauses that the code reads in a loop are what the parser of the list gives.
+-- The lists of items and of clauses that the code reads in a loop equal the results of their parsers.
 use Rattle.std.proofs.Common.{◌≡◌, ℕ, suc, ◌+◌, ◌-◌, ◌<◌, true, false, List, [], ◌∷◌, Option, Some, None, option_map, Ok, Err, refl, sym, ap, ◌∙◌, arith}
 use Rattle.cyc_syntax.specs.declared.tokens.Keyword.TheVariants as words
 use Rattle.cyc_syntax.specs.declared.tokens.Sign.TheVariants as signs
@@ -13,7 +13,7 @@ use Rattle.cyc_parse.specs.inside.Code.{Stops, view_reason}
 use Rattle.cyc_parse.specs.inside.Parsing.{Parser, Outcome, and_then, bind, pure, next, starts, if_starts, sign, word, identifier}
 use Rattle.cyc_parse.specs.inside.Statements.{Nested, begins_item, is_case, caught, clauses_in, item, items_in}
 use Rattle.cyc_parse.specs.inside.StatementSteps.{one_item, clause_head, with_items, one_clause, then_clause, default_clause}
-use Rattle.cyc_parse.proofs.Loops.{Steps, behind, onto, with_front, lift, then_by_test}
+use Rattle.cyc_parse.proofs.Loops.{Steps, following, onto, with_front, lift, then_by_test}
 
 pub onto-items : (xs : List ItemCode) → onto view_item MoreItems xs NoItems ≡ items_of xs
 onto-items [] = refl
@@ -30,12 +30,12 @@ items_in_steps room inner = record {
 }
 
 module _ (room : ℕ) (inner : Nested) (ts : List Symbol) where
-  -- where no item begins, the list ends
+  -- if no item begins here, the list ends
   pub no_item : starts begins_item (next ts) ≡ false → one_item room inner ts ≡ Ok (None, ts)
   unfolding if_starts
   no_item ends = rw ends refl
 
-  -- where one begins, it is what is read
+  -- an item that begins at the current symbol is read
   pub an_item : starts begins_item (next ts) ≡ true → (i : Item) (us : List Symbol) → item room inner ts ≡ Ok (i, us) → one_item room inner ts ≡ Ok (Some i, us)
   unfolding if_starts bind
   an_item begins i us is = rw begins (rw is refl)
@@ -45,7 +45,7 @@ module _ (room : ℕ) (inner : Nested) (ts : List Symbol) where
   no_more_of_item stops.Memory begins us stopped = tt
   no_more_of_item (stops.Refused why) begins us stopped = rw begins (rw stopped refl)
 
--- what is done with the outcome of two parsers, done with the second's
+-- composing two parsers is associative
 then_regrouped : {A B C : Type 0} (o : Outcome A) (f : A → Parser B) (k : B → Parser C) → and_then o (λ a us. and_then (f a us) k) ≡ and_then (and_then o f) k
 then_regrouped (Ok p) f k = refl
 then_regrouped (Err e) f k = refl
@@ -53,20 +53,20 @@ then_regrouped (Err e) f k = refl
 pub clauses_in_steps : (room : ℕ) (inner : Nested) → Steps (λ f cs. f cs) (default_clause room inner) (one_clause room inner) (clauses_in room inner)
 unfolding clauses_in if_starts bind
 clauses_in_steps room inner = record {
-  step = λ n ts. then_by_test (λ head us. and_then (with_items room inner head us) (behind (λ f cs. f cs) (default_clause room inner) (clauses_in room inner n))) (starts is_case (next ts)) _ _ _ _ ts
+  step = λ n ts. then_by_test (λ head us. and_then (with_items room inner head us) (following (λ f cs. f cs) (default_clause room inner) (clauses_in room inner n))) (starts is_case (next ts)) _ _ _ _ ts
       (lift _ (word room words.Case ts) _ _ (λ _ us. lift _ (sign room signs.And us) _ _ (λ _ vs. lift _ (identifier room vs) _ _ (λ x ws.
       lift _ (caught room inner ws) _ _ (λ v xs. lift _ (sign room signs.Colon xs) _ _ (λ _ ys. lift _ (inner.items ys) _ _ (λ is zs. refl)))))))
       refl
-      ∙ then_regrouped (clause_head room inner ts) (with_items room inner) (behind (λ f cs. f cs) (default_clause room inner) (clauses_in room inner n));
+      ∙ then_regrouped (clause_head room inner ts) (with_items room inner) (following (λ f cs. f cs) (default_clause room inner) (clauses_in room inner n));
 }
 
 module _ {X Y B : Type 0} (view : X → Y) (add : Y → B → B) (last : Parser B) (one : Parser (Option Y)) (many : ℕ → Parser B) (steps : Steps add last one many) where
-  -- what follows the last step fails
+  -- the rejection by the parser that follows the last step
   pub ends_badly : (e : Stop) (front : List X) (count i : ℕ) (ts us vs : List Symbol) (read : Option X) (whole : Outcome B) → i < count → one ts ≡ Ok (option_map view read, us) → read ≡ None → Stops e (last us) vs
       → with_front view add front (many (count - i) ts) ≡ whole → Stops e whole vs
   ends_badly stops.Memory front count i ts us vs read whole lt h is rest so_far = tt
   ends_badly (stops.Refused why) front count i ts us vs read whole lt h is rest so_far =
       let k : count - i ≡ suc (count - (i + 1)) = omega arith in
       let found : one ts ≡ Ok (None, us) = h ∙ ap (λ (o : Option X). Ok (option_map view o, us)) is in
-      let step : many (count - i) ts ≡ Err (record { reason = view_reason why; left = vs }) = ap (λ (n : ℕ). many n ts) k ∙ steps.step _ ts ∙ ap (λ (o : Outcome (Option Y)). and_then o (behind add last (many (count - (i + 1))))) found ∙ rest in
+      let step : many (count - i) ts ≡ Err (record { reason = view_reason why; left = vs }) = ap (λ (n : ℕ). many n ts) k ∙ steps.step _ ts ∙ ap (λ (o : Outcome (Option Y)). and_then o (following add last (many (count - (i + 1))))) found ∙ rest in
       sym so_far ∙ ap (with_front view add front) step

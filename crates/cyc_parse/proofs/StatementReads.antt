@@ -1,4 +1,4 @@
--- Each production of statements is read as it is written, given how its parts are read.
+-- Each production of statements is parsed back from its yield, given that its parts are.
 use Rattle.std.proofs.Common.{◌≡◌, ℕ, suc, ◌≤◌, Bool, true, false, cond, ◌&&◌, List, [], ◌∷◌, ◌++◌, Option, Some, None, refl, sym, ap, subst, ◌∙◌, arith, append-nil}
 use Rattle.cyc_syntax.specs.declared.tokens.Keyword.TheVariants as words
 use Rattle.cyc_syntax.specs.declared.tokens.Sign.TheVariants as signs
@@ -10,7 +10,7 @@ use Rattle.cyc_syntax.specs.Yields as yields
 use Rattle.cyc_syntax.specs.Grammar.{IsExpression, IsExpressionOrNone, wants_else}
 use Rattle.cyc_parse.specs.inside.Parsing.{Parser, pure, next, sees, sees_terminal, if_sees, starts, sign, bind, choose}
 use Rattle.cyc_parse.specs.inside.Expressions.{begins_expression, nested, primary, unary}
-use Rattle.cyc_parse.specs.inside.Statements.{begins_item, begins_clause, is_else, is_unary, end_of_swap, nested_statements, body, swap, behind, return_value, thrown, statement, statement_by, clauses}
+use Rattle.cyc_parse.specs.inside.Statements.{begins_item, begins_clause, is_else, is_unary, end_of_swap, nested_statements, body, swap, following, return_value, thrown, statement, statement_by, clauses}
 use Rattle.cyc_parse.specs.inside.Statements as statements
 use Rattle.cyc_parse.proofs.Rules.{Front, Reads, Fits, Always, starts-next, leaf_of, leaf_at, front-next, then_reads, last_reads, nothing_reads, pure_reads, reads_instead, reads_before, word_reads}
 use Rattle.cyc_parse.proofs.Rules.{sign_reads, sign_reads_at, identifier_reads, choose_reads, advance_reads_at, sees_reads, unseen_reads, seen_reads, starts_reads, unstarted_reads, between_then}
@@ -25,27 +25,27 @@ use Rattle.cyc_parse.proofs.Openings.{looser}
 pub record EndsStatement (wants : Bool) (ts : List Symbol) : Type 0 where
   pub no_else : wants ≡ true → starts is_else (next ts) ≡ false
 
--- what follows the items of a block
+-- the symbols that may follow the items of a block
 pub record EndsBlock (ts : List Symbol) : Type 0 where
   pub item : starts begins_item (next ts) ≡ false
   pub no_else : starts is_else (next ts) ≡ false
 
--- what follows the clauses of a catch
+-- the symbols that may follow the clauses of a catch
 pub record EndsClauses (ts : List Symbol) : Type 0 where
   pub clause : starts begins_clause (next ts) ≡ false
   pub block : EndsBlock ts
 
--- what follows a returned value
+-- the symbols that may follow a returned value
 pub record EndsValue (ts : List Symbol) : Type 0 where
   pub semicolon : sees signs.Semicolon ts ≡ true
   pub stops : Stops 11 ts
 
--- ---- expressions where a statement asks them
+-- ---- expressions as parts of statements
 
 pub expression_at : (room d : ℕ) → Fits room d → (e : Expression) → IsExpression 11 e → Reads (nested room).expression e (yields.expression d e) (Stops 11)
 expression_at room d fits e is = (all_read e).expression room d fits is
 
--- an operand is an expression
+-- an operand is parsed as an expression
 pub loosest : (e : Expression) → IsExpression 0 e → IsExpression 11 e
 loosest e is = looser 0 11 (omega arith) e is
 
@@ -54,7 +54,7 @@ is-unary (Binary e os) (below, less, limit, first, some, are) = absurd (omega ar
 is-unary (Assign a b) (most, is_a, is_b) = absurd (omega arith)
 is-unary _ is = refl
 
--- no colon comes behind a name at the front of an expression
+-- no colon follows a name at the start of an expression
 high_not_colon : (t : Terminal) → binds_terminal t ≤ 11 → sees_terminal signs.Colon (Some t) ≡ false
 high_not_colon (Mark signs.Colon) h = absurd (omega arith)
 high_not_colon (Mark _) h = refl
@@ -65,13 +65,13 @@ no_colon ys more rest alone front after = after more rest front
 no_colon ys more rest (goes_on leaf zs binds plain) (u, us, e, is_leaf, front) after = ap (sees signs.Colon) e ∙ ap (λ (t : Terminal). sees_terminal signs.Colon (Some t)) is_leaf.terminal ∙ high_not_colon leaf.terminal binds
 
 module _ (room : ℕ) where
-  -- the parser on a name that is no label
+  -- the parser of a name that is not a label
   on_name : (x : ℕ) (t : Symbol) (more : List Symbol) → t.terminal ≡ Identifier x → sees signs.Colon more ≡ false
-      → statement room (nested_statements room) (t ∷ more) ≡ bind (statements.expression room (nested_statements room)) (behind room (nested_statements room)) (t ∷ more)
+      → statement room (nested_statements room) (t ∷ more) ≡ bind (statements.expression room (nested_statements room)) (following room (nested_statements room)) (t ∷ more)
   unfolding statement choose if_sees bind nested unary primary
   on_name x t more named plain = rw (named) (rw (plain) refl)
 
-  not_name : (t : Terminal) → begins_expression t ≡ true → ((x : ℕ) → t ≡ Identifier x → ⊥) → statement_by room (nested_statements room) (Some t) ≡ bind (statements.expression room (nested_statements room)) (behind room (nested_statements room))
+  not_name : (t : Terminal) → begins_expression t ≡ true → ((x : ℕ) → t ≡ Identifier x → ⊥) → statement_by room (nested_statements room) (Some t) ≡ bind (statements.expression room (nested_statements room)) (following room (nested_statements room))
   not_name (Identifier x) h other = absurd (other x refl)
   not_name (RegionName r) h other = refl
   not_name (terminals.Number n) h other = refl
@@ -93,11 +93,11 @@ module _ (room : ℕ) where
   on_other t more p same = ap (λ (q : Parser Statement). q (t ∷ more)) same
 
   abbrev Goes : Symbol → List Symbol → Type 0
-  Goes t more = statement room (nested_statements room) (t ∷ more) ≡ bind (statements.expression room (nested_statements room)) (behind room (nested_statements room)) (t ∷ more)
+  Goes t more = statement room (nested_statements room) (t ∷ more) ≡ bind (statements.expression room (nested_statements room)) (following room (nested_statements room)) (t ∷ more)
 
   module _ (d : ℕ) (e : Expression) (is : IsExpression 11 e) (ys : Yield) (after : (w r : List Symbol) → Front ys w r → sees signs.Colon w ≡ false) where
     other_terminal : (u : Terminal) → ((x : ℕ) → u ≡ Identifier x → ⊥) → (expression_starts d e).first.terminal ≡ u → (t : Symbol) (more : List Symbol) → t.terminal ≡ u → Goes t more
-    other_terminal u other same t more named = on_other t more (bind (statements.expression room (nested_statements room)) (behind room (nested_statements room)))
+    other_terminal u other same t more named = on_other t more (bind (statements.expression room (nested_statements room)) (following room (nested_statements room)))
         (ap (λ (v : Terminal). statement_by room (nested_statements room) (Some v)) named ∙ not_name u (ap begins_expression (sym same) ∙ (expression_starts d e).begin) other)
 
     by_terminal : (u : Terminal) → (expression_starts d e).first.terminal ≡ u → (t : Symbol) (more rest : List Symbol) → t.terminal ≡ u → Front ((expression_starts d e).others ++ ys) more rest → Goes t more
@@ -109,18 +109,18 @@ module _ (room : ℕ) where
     by_terminal (Mark s) same t more rest named front = other_terminal (Mark s) (λ y k. cc) same t more named
 
     at_first : (ts rest : List Symbol) → Front ((expression_starts d e).first ∷ ((expression_starts d e).others ++ ys)) ts rest
-        → statement room (nested_statements room) ts ≡ bind (statements.expression room (nested_statements room)) (behind room (nested_statements room)) ts
+        → statement room (nested_statements room) ts ≡ bind (statements.expression room (nested_statements room)) (following room (nested_statements room)) ts
     at_first ts rest (t, more, eq, is_leaf, front) =
-        subst (λ (w : List Symbol). statement room (nested_statements room) w ≡ bind (statements.expression room (nested_statements room)) (behind room (nested_statements room)) w) (sym eq)
+        subst (λ (w : List Symbol). statement room (nested_statements room) w ≡ bind (statements.expression room (nested_statements room)) (following room (nested_statements room)) w) (sym eq)
         (by_terminal ((expression_starts d e).first.terminal) refl t more rest is_leaf.terminal front)
 
     -- a statement that begins with an expression
-    pub begun_reads : {x : Statement} {Ends : List Symbol → Type 0} → Reads (bind (statements.expression room (nested_statements room)) (behind room (nested_statements room))) x (yields.expression d e ++ ys) Ends
+    pub begun_reads : {x : Statement} {Ends : List Symbol → Type 0} → Reads (bind (statements.expression room (nested_statements room)) (following room (nested_statements room))) x (yields.expression d e ++ ys) Ends
         → Reads (statement room (nested_statements room)) x (yields.expression d e ++ ys) Ends
-    begun_reads h = reads_instead (bind (statements.expression room (nested_statements room)) (behind room (nested_statements room)))
+    begun_reads h = reads_instead (bind (statements.expression room (nested_statements room)) (following room (nested_statements room)))
         (λ ts rest front ends. at_first ts rest (subst (λ (zs : Yield). Front (zs ++ ys) ts rest) (expression_starts d e).are front)) h
 
--- how blocks and inner statements are read, one level deeper
+-- blocks and inner statements are parsed back by the parsers one level deeper
 pub record ReadsStatement (room d : ℕ) (s : Statement) : Type 0 where
   pub reads : Reads (nested_statements room).statement s (yields.statement d s) (EndsStatement (wants_else s))
 
@@ -178,7 +178,7 @@ module _ (room d : ℕ) (fits : Fits (suc room) d) where
   condition_reads : (c : Expression) → IsExpression 11 c → Reads (nested (suc room)).group c (leaf_of d (Mark signs.LeftParen) ∷ (yields.expression (suc d) c ++ leaf_of (suc d) (Mark signs.RightParen) ∷ [])) Always
   condition_reads c is = nested_group_reads (suc room) d fits c Always (all_read c) is
 
-  -- behind the condition and the statement
+  -- an `if` without `else`, after the condition and the statement
   pub if_reads : (p : Place) (c : Expression) (s : Statement) → IsExpression 11 c → ReadsStatement room (suc d) s → Reads (statement room (nested_statements room)) (If p c s) (yields.statement d (If p c s)) (EndsStatement true)
   if_reads p c s is h = by_choice (leaf_at d (Word words.If) p) _ (advance_reads_at d (Word words.If) p _ (shallow room d fits)
       (between_then _ _ (yields.expression (suc d) c) (yields.statement (suc d) s) (then_reads _ (condition_reads c is)

@@ -1,4 +1,4 @@
--- What may follow an expression of a level: nothing that goes on with it.
+-- The symbols that may follow an expression of a level: none that continues it.
 use Rattle.std.proofs.Common.{◌≡◌, ℕ, ◌≤◌, ◌<◌, Bool, true, false, cond, List, [], ◌∷◌, Option, Some, None, refl, sym, subst, arith}
 use Rattle.std.proofs.lemmas.Bool.{ne_eqb}
 use Rattle.cyc_words.proofs.Numbers.{below_chosen}
@@ -32,7 +32,7 @@ binds_terminal (Number n) = 12
 binds_terminal (Character c) = 12
 binds_terminal (Word k) = 12
 
--- the level at which the next symbol goes on with an expression; region arguments go on with `new` and a name
+-- the operator level at which the next symbol continues an expression; region arguments continue `new` and a name
 abbrev pub binds : List Symbol → ℕ
 binds [] = 12
 binds (t ∷ ts) = cond (opens_regions (t ∷ ts)) 0 (binds_terminal t.terminal)
@@ -43,7 +43,7 @@ pub record Stops (k : ℕ) (ts : List Symbol) : Type 0 where
 pub stops-less : (j k : ℕ) (ts : List Symbol) → j ≤ k → Stops k ts → Stops j ts
 stops-less j k ts h s = record { loose = omega arith }
 
--- a symbol other than `<` at the front
+-- a first symbol other than `<` stops an expression if its own level is looser
 pub stops_leaf : (k : ℕ) (leaf : Leaf) (ys : Yield) (mid rest : List Symbol) → sees_terminal signs.Less (Some leaf.terminal) ≡ false → k < binds_terminal leaf.terminal
     → Front (leaf ∷ ys) mid rest → Stops k mid
 stops_leaf k leaf ys mid rest plain loose (t, more, e, is_leaf, front) =
@@ -52,7 +52,7 @@ stops_leaf k leaf ys mid rest plain loose (t, more, e, is_leaf, front) =
     at_front : (u : Symbol) (us : List Symbol) → u.terminal ≡ leaf.terminal → k < binds (u ∷ us)
     at_front u us same = rw (same, plain) loose
 
--- ---- what does not come next
+-- ---- signs that do not come next
 
 not_here : (s : Sign) → ((t : Terminal) → 0 < binds_terminal t → sees_terminal s (Some t) ≡ false) → (ts : List Symbol) → Stops 0 ts → sees s ts ≡ false
 not_here s each [] stops = refl

@@ -1,4 +1,4 @@
--- Types are read as they are written.
+-- Types are parsed back from their yields.
 use Rattle.std.proofs.Common.{◌≡◌, ℕ, zero, suc, ◌+◌, ◌≤◌, false, List, [], ◌∷◌, ◌++◌, Option, Some, None, refl, ap, ◌∙◌, arith, zero-le}
 use Rattle.cyc_syntax.specs.declared.tokens.Keyword.TheVariants as words
 use Rattle.cyc_syntax.specs.declared.tokens.Sign.TheVariants as signs
@@ -24,7 +24,7 @@ pub record EndsType (ts : List Symbol) : Type 0 where
 pub record NoRegion (ts : List Symbol) : Type 0 where
   pub none : starts begins_region (next ts) ≡ false
 
--- no region arguments follow
+-- no region arguments follow: no `<` comes next
 pub record NotLess (ts : List Symbol) : Type 0 where
   pub less : sees signs.Less ts ≡ false
 

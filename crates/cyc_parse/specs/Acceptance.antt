@@ -1,5 +1,5 @@
--- Which tokens the parser accepts, and what it refuses where. (What a program is, is the Cyclone manual's grammar; limits, codes and
--- places are this project's own choice.)
+-- The tokens that the parser accepts, and its faults with their places. (Programs are those of the Cyclone manual's grammar; limits, codes
+-- and places are this project's own choice.)
 use Rattle.std.specs.Prelude.{◌≡◌, ℕ, List, ◌∷◌, ◌++◌, length}
 use Rattle.cyc_words.specs.declared.fault.Fault.{Fault}
 use Rattle.cyc_syntax.specs.Tokens.{Token}
@@ -11,30 +11,29 @@ use Rattle.cyc_parse.specs.Faults.{Refusal, end_of, fault_of}
 use Rattle.cyc_parse.specs.Refusals.{BreaksFirst}
 use Rattle.cyc_parse.specs.Refusals as symbols
 
--- The tokens are accepted with these declarations: they are a tree of the tokens by the grammar, and all is within the
--- limits.
+-- The tokens are accepted with these declarations: by the grammar they are a tree of the tokens, and the tree is within the limits.
 pub record IsAccepted (tokens : List Token) (tree : List Declaration) : Type 0 where
   pub has : HasTree (symbols_of tokens) tree
   pub within : IsWithinLimits tree
 
--- The tokens of the text are refused with this fault: what its code says holds at its place.
+-- The tokens of the text are rejected with this fault: the meaning of its code holds at its place.
 pub record IsRefused (text : List ℕ) (tokens : List Token) (fault : Fault) : Type 0 where
   pub refusal : Refusal
   pub refused : symbols.IsRefused (symbols_of tokens) refusal
   pub is : fault ≡ fault_of (end_of text) refusal
 
--- The tokens have a tree, and of its tokens this is the first that breaks a limit, this one.
+-- The tokens have a tree, and the given token is the first that breaks a limit, namely this limit.
 pub record BreaksLimit (tokens : List Token) (refusal : Refusal) : Type 0 where
   pub front : List Symbol
   pub symbol : Symbol
-  pub behind : List Symbol
-  pub are : symbols_of tokens ≡ front ++ symbol ∷ behind
-  pub left : refusal.left ≡ symbol ∷ behind
+  pub following : List Symbol
+  pub are : symbols_of tokens ≡ front ++ symbol ∷ following
+  pub left : refusal.left ≡ symbol ∷ following
   pub tree : List Declaration
   pub has : HasTree (symbols_of tokens) tree
   pub breaks : BreaksFirst refusal.reason (program tree) (length front)
 
--- The fault of such a limit.
+-- The fault of a program that breaks a limit.
 pub record IsFaulty (text : List ℕ) (tokens : List Token) (fault : Fault) : Type 0 where
   pub refusal : Refusal
   pub breaks : BreaksLimit tokens refusal

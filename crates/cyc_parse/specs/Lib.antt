@@ -1,6 +1,7 @@
--- what the contract of `parse` and the laws rest on
+-- definitions that the contract of `parse` and the laws use
 pub mod Acceptance
 pub mod Refusals
 pub mod Faults
--- What the functions of this crate promise each other and what its proofs say: no public contract of the product means it.
+-- Contracts between this crate's functions, and statements of its proofs. No public contract of the product depends on these internal
+-- definitions.
 pub mod inside

@@ -1,11 +1,11 @@
--- what the functions inside the crate promise each other: the parser as functions on lists of symbols
+-- contracts between the functions of the crate: the parser as functions on lists of symbols
 pub mod Parsing
 pub mod Types
 pub mod Expressions
 pub mod Statements
 pub mod Declarations
 pub mod Answers
--- and what the code has to do with them
+-- the relation between the code and the parser of symbols
 pub mod Code
 pub mod Boxes
 pub mod Steps

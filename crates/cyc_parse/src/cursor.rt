@@ -1,4 +1,4 @@
-//! The symbols that are left, and the parsers of one symbol.
+//! The symbols left to parse, and the parsers of one symbol.
 #![tactic(auto, unfolding(crate::specs::inside::Parsing::take))]
 
 ghost use Rattle.std.specs.Prelude.{◌≡◌, ℕ, suc, true, length, map, option_map, is_some, IfSome, IfNone, Ok, if◌then◌else◌};
@@ -8,7 +8,7 @@ ghost use Rattle.cyc_syntax.specs.inside.TreeView.{place_of_span, view_name};
 ghost use Rattle.cyc_parse.specs.inside.Code.{Gives, view_terminal, view_symbol, accepted};
 ghost use Rattle.cyc_parse.specs.Faults.{place_at};
 ghost use Rattle.cyc_parse.specs.inside.Declarations.{number_value};
-ghost use Rattle.cyc_parse.specs.inside.Steps.{behind};
+ghost use Rattle.cyc_parse.specs.inside.Steps.{following};
 ghost use Rattle.cyc_parse.specs.inside.Parsing.{next, sees, opens_regions, opens_low_byte, advance, take, sign, word, identifier, region_name};
 
 use crate::stop::{Reason, Stop};
@@ -18,7 +18,7 @@ use cyc_words::Span;
 use std::alloc::Global;
 use std::marker::Model;
 
-/// A recursive-descent parser. A clause sees the symbols that are left.
+/// A recursive-descent parser. Contracts see it as the list of the symbols left.
 #[derive(Drop)]
 pub(crate) struct Parser<'a> {
     alloc: Global,
@@ -45,7 +45,7 @@ impl<'a> Parser<'a> {
         }
     }
 
-    /// The place of the next symbol, or with none the end of the text.
+    /// Returns the place of the next symbol, or the end of the text if there is none.
     pub(crate) fn place(&self, end: Span) -> Span
         ensures { place_of_span result ≡ place_at (place_of_span end) self.now }
     {
@@ -64,9 +64,9 @@ impl<'a> Parser<'a> {
         }
     }
 
-    /// The symbol behind the next one.
+    /// Returns the symbol after the next one.
     pub(crate) fn second(&self) -> Option<Terminal>
-        ensures { option_map view_terminal result ≡ next (behind self.now) }
+        ensures { option_map view_terminal result ≡ next (following self.now) }
     {
         match self.left {
             [_, second, ..] => Some(second.terminal),
@@ -83,7 +83,7 @@ impl<'a> Parser<'a> {
         }
     }
 
-    /// Whether region arguments begin here: `<` and a region.
+    /// Returns true if region arguments begin here: `<` and a region.
     pub(crate) fn opens_regions(&self) -> bool
         ensures { result ≡ opens_regions self.now }
     {
@@ -96,8 +96,8 @@ impl<'a> Parser<'a> {
         }
     }
 
-    /// Whether the low byte of a value begins here: `char` and a bracket. Behind `char` that is a type, a mark or a name
-    /// comes.
+    /// Returns true if `char` and a parenthesis come next: a conversion to a low byte. In a declaration, `char` is followed by a mark or a
+    /// name.
     pub(crate) fn opens_low_byte(&self) -> bool
         ensures { result ≡ opens_low_byte self.now }
     {
@@ -122,7 +122,7 @@ impl<'a> Parser<'a> {
         }
     }
 
-    /// Takes the next symbol, whatever it is, where there is one.
+    /// Reads the next symbol, whatever it is, if there is one.
     pub(crate) fn take_next(&mut self) -> Span
         requires { is_some (next self.old) ≡ true }
         ensures { advance self.old ≡ Ok (place_of_span result, self.new) }
@@ -136,7 +136,7 @@ impl<'a> Parser<'a> {
         }
     }
 
-    /// Takes the next symbol, whatever it is, if it does not stand too deep.
+    /// Reads the next symbol, whatever it is, unless it is nested too deep.
     fn accept(&mut self, room: u32) -> Result<Span, Stop>
         ensures { Gives place_of_span result (accepted room self.old) self.new }
     {
@@ -146,7 +146,7 @@ impl<'a> Parser<'a> {
         self.advance()
     }
 
-    // ---- a symbol at the level that is read, which is not too deep
+    // ---- a symbol at the present level of nesting, which is never too deep
 
     pub(crate) fn take_sign(&mut self, wanted: Sign) -> Result<Span, Stop>
         ensures { (room : ℕ) → Gives place_of_span result (sign (suc room) wanted self.old) self.new }
@@ -157,7 +157,7 @@ impl<'a> Parser<'a> {
         self.advance()
     }
 
-    /// Takes this sign, if it comes next.
+    /// Reads this sign, if it comes next.
     pub(crate) fn take_if(&mut self, wanted: Sign) -> Option<Span>
         ensures seen { sees wanted self.old ≡ is_some result }
         ensures taken { IfSome result (λ span. (room : ℕ) → sign (suc room) wanted self.old ≡ Ok (place_of_span span, self.new)) }
@@ -208,7 +208,7 @@ impl<'a> Parser<'a> {
         Ok(value)
     }
 
-    // ---- a symbol further inside: `room` counts the levels that are left there
+    // ---- a symbol at an inner level: `room` counts the levels of nesting that are left at the symbol
 
     pub(crate) fn take_sign_inside(&mut self, room: u32, wanted: Sign) -> Result<Span, Stop>
         ensures { Gives place_of_span result (sign room wanted self.old) self.new }
@@ -252,7 +252,7 @@ impl<'a> Parser<'a> {
         self.alloc
     }
 
-    /// How many symbols are left.
+    /// Returns the number of symbols left.
     pub(crate) fn len(&self) -> usize
         ensures { result ≡ length self.now }
     {
@@ -260,7 +260,7 @@ impl<'a> Parser<'a> {
     }
 }
 
-/// The refusal of what stands next for this reason; where nothing of the kind begins there, it is unexpected.
+/// Returns the rejection for this reason if an item begins here; otherwise the symbol is unexpected.
 pub(crate) fn refusal(begins: bool, why: Reason) -> Stop
     ensures { result ≡ Refused (if begins then why else reasons.Unexpected) }
 {

@@ -1,12 +1,14 @@
-//! The parser of declarations and of programs. A declaration stands at no depth: its brackets are the first level of
-//! nesting.
+//! The parser of declarations and of programs. A declaration has no nesting: its brackets are the first level.
 ghost use Rattle.std.specs.Prelude.{◌≡◌, ℕ, suc, map, option_map};
-ghost use Rattle.cyc_syntax.specs.inside.TreeView.{place_of_span, view_name, view_type, view_member, view_constructor, view_value, view_constraint, view_list, view_parameters, view_declaration};
+ghost use Rattle.cyc_syntax.specs.inside.TreeView.{place_of_span, view_name, view_type, view_member, view_constructor, view_value, view_constraint};
+ghost use Rattle.cyc_syntax.specs.inside.TreeView.{view_list, view_parameters, view_declaration};
 ghost use Rattle.cyc_parse.specs.inside.Code.{Gives};
 ghost use Rattle.cyc_parse.specs.inside.Parsing.{next, starts, begins_region, separated};
 ghost use Rattle.cyc_parse.specs.inside.Types.{begins_type};
-ghost use Rattle.cyc_parse.specs.inside.Declarations.{begins_void, begins_constructor, member, field, has_int, constructor, some_of, parameter_list, effect_regions, effect, constraint};
-ghost use Rattle.cyc_parse.specs.inside.Declarations.{constraints, parameters, value, global_value, global, function, typed, struct_fields, struct_or_typed, exceptions, declaration, program_of};
+ghost use Rattle.cyc_parse.specs.inside.Declarations.{begins_void, begins_constructor, member, field, has_int, constructor, some_of, parameter_list};
+ghost use Rattle.cyc_parse.specs.inside.Declarations.{effect_regions, effect, constraint};
+ghost use Rattle.cyc_parse.specs.inside.Declarations.{constraints, parameters, value, global_value, global, function, typed, struct_fields};
+ghost use Rattle.cyc_parse.specs.inside.Declarations.{struct_or_typed, exceptions, declaration, program_of};
 
 use crate::cursor::{Parser, refusal};
 use crate::growth::append;
@@ -19,7 +21,7 @@ use cyc_syntax::{
 };
 use cyc_words::Span;
 
-/// The most levels of nesting.
+/// The largest number of levels of nesting.
 const MAX_NESTING: u32 = 200;
 
 impl<'a> Parser<'a> {
@@ -40,7 +42,7 @@ impl<'a> Parser<'a> {
         matches!(self.next(), Some(Terminal::Identifier(_)))
     }
 
-    /// A field without its semicolon, or a parameter.
+    /// Parses a field without its semicolon, or a parameter.
     fn parse_member(&mut self) -> Result<Member, Stop>
         ensures { (room : ℕ) → Gives view_member result (member (suc room) self.old) self.new }
     {
@@ -57,7 +59,7 @@ impl<'a> Parser<'a> {
         Ok(member)
     }
 
-    /// The fields of a struct, at least one.
+    /// Parses the fields of a struct, at least one.
     fn parse_field_list(&mut self) -> Result<Vec<Member>, Stop>
         ensures { (room : ℕ) → Gives (λ v. map view_member v.items) result (some_of begins_type (field (suc room)) self.old) self.new }
     {
@@ -72,7 +74,7 @@ impl<'a> Parser<'a> {
         Err(Stop::Refused(Reason::TooLong))
     }
 
-    /// `(int)`, if it comes next.
+    /// Reads `(int)`, if it comes next.
     fn parse_int(&mut self) -> Result<bool, Stop>
         ensures { Gives (λ b. b) result (has_int 200 self.old) self.new }
     {
@@ -93,7 +95,7 @@ impl<'a> Parser<'a> {
         Ok(Constructor { name, has_int })
     }
 
-    /// The constructors of `exn`, at least one.
+    /// Parses the constructors of `exn`, at least one.
     fn parse_constructor_list(&mut self) -> Result<Vec<Constructor>, Stop>
         ensures { Gives (λ v. map view_constructor v.items) result (some_of begins_constructor (constructor 200) self.old) self.new }
     {
@@ -110,7 +112,7 @@ impl<'a> Parser<'a> {
 
     // ---- parameters
 
-    /// Parameters with commas between.
+    /// Parses parameters separated by commas.
     fn parse_members(&mut self) -> Result<Vec<Member>, Stop>
         ensures { (room : ℕ) → Gives (λ v. map view_member v.items) result (separated (suc room) begins_type (member (suc room)) self.old) self.new }
     {
@@ -140,7 +142,7 @@ impl<'a> Parser<'a> {
         Ok(ParameterList::Listed { members })
     }
 
-    /// The regions of an effect, which may be none.
+    /// Parses the regions of an effect, possibly none.
     fn parse_effect_regions(&mut self) -> Result<Vec<Ident>, Stop>
         ensures { (room : ℕ) → Gives (λ v. map view_name v.items) result (effect_regions (suc room) self.old) self.new }
     {
@@ -172,7 +174,7 @@ impl<'a> Parser<'a> {
         Ok(Constraint { longer, shorter })
     }
 
-    /// Constraints with commas between.
+    /// Parses constraints separated by commas.
     fn parse_constraint_list(&mut self) -> Result<Vec<Constraint>, Stop>
         ensures { (room : ℕ) → Gives (λ v. map view_constraint v.items) result (separated (suc room) begins_region (constraint (suc room)) self.old) self.new }
     {
@@ -196,7 +198,7 @@ impl<'a> Parser<'a> {
         self.parse_constraint_list()
     }
 
-    /// What stands between the brackets of a function's head.
+    /// Parses the parameters of a function with its effect and constraints, up to the closing bracket.
     fn parse_parameters(&mut self) -> Result<Parameters, Stop>
         ensures { Gives view_parameters result (parameters 200 self.old) self.new }
     {
@@ -237,7 +239,7 @@ impl<'a> Parser<'a> {
         }
     }
 
-    /// The initial value of a global, if one is given.
+    /// Parses the initial value of a global, if one is given.
     fn parse_global_value(&mut self) -> Result<Option<GlobalValue>, Stop>
         ensures { Gives (option_map view_value) result (global_value 200 self.old) self.new }
     {
@@ -247,7 +249,7 @@ impl<'a> Parser<'a> {
         Ok(Some(self.parse_value()?))
     }
 
-    /// A global, behind its type and its name.
+    /// Parses the rest of a global, after its type and its name.
     fn parse_global(&mut self, of_type: WrittenType, name: Ident) -> Result<Declaration, Stop>
         ensures { Gives view_declaration result (global 200 (view_type of_type) (view_name name) self.old) self.new }
     {
@@ -260,7 +262,7 @@ impl<'a> Parser<'a> {
         })
     }
 
-    /// A function, behind its result's type and its name.
+    /// Parses the rest of a function, after its result type and its name.
     fn parse_function(
         &mut self,
         of_type: Option<WrittenType>,
@@ -280,7 +282,7 @@ impl<'a> Parser<'a> {
         })
     }
 
-    /// A declaration that begins with this type.
+    /// Parses the rest of a declaration that begins with this type.
     fn parse_typed(&mut self, of_type: WrittenType) -> Result<Declaration, Stop>
         ensures { Gives view_declaration result (typed 200 (view_type of_type) self.old) self.new }
     {
@@ -292,7 +294,7 @@ impl<'a> Parser<'a> {
         }
     }
 
-    /// A struct, behind its name and its regions.
+    /// Parses the rest of a struct, after its name and its regions.
     fn parse_struct(&mut self, name: Ident, regions: Vec<Ident>) -> Result<Declaration, Stop>
         ensures { Gives view_declaration result (struct_fields 200 (view_name name) (map view_name regions.items) self.old) self.new }
     {
@@ -307,7 +309,7 @@ impl<'a> Parser<'a> {
         })
     }
 
-    /// Behind `struct`: a struct is declared, or its type begins another declaration.
+    /// Parses, after `struct`, a struct declaration or another declaration that begins with the struct type.
     fn parse_struct_or_typed(&mut self, span: Span) -> Result<Declaration, Stop>
         ensures { Gives view_declaration result (struct_or_typed 200 (place_of_span span) self.old) self.new }
     {
@@ -320,7 +322,7 @@ impl<'a> Parser<'a> {
         self.parse_typed(of_type)
     }
 
-    /// `datatype exn`
+    /// Parses the declaration `datatype exn`.
     fn parse_exceptions(&mut self) -> Result<Declaration, Stop>
         ensures { Gives view_declaration result (exceptions 200 self.old) self.new }
     {
@@ -355,7 +357,7 @@ impl<'a> Parser<'a> {
         }
     }
 
-    /// A program: at least one declaration, up to the end of the symbols.
+    /// Parses a program: at least one declaration, up to the end of the symbols.
     pub(crate) fn parse_program(&mut self) -> Result<Vec<Declaration>, Stop>
         ensures { Gives (λ v. map view_declaration v.items) result (program_of self.old) self.new }
     {

@@ -1,5 +1,5 @@
-//! The parser of expressions: what begins one, and the levels of nesting. A function with `room` reads at a level of
-//! nesting below which so many are left.
+//! The parser of expressions: their first symbols, and the levels of nesting. `room` is the number of nesting levels left below the level
+//! at which a function reads.
 #![tactic(auto, unfolding(crate::specs::inside::Parsing::bind, crate::specs::inside::Parsing::choose, crate::specs::inside::Parsing::if_sees, crate::specs::inside::Parsing::if_starts, crate::specs::inside::Parsing::if_is, crate::specs::inside::Parsing::refuse_item, crate::specs::inside::Expressions::nested), using(crate::proofs::Levels::levels))]
 
 ghost use Rattle.std.specs.Prelude.{◌≡◌, Ok};
@@ -27,7 +27,7 @@ impl<'a> Parser<'a> {
         }
     }
 
-    // ---- one level deeper
+    // ---- the parsers one level deeper
 
     #[cycle(expression)]
     pub(crate) fn parse_unary(&mut self, room: u32) -> Result<Box<Expr>, Stop>
@@ -94,10 +94,9 @@ impl<'a> Parser<'a> {
         self.parse_assignment(room, target)
     }
 
-    // What is dropped where a parse stops is walked in each function that holds it: an expression at hand is in a box,
-    // which is dropped by one call.
+    // An error path drops each value that the function holds. The expression is in a box, so one call drops it.
 
-    /// An expression, in a box.
+    /// Puts an expression into a box.
     pub(crate) fn node(&self, value: Expr) -> Result<Box<Expr>, Stop>
         ensures { Gives view_boxed result (Ok (view_expression value, self.now)) self.now }
     {

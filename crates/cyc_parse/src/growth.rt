@@ -1,10 +1,9 @@
-//! Lists that grow by one item.
+//! Lists that grow by one item at a time.
 ghost use Rattle.std.specs.Prelude.{◌≡◌, [], ◌∷◌, ◌++◌, is_ok, if◌then◌else◌};
 
 use std::alloc::AllocError;
 
-/// Appends an item. Most lists of a program are short, so a list has room for two items first, and for twice as many where
-/// that is taken.
+/// Appends an item. Most lists of a program are short, so a list first gets room for two items, and twice as much each time it is full.
 pub(crate) fn append<T: Drop>(list: &mut Vec<T>, item: T) -> Result<(), AllocError>
     ensures items { list.new.items ≡ (if is_ok result then list.old.items ++ item ∷ [] else list.old.items) }
 {

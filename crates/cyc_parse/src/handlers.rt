@@ -17,7 +17,7 @@ use crate::symbol::Terminal;
 use cyc_syntax::{Clause, Ident, Item, Keyword, Sign, Stmt};
 use cyc_words::Span;
 
-/// What stands between the brackets of a `catch`: its clauses, and the items of its default clause, where there is one.
+/// The clauses of a `catch`, and the items of its default clause, if it has one.
 #[derive(Drop)]
 struct Handlers {
     clauses: Vec<Clause>,
@@ -46,7 +46,7 @@ impl<'a> Parser<'a> {
         )
     }
 
-    /// The variable of a clause, in round brackets.
+    /// Parses the variable of a clause, in parentheses.
     fn parse_caught(&mut self, room: u32) -> Result<Option<Ident>, Stop>
         ensures { Gives (option_map view_name) result (caught room (nested_statements room) self.old) self.new }
     {
@@ -59,7 +59,7 @@ impl<'a> Parser<'a> {
         Ok(Some(variable))
     }
 
-    /// A clause up to its colon, if one comes next: its exception, and its variable if it has one.
+    /// Parses the start of a clause up to its colon, if one comes next: its exception, and its variable if it has one.
     fn parse_clause_head(&mut self, room: u32) -> Result<Option<(Ident, Option<Ident>)>, Stop>
         ensures { Gives (option_map view_clause_head) result (clause_head room (nested_statements room) self.old) self.new }
     {
@@ -74,7 +74,7 @@ impl<'a> Parser<'a> {
         Ok(Some((exception, variable)))
     }
 
-    /// `case &exception(variable): ..`, if one comes next.
+    /// Parses `case &exception(variable): ..`, if one comes next.
     #[cycle(statement)]
     fn parse_clause(&mut self, room: u32) -> Result<Option<Clause>, Stop>
         ensures { Gives (option_map then_clause) result (one_clause room (nested_statements room) self.old) self.new }
@@ -90,7 +90,7 @@ impl<'a> Parser<'a> {
         }))
     }
 
-    /// The items of `default: ..`, if it comes next.
+    /// Parses the items of `default: ..`, if it comes next.
     #[cycle(statement)]
     fn parse_default_clause(&mut self, room: u32) -> Result<Option<Vec<Item>>, Stop>
         ensures { Gives default_of result (default_clause room (nested_statements room) self.old) self.new }
@@ -105,7 +105,8 @@ impl<'a> Parser<'a> {
 
     #[cycle(statement)]
     fn parse_handlers(&mut self, room: u32) -> Result<Handlers, Stop>
-        ensures { Gives (λ h. clauses_of h.clauses.items (default_of h.default)) result (clauses_in room (nested_statements room) (length self.old) self.old) self.new }
+        ensures { Gives (λ h. clauses_of h.clauses.items (default_of h.default)) result
+            (clauses_in room (nested_statements room) (length self.old) self.old) self.new }
     {
         let mut clauses = Vec::new(self.alloc());
         let most = self.len();
@@ -122,7 +123,7 @@ impl<'a> Parser<'a> {
         })
     }
 
-    /// The clauses of a `catch`, at least one.
+    /// Parses the clauses of a `catch`, at least one.
     #[cycle(statement)]
     fn parse_clauses(&mut self, room: u32) -> Result<Handlers, Stop>
         ensures { Gives (λ h. clauses_of h.clauses.items (default_of h.default)) result (clauses room (nested_statements room) self.old) self.new }
@@ -133,7 +134,7 @@ impl<'a> Parser<'a> {
         self.parse_handlers(room)
     }
 
-    /// The brace that closes behind the clauses of a `try`.
+    /// Reads the closing brace after the clauses of a `try`.
     fn end_try(
         &mut self,
         room: u32,
@@ -141,13 +142,14 @@ impl<'a> Parser<'a> {
         body: Box<Stmt>,
         handlers: Handlers,
     ) -> Result<Stmt, Stop>
-        ensures { Gives view_statement result (end_of_try room (nested_statements room) (place_of_span span) (view_statement body.value) (clauses_of handlers.clauses.items (default_of handlers.default)) self.old) self.new }
+        ensures { Gives view_statement result (end_of_try room (nested_statements room) (place_of_span span) (view_statement body.value)
+            (clauses_of handlers.clauses.items (default_of handlers.default)) self.old) self.new }
     {
         self.take_sign_inside(room, Sign::RightBrace)?;
         Ok(guarded(span, body, handlers))
     }
 
-    /// `try`
+    /// Parses a `try` statement.
     #[cycle(statement)]
     pub(crate) fn parse_try(&mut self, room: u32) -> Result<Stmt, Stop>
         requires { is_some (next self.old) ≡ true }
@@ -163,7 +165,8 @@ impl<'a> Parser<'a> {
 }
 
 fn guarded(span: Span, body: Box<Stmt>, handlers: Handlers) -> Stmt
-    ensures { view_statement result ≡ trees.Try (place_of_span span) (view_statement body.value) (clauses_of handlers.clauses.items (default_of handlers.default)) }
+    ensures { view_statement result ≡ trees.Try (place_of_span span) (view_statement body.value)
+        (clauses_of handlers.clauses.items (default_of handlers.default)) }
 {
     Stmt::Try {
         span,

@@ -1,4 +1,4 @@
-//! The parser of what `new` and `rnew` put into the new object.
+//! The parser of the initial contents of a new object, after `new` and `rnew`.
 #![tactic(auto, unfolding(crate::specs::inside::Parsing::bind, crate::specs::inside::Parsing::choose, crate::specs::inside::Parsing::if_sees, crate::specs::inside::Parsing::if_starts, crate::specs::inside::Parsing::if_is, crate::specs::inside::Parsing::refuse_item, crate::specs::inside::Expressions::nested), using(crate::proofs::Levels::levels))]
 
 ghost use Rattle.std.specs.Prelude.{◌≡◌, map, Ok};
@@ -51,7 +51,7 @@ impl<'a> Parser<'a> {
         Ok(Box::new(self.alloc(), value)?)
     }
 
-    /// The values of a struct's fields, at least one.
+    /// Parses the values of a struct's fields, at least one.
     #[cycle(expression)]
     fn parse_values(&mut self, room: u32) -> Result<Vec<Expr>, Stop>
         ensures { Gives (λ v. expressions_of v.items) result (values room (nested room) self.old) self.new }
@@ -71,7 +71,7 @@ impl<'a> Parser<'a> {
         Ok(values)
     }
 
-    /// The brace that closes behind the values of a struct's fields.
+    /// Reads the closing brace after the values of a struct's fields.
     fn end_values(
         &mut self,
         room: u32,
@@ -79,7 +79,8 @@ impl<'a> Parser<'a> {
         regions: Vec<Ident>,
         values: Vec<Expr>,
     ) -> Result<Box<Initial>, Stop>
-        ensures { Gives view_boxed_initial result (end_of_fields room (view_name name) (map view_name regions.items) (expressions_of values.items) self.old) self.new }
+        ensures { Gives view_boxed_initial result (end_of_fields room (view_name name) (map view_name regions.items) (expressions_of values.items)
+            self.old) self.new }
     {
         self.take_sign_inside(room, Sign::RightBrace)?;
         self.initial_node(struct_fields(name, regions, values))
@@ -99,7 +100,7 @@ impl<'a> Parser<'a> {
         self.end_values(room, name, regions, values)
     }
 
-    /// A struct's name opens its fields, with region arguments or without, or the name begins an expression.
+    /// Parses, after a name, the fields of a struct with or without region arguments, or an expression that begins with the name.
     #[cycle(expression)]
     fn parse_initial_from_name(&mut self, room: u32, name: Ident) -> Result<Box<Initial>, Stop>
         ensures { Gives view_boxed_initial result (initial_from_name room (nested room) (view_name name) self.old) self.new }
@@ -116,7 +117,7 @@ impl<'a> Parser<'a> {
         self.plain(value)
     }
 
-    /// The brace that closes behind an array's element.
+    /// Reads the closing brace after an array's element.
     fn end_array(
         &mut self,
         room: u32,
@@ -125,7 +126,8 @@ impl<'a> Parser<'a> {
         length: Box<Expr>,
         element: Box<Expr>,
     ) -> Result<Box<Initial>, Stop>
-        ensures { Gives view_boxed_initial result (end_of_array room (place_of_span span) (view_name variable) (view_boxed length) (view_boxed element) self.old) self.new }
+        ensures { Gives view_boxed_initial result (end_of_array room (place_of_span span) (view_name variable) (view_boxed length)
+            (view_boxed element) self.old) self.new }
     {
         self.take_sign_inside(room, Sign::RightBrace)?;
         self.initial_node(Initial::Array {
@@ -136,7 +138,7 @@ impl<'a> Parser<'a> {
         })
     }
 
-    /// `{for variable < length : element}`
+    /// Parses `{for variable < length : element}`.
     #[cycle(expression)]
     fn parse_array(&mut self, room: u32) -> Result<Box<Initial>, Stop>
         ensures { Gives view_boxed_initial result (array room (nested room) self.old) self.new }

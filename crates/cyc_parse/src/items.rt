@@ -7,7 +7,8 @@ ghost use Rattle.cyc_parse.specs.inside.Boxes.{view_boxed};
 ghost use Rattle.cyc_parse.specs.inside.Code.{Gives};
 ghost use Rattle.cyc_parse.specs.inside.Parsing.{next, starts};
 ghost use Rattle.cyc_parse.specs.inside.Types.{region_of};
-ghost use Rattle.cyc_parse.specs.inside.Statements.{begins_item, nested_statements, body, local_value, local, opened_key, region, alias, new_key, dynamic_region, item, items};
+ghost use Rattle.cyc_parse.specs.inside.Statements.{begins_item, nested_statements, body, local_value, local, opened_key, region, alias, new_key};
+ghost use Rattle.cyc_parse.specs.inside.Statements.{dynamic_region, item, items};
 ghost use Rattle.cyc_parse.specs.inside.StatementSteps.{end_of_block, let_item};
 
 use crate::cursor::Parser;
@@ -38,7 +39,7 @@ impl<'a> Parser<'a> {
         }
     }
 
-    /// The items of a block.
+    /// Parses the items of a block.
     #[cycle(statement)]
     pub(crate) fn parse_items(&mut self, room: u32) -> Result<Vec<Item>, Stop>
         ensures { Gives (λ v. items_of v.items) result ((nested_statements room).items self.old) self.new }
@@ -54,7 +55,7 @@ impl<'a> Parser<'a> {
 
     // ---- blocks
 
-    /// The brace that closes behind the items of a block.
+    /// Reads the closing brace after the items of a block.
     fn end_block(&mut self, room: u32, span: Span, items: Vec<Item>) -> Result<Block, Stop>
         ensures { Gives view_block result (end_of_block room (nested_statements room) (place_of_span span) (items_of items.items) self.old) self.new }
     {
@@ -62,7 +63,7 @@ impl<'a> Parser<'a> {
         Ok(Block { span, items, end })
     }
 
-    /// Items in braces.
+    /// Parses items in braces.
     #[cycle(statement)]
     pub(crate) fn parse_block(&mut self, room: u32) -> Result<Block, Stop>
         ensures { Gives view_block result (body room (nested_statements room) self.old) self.new }
@@ -97,7 +98,7 @@ impl<'a> Parser<'a> {
         })
     }
 
-    /// `= open(key)`
+    /// Parses `= open(key)`.
     fn parse_opened_key(&mut self, room: u32) -> Result<Option<Ident>, Stop>
         ensures { Gives (option_map view_name) result (opened_key room (nested_statements room) self.old) self.new }
     {
@@ -126,7 +127,7 @@ impl<'a> Parser<'a> {
         })
     }
 
-    /// Behind `let`.
+    /// Parses an alias declaration, after `let`.
     fn parse_alias(&mut self, room: u32) -> Result<Item, Stop>
         ensures { Gives view_item result (alias room (nested_statements room) self.old) self.new }
     {
@@ -145,7 +146,7 @@ impl<'a> Parser<'a> {
         })
     }
 
-    /// The one region of a type, in its brackets.
+    /// Parses the region of a type, in angle brackets.
     fn parse_region_inside(&mut self, room: u32) -> Result<Ident, Stop>
         ensures { Gives view_name result (region_of room self.old) self.new }
     {
@@ -155,7 +156,7 @@ impl<'a> Parser<'a> {
         Ok(region)
     }
 
-    /// `= new_ukey();`
+    /// Parses `= new_ukey();`.
     fn parse_new_key(&mut self, room: u32) -> Result<(), Stop>
         ensures { Gives (λ _. tt) result (new_key room (nested_statements room) self.old) self.new }
     {
@@ -167,7 +168,7 @@ impl<'a> Parser<'a> {
         Ok(())
     }
 
-    /// Behind `let`.
+    /// Parses an alias declaration, after `let`.
     fn parse_dynamic_region(&mut self, room: u32) -> Result<Item, Stop>
         ensures { Gives view_item result (dynamic_region room (nested_statements room) self.old) self.new }
     {
@@ -180,7 +181,7 @@ impl<'a> Parser<'a> {
         Ok(Item::DynamicRegion { region, key })
     }
 
-    /// Behind `let`.
+    /// Parses an alias declaration, after `let`.
     fn parse_let_item(&mut self, room: u32) -> Result<Item, Stop>
         ensures { Gives view_item result (let_item room (nested_statements room) self.old) self.new }
     {

@@ -1,4 +1,4 @@
-//! Laws of the grammar. Each function does nothing: what it ensures is the law.
+//! Laws of the grammar. Each function of this file does nothing, and its contract states one law.
 ghost use Rattle.std.specs.Prelude.{◌≡◌, List};
 ghost use Rattle.cyc_syntax.specs.Symbols.{Symbol};
 ghost use Rattle.cyc_syntax.specs.Trees.{Declaration};
@@ -6,12 +6,13 @@ ghost use Rattle.cyc_syntax.specs.Grammar.{HasTree, IsWithinLimits};
 ghost use Rattle.cyc_parse.specs.inside.Parsing.{Refusal};
 ghost use Rattle.cyc_parse.specs.Refusals.{IsRefused};
 
-/// The grammar leaves no choice: where a list of symbols has a tree that keeps the limits, it has no other.
+/// The grammar is unambiguous within the limits: a list of symbols has at most one tree that keeps the limits.
 pub fn one_tree()
     ensures { (symbols : List Symbol) (a b : List Declaration) → HasTree symbols a → IsWithinLimits a → HasTree symbols b → a ≡ b }
 {}
 
-/// What is refused has no tree that keeps the limits.
+/// A rejected text has no tree that keeps the limits.
 pub fn refused_has_no_tree()
-    ensures { (symbols : List Symbol) (refusal : Refusal) (tree : List Declaration) → IsRefused symbols refusal → HasTree symbols tree → IsWithinLimits tree → ⊥ }
+    ensures { (symbols : List Symbol) (refusal : Refusal) (tree : List Declaration) → IsRefused symbols refusal → HasTree symbols tree
+        → IsWithinLimits tree → ⊥ }
 {}

@@ -7,9 +7,11 @@ ghost use Rattle.cyc_syntax.specs.inside.TreeView.{place_of_span, view_name, vie
 ghost use Rattle.cyc_parse.specs.inside.Boxes.{view_boxed};
 ghost use Rattle.cyc_parse.specs.inside.Code.{Gives};
 ghost use Rattle.cyc_parse.specs.inside.Parsing.{next, sees, separated};
-ghost use Rattle.cyc_parse.specs.inside.Steps.{one_postfix, one_field, prefixed, created, created_in, freed_key, bracketed, lone, end_of_group, end_of_bracketed, end_of_call, end_of_index, with_chain, is_plain};
+ghost use Rattle.cyc_parse.specs.inside.Steps.{one_postfix, one_field, prefixed, created, created_in, freed_key, bracketed, lone, end_of_group};
+ghost use Rattle.cyc_parse.specs.inside.Steps.{end_of_bracketed, end_of_call, end_of_index, with_chain, is_plain};
 ghost use Rattle.cyc_syntax.specs.Trees.{NoPostfixes, Call};
-ghost use Rattle.cyc_parse.specs.inside.Expressions.{chained, nested, begins_expression, group, arguments, from_name, primary, no_more_postfixes, postfixes, with_postfixes, prefixed_by, unary};
+ghost use Rattle.cyc_parse.specs.inside.Expressions.{chained, nested, begins_expression, group, arguments, from_name, primary, no_more_postfixes};
+ghost use Rattle.cyc_parse.specs.inside.Expressions.{postfixes, with_postfixes, prefixed_by, unary};
 
 use crate::cursor::{Parser, refusal};
 use crate::growth::append;
@@ -21,7 +23,7 @@ use cyc_syntax::{Expr, Ident, Keyword, Postfix, PrefixOperator, Sign};
 use cyc_words::Span;
 
 impl<'a> Parser<'a> {
-    /// An operand with the postfixes behind it.
+    /// Returns an operand with the postfixes after it.
     fn chained(&self, base: Box<Expr>, postfixes: Vec<Postfix>) -> Result<Box<Expr>, Stop>
         ensures { Gives view_boxed result (Ok (chained (view_boxed base) (postfixes_of postfixes.items), self.now)) self.now }
     {
@@ -33,7 +35,7 @@ impl<'a> Parser<'a> {
 
     // ---- operands without postfixes
 
-    /// The bracket that closes behind an expression.
+    /// Reads the closing parenthesis after an expression.
     fn end_group(&mut self, room: u32, inner: Box<Expr>) -> Result<Box<Expr>, Stop>
         ensures { Gives view_boxed result (end_of_group room (view_boxed inner) self.old) self.new }
     {
@@ -41,7 +43,7 @@ impl<'a> Parser<'a> {
         Ok(inner)
     }
 
-    /// An expression in round brackets.
+    /// Parses an expression in parentheses.
     #[cycle(expression)]
     pub(crate) fn parse_group_here(&mut self, room: u32) -> Result<Box<Expr>, Stop>
         ensures { Gives view_boxed result (group room (nested room) self.old) self.new }
@@ -67,7 +69,7 @@ impl<'a> Parser<'a> {
         Err(refusal(self.begins_expression(), Reason::TooLong))
     }
 
-    /// The arguments of a call, up to its closing bracket.
+    /// Parses the arguments of a call, up to the closing parenthesis.
     #[cycle(expression)]
     fn parse_arguments(&mut self, room: u32) -> Result<Vec<Expr>, Stop>
         ensures { Gives (λ v. expressions_of v.items) result (arguments room (nested room) self.old) self.new }
@@ -79,7 +81,7 @@ impl<'a> Parser<'a> {
         Ok(arguments)
     }
 
-    /// The bracket that closes behind the arguments of a call.
+    /// Reads the closing parenthesis after the arguments of a call.
     fn end_call(&mut self, room: u32, name: Ident, arguments: Vec<Expr>) -> Result<Box<Expr>, Stop>
         ensures { Gives view_boxed result (end_of_call room (view_name name) (expressions_of arguments.items) self.old) self.new }
     {
@@ -87,7 +89,7 @@ impl<'a> Parser<'a> {
         self.node(call(name, arguments))
     }
 
-    /// An expression that begins with this name: a call or a variable.
+    /// Parses an expression that begins with this name: a call or a variable.
     #[cycle(expression)]
     pub(crate) fn parse_from_name(&mut self, room: u32, name: Ident) -> Result<Box<Expr>, Stop>
         ensures { Gives view_boxed result (from_name room (nested room) (view_name name) self.old) self.new }
@@ -99,7 +101,7 @@ impl<'a> Parser<'a> {
         self.end_call(room, name, arguments)
     }
 
-    /// `free_ukey(..)`
+    /// Parses `free_ukey(..)`.
     fn parse_freed_key(&mut self, room: u32) -> Result<Box<Expr>, Stop>
         requires { is_some (next self.old) ≡ true }
         ensures { Gives view_boxed result (freed_key room self.old) self.new }
@@ -111,7 +113,7 @@ impl<'a> Parser<'a> {
         self.node(Expr::FreeKey { span, key })
     }
 
-    /// The bracket that closes behind an expression, as a tree.
+    /// Reads the closing parenthesis after an expression, and builds the parenthesized node.
     fn end_bracketed(&mut self, room: u32, span: Span, inner: Box<Expr>) -> Result<Box<Expr>, Stop>
         ensures { Gives view_boxed result (end_of_bracketed room (place_of_span span) (view_boxed inner) self.old) self.new }
     {
@@ -119,7 +121,7 @@ impl<'a> Parser<'a> {
         self.node(Expr::Bracketed { span, inner })
     }
 
-    /// An expression in round brackets, as a tree.
+    /// Parses an expression in parentheses, and builds the parenthesized node.
     #[cycle(expression)]
     fn parse_bracketed(&mut self, room: u32) -> Result<Box<Expr>, Stop>
         requires { is_some (next self.old) ≡ true }
@@ -130,7 +132,7 @@ impl<'a> Parser<'a> {
         self.end_bracketed(room, span, inner)
     }
 
-    /// An operand without expressions inside it, but for a call or a variable.
+    /// Parses an operand without inner expressions, except for a call or a variable.
     fn parse_lone(&mut self, room: u32) -> Result<Box<Expr>, Stop>
         ensures { Gives view_boxed result (lone room self.old) self.new }
     {
@@ -192,7 +194,7 @@ impl<'a> Parser<'a> {
 
     // ---- postfixes
 
-    /// The bracket that closes behind an index.
+    /// Reads the closing bracket after an index.
     fn end_index(&mut self, room: u32, index: Box<Expr>) -> Result<Option<Postfix>, Stop>
         ensures { Gives (option_map then_postfix) result (end_of_index room (view_boxed index) self.old) self.new }
     {
@@ -202,7 +204,7 @@ impl<'a> Parser<'a> {
         }))
     }
 
-    /// `->` and a field's name, if it comes next.
+    /// Parses `->` and a field's name, if it comes next.
     fn parse_field_postfix(&mut self) -> Result<Option<Postfix>, Stop>
         ensures { (room : ℕ) → Gives (option_map then_postfix) result (one_field (suc room) self.old) self.new }
     {
@@ -213,7 +215,7 @@ impl<'a> Parser<'a> {
         Ok(Some(Postfix::Field { name }))
     }
 
-    /// `[..]` or `->` and a field's name, if one comes next.
+    /// Parses a postfix `[..]` or `->` and a field's name, if one comes next.
     #[cycle(expression)]
     fn parse_postfix(&mut self, room: u32) -> Result<Option<Postfix>, Stop>
         ensures { Gives (option_map then_postfix) result (one_postfix room (nested room) self.old) self.new }
@@ -255,7 +257,7 @@ impl<'a> Parser<'a> {
         Ok(postfixes)
     }
 
-    /// Goes on from an operand by its postfixes.
+    /// Extends an operand by its postfixes.
     #[cycle(expression)]
     pub(crate) fn parse_rest_of_operand(
         &mut self,
@@ -271,7 +273,7 @@ impl<'a> Parser<'a> {
         self.chained(base, postfixes)
     }
 
-    /// An operand with its postfixes.
+    /// Parses an operand with its postfixes.
     #[cycle(expression)]
     fn parse_with_postfixes(&mut self, room: u32) -> Result<Box<Expr>, Stop>
         ensures { Gives view_boxed result (with_postfixes room (nested room) (primary room (nested room)) self.old) self.new }
@@ -296,7 +298,7 @@ impl<'a> Parser<'a> {
         })
     }
 
-    /// `new`
+    /// Parses `new` and its operand.
     #[cycle(expression)]
     fn parse_new(&mut self, room: u32) -> Result<Box<Expr>, Stop>
         requires { is_some (next self.old) ≡ true }
@@ -307,7 +309,7 @@ impl<'a> Parser<'a> {
         self.node(Expr::New { span, value })
     }
 
-    /// `rnew(..)`
+    /// Parses `rnew(..)` and its operand.
     #[cycle(expression)]
     fn parse_region_new(&mut self, room: u32) -> Result<Box<Expr>, Stop>
         requires { is_some (next self.old) ≡ true }
@@ -323,7 +325,7 @@ impl<'a> Parser<'a> {
         })
     }
 
-    /// An operand that begins with a sign: with this operator, or with none.
+    /// Parses an operand after a sign, which is this prefix operator or none.
     #[cycle(expression)]
     fn parse_prefixed_by(
         &mut self,
@@ -339,7 +341,7 @@ impl<'a> Parser<'a> {
         }
     }
 
-    /// Whether an operand comes next that is one number or one name: neither arguments nor a postfix comes behind it.
+    /// Returns true if the next operand is a single number or name, followed by neither arguments nor a postfix.
     fn is_plain(&self) -> bool
         ensures { result ≡ is_plain self.now }
     {
@@ -354,7 +356,7 @@ impl<'a> Parser<'a> {
         }
     }
 
-    /// An operand that is one number or one name: most are.
+    /// Parses an operand that is a single number or name, as most operands are.
     fn parse_plain_operand(&mut self) -> Result<Box<Expr>, Stop>
         requires { is_plain self.old ≡ true }
         ensures { (room : ℕ) → Gives view_boxed result (unary room (nested room) self.old) self.new }
@@ -374,7 +376,7 @@ impl<'a> Parser<'a> {
         }
     }
 
-    /// An operand with its prefixes and postfixes.
+    /// Parses an operand with its prefixes and postfixes.
     #[cycle(expression)]
     pub(crate) fn parse_unary_here(&mut self, room: u32) -> Result<Box<Expr>, Stop>
         ensures { Gives view_boxed result (unary room (nested room) self.old) self.new }
@@ -385,7 +387,7 @@ impl<'a> Parser<'a> {
         self.parse_long_operand(room)
     }
 
-    /// An operand with its prefixes and postfixes, part by part.
+    /// Parses an operand with its prefixes and postfixes, part by part.
     #[cycle(expression)]
     #[tactic(auto, unfolding(crate::specs::inside::Expressions::unary, crate::specs::inside::Parsing::choose, crate::specs::inside::Parsing::bind))]
     fn parse_long_operand(&mut self, room: u32) -> Result<Box<Expr>, Stop>

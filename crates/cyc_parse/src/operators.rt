@@ -1,4 +1,4 @@
-//! Operators and their levels, and the parser of chains of binary operators, from the tightest level.
+//! Operators and their levels, and the parser of chains of binary operators, the tightest level first.
 #![tactic(auto, unfolding(crate::specs::inside::Parsing::bind, crate::specs::inside::Parsing::choose, crate::specs::inside::Parsing::if_sees, crate::specs::inside::Parsing::if_starts, crate::specs::inside::Parsing::if_is, crate::specs::inside::Parsing::refuse_item, crate::specs::inside::Expressions::nested), using(crate::proofs::Levels::levels))]
 
 ghost use Rattle.std.specs.Prelude.{◌≡◌, ◌<◌, ◌≤◌, ◌-◌, ◌&&◌, suc, ℕ, nat_eq, nat_lt, nat_le, option_map, Some, None, if◌then◌else◌, Ok, IfSome, IfNone};
@@ -6,9 +6,10 @@ ghost use Rattle.cyc_syntax.specs.inside.TreeView.{place_of_span, view_expressio
 ghost use Rattle.cyc_parse.specs.inside.Boxes.{view_boxed};
 ghost use Rattle.cyc_parse.specs.inside.Code.{Gives};
 ghost use Rattle.cyc_parse.specs.inside.Parsing.{next, advance};
-ghost use Rattle.cyc_parse.specs.inside.Steps.{level_within, level_at, behind, is_continued, operand, climb_from, one_level};
+ghost use Rattle.cyc_parse.specs.inside.Steps.{level_within, level_at, following, is_continued, operand, climb_from, one_level};
 ghost use Rattle.cyc_syntax.specs.Trees.{NoOperations};
-ghost use Rattle.cyc_parse.specs.inside.Expressions.{prefix_operator, binary_operator, binary_of, nested, of_level, operator_at, no_more_operations, operations, climb, unary, binary};
+ghost use Rattle.cyc_parse.specs.inside.Expressions.{prefix_operator, binary_operator, binary_of, nested, of_level, operator_at, no_more_operations};
+ghost use Rattle.cyc_parse.specs.inside.Expressions.{operations, climb, unary, binary};
 
 use crate::cursor::Parser;
 use crate::growth::append;
@@ -18,11 +19,11 @@ use crate::types::MAX_ITEMS;
 use cyc_syntax::{BinaryOperator, Expr, Ident, Operation, PrefixOperator, Sign};
 use cyc_words::Span;
 
-/// The levels of the binary operators, of which the last is the loosest.
+/// The number of levels of binary operators; the last level is the loosest.
 pub(crate) const LEVELS: u32 = 10;
 
 impl<'a> Parser<'a> {
-    /// A first operand with the operators of one level behind it.
+    /// Returns a first operand with the operators of one level after it.
     fn joined(&self, first: Box<Expr>, rest: Vec<Operation>) -> Result<Box<Expr>, Stop>
         ensures { Gives view_boxed result (Ok (binary_of (view_boxed first) (operations_of rest.items), self.now)) self.now }
     {
@@ -32,7 +33,7 @@ impl<'a> Parser<'a> {
         self.node(Expr::Binary { first, rest })
     }
 
-    /// The next symbol, if it is a binary operator of the level above this one.
+    /// Returns the next symbol, if it is a binary operator of the level above this one.
     fn operator(&self, below: u32) -> Option<BinaryOperator>
         ensures { result ≡ operator_at (suc below) (next self.now) }
     {
@@ -45,7 +46,7 @@ impl<'a> Parser<'a> {
         binary_operator(sign)
     }
 
-    /// The level of the next symbol, if it is a binary operator of one of the levels above one, up to another.
+    /// Returns the level of the next symbol, if it is a binary operator whose level is above `below` and at most `most`.
     fn next_level(&self, below: u32, most: u32) -> Option<u32>
         ensures value { result ≡ level_at below most (next self.now) }
         ensures within { IfSome result (λ k. (below < k) × (k ≤ most)) }
@@ -56,10 +57,10 @@ impl<'a> Parser<'a> {
         level_between(sign, below, most)
     }
 
-    /// Whether an operand of the operators of the level above this one goes on behind its first symbol: by arguments, by a
-    /// postfix, or by an operator of a level up to this one.
+    /// Returns true if an operand of the next level continues after its first symbol: by arguments, a postfix, or an operator up to this
+    /// level.
     fn is_continued(&self, below: u32) -> bool
-        ensures { result ≡ is_continued below (behind self.now) }
+        ensures { result ≡ is_continued below (following self.now) }
     {
         let Some(Terminal::Mark(sign)) = self.second() else {
             return false;
@@ -70,7 +71,7 @@ impl<'a> Parser<'a> {
             || level_between(sign, 0, below).is_some()
     }
 
-    /// An operand of the operators of the level above this one, if it is one number or one name: most are, and need no box.
+    /// Takes an operand of the level above this one if it is a single number or name. Most operands are, and they need no box.
     fn take_lone_operand(&mut self, below: u32) -> Option<Expr>
         requires { below < 10 }
         ensures taken { IfSome result (λ e. (room : ℕ) → operand room (nested room) below self.old ≡ Ok (view_expression e, self.new)) }
@@ -94,7 +95,7 @@ impl<'a> Parser<'a> {
         }
     }
 
-    /// An operand of the operators of the level above this one.
+    /// Parses an operand for the operators of the level above this one.
     #[cycle(expression)]
     fn parse_operand(&mut self, room: u32, below: u32) -> Result<Expr, Stop>
         requires { below < 10 }
@@ -108,7 +109,7 @@ impl<'a> Parser<'a> {
         Ok(Box::into_inner(operand))
     }
 
-    /// Takes the next symbol, if it is a binary operator of the level above this one.
+    /// Reads the next symbol, if it is a binary operator of the level above this one.
     #[tactic(auto, unfolding(crate::specs::inside::Parsing::take), using(crate::proofs::Levels::operator_comes))]
     fn take_operator(&mut self, below: u32) -> Option<(BinaryOperator, Span)>
         ensures seen { option_map (λ taken. taken.0) result ≡ operator_at (suc below) (next self.old) }
@@ -151,7 +152,7 @@ impl<'a> Parser<'a> {
         Ok(operations)
     }
 
-    /// Goes on from a first operand by the operators of the levels up to this one.
+    /// Extends a first operand by the operators of the levels up to this one.
     #[cycle(expression)]
     pub(crate) fn climb(
         &mut self,
@@ -165,8 +166,7 @@ impl<'a> Parser<'a> {
         self.climb_above(room, 0, level, first)
     }
 
-    /// Goes on by the operators of the levels above one, up to another. Levels of which no operator comes next are passed
-    /// over.
+    /// Extends an operand by the operators of the levels above one, up to another. Levels without a next operator are skipped.
     #[cycle(expression)]
     fn climb_above(
         &mut self,
@@ -184,7 +184,7 @@ impl<'a> Parser<'a> {
         self.climb_level(room, level - 1, most, first)
     }
 
-    /// Goes on by the operators of the level above this one, and then of those above it.
+    /// Extends an operand by the operators of the level above this one, and then of the levels above that.
     #[cycle(expression)]
     fn climb_level(
         &mut self,
@@ -210,7 +210,7 @@ impl<'a> Parser<'a> {
     }
 }
 
-/// The operator that a sign is in front of an operand.
+/// Returns the prefix operator that a sign denotes before an operand.
 pub(crate) fn prefix_operator(sign: Sign) -> Option<PrefixOperator>
     ensures { result ≡ prefix_operator sign }
 {
@@ -224,7 +224,7 @@ pub(crate) fn prefix_operator(sign: Sign) -> Option<PrefixOperator>
     }
 }
 
-/// The operator that a sign is between two operands.
+/// Returns the binary operator that a sign denotes between two operands.
 fn binary_operator(sign: Sign) -> Option<BinaryOperator>
     ensures { result ≡ binary_operator sign }
 {
@@ -251,9 +251,10 @@ fn binary_operator(sign: Sign) -> Option<BinaryOperator>
     }
 }
 
-/// The level of the operator that a sign is between two operands, from the tightest; with none 0.
+/// Returns the level of the binary operator that a sign denotes, from the tightest; 0 if it denotes none.
 fn level_of(sign: Sign) -> u32
-    ensures within { (below most : ℕ) → level_within below most (binary_operator sign) ≡ (if nat_lt below result && nat_le result most then Some result else None) }
+    ensures within { (below most : ℕ) → level_within below most (binary_operator sign)
+        ≡ (if nat_lt below result && nat_le result most then Some result else None) }
     ensures one { (below : ℕ) → of_level (suc below) (binary_operator sign) ≡ (if nat_eq result (suc below) then binary_operator sign else None) }
 {
     match sign {
@@ -271,7 +272,7 @@ fn level_of(sign: Sign) -> u32
     }
 }
 
-/// The level of the operator that a sign is between two operands, if it is one of those above one, up to another.
+/// Returns the level of the binary operator that a sign denotes, if it is above `below` and at most `most`.
 fn level_between(sign: Sign, below: u32, most: u32) -> Option<u32>
     ensures value { result ≡ level_within below most (binary_operator sign) }
     ensures within { IfSome result (λ k. (below < k) × (k ≤ most)) }

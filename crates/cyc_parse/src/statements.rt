@@ -1,4 +1,4 @@
-//! The parser of statements. A function with `room` reads at a level of nesting below which so many are left.
+//! The parser of statements. `room` is the number of nesting levels left below the level at which a function reads.
 #![tactic(auto, unfolding(crate::specs::inside::Parsing::bind, crate::specs::inside::Parsing::choose, crate::specs::inside::Parsing::if_sees, crate::specs::inside::Parsing::if_starts, crate::specs::inside::Parsing::refuse_item, crate::specs::inside::Expressions::nested, crate::specs::inside::Statements::nested_statements), using(crate::proofs::StatementLevels::nested_statement, crate::proofs::StatementLevels::nested_items))]
 
 ghost use Rattle.std.specs.Prelude.{◌≡◌, ℕ, suc, true, option_map, is_some, Ok, IfSome, IfNone};
@@ -8,8 +8,11 @@ ghost use Rattle.cyc_syntax.specs.Trees as trees;
 ghost use Rattle.cyc_parse.specs.inside.Boxes.{view_boxed, view_boxed_statement};
 ghost use Rattle.cyc_parse.specs.inside.Code.{Gives};
 ghost use Rattle.cyc_parse.specs.inside.Parsing.{next, starts, inside, sign, word};
-ghost use Rattle.cyc_parse.specs.inside.Statements.{begins_statement, is_else, is_unary, ends_in_new, ends_in_name, end_of_swap, nested_statements, expression_from, swap, behind, else_part, return_value, thrown, if_statement, while_statement, throw_statement, statement};
-ghost use Rattle.cyc_parse.specs.inside.StatementSteps.{statement_from, conditional, plain_statement, after_symbol, return_statement, named_statement, block_statement, expression_statement};
+ghost use Rattle.cyc_parse.specs.inside.Statements.{begins_statement, is_else, is_unary, ends_in_new, ends_in_name, end_of_swap, nested_statements};
+ghost use Rattle.cyc_parse.specs.inside.Statements.{expression_from, swap, following, else_part, return_value, thrown, if_statement, while_statement};
+ghost use Rattle.cyc_parse.specs.inside.Statements.{throw_statement, statement};
+ghost use Rattle.cyc_parse.specs.inside.StatementSteps.{statement_from, conditional, plain_statement, after_symbol, return_statement};
+ghost use Rattle.cyc_parse.specs.inside.StatementSteps.{named_statement, block_statement, expression_statement};
 
 use crate::cursor::{Parser, refusal};
 use crate::operators::LEVELS;
@@ -39,7 +42,7 @@ impl<'a> Parser<'a> {
         }
     }
 
-    // ---- one level deeper
+    // ---- the parsers one level deeper
 
     #[cycle(statement)]
     pub(crate) fn parse_statement(&mut self, room: u32) -> Result<Box<Stmt>, Stop>
@@ -52,7 +55,7 @@ impl<'a> Parser<'a> {
         Ok(Box::new(self.alloc(), statement)?)
     }
 
-    /// A sign inside one more bracket.
+    /// Reads a sign inside one more bracket.
     pub(crate) fn take_sign_deeper(&mut self, room: u32, wanted: Sign) -> Result<Span, Stop>
         ensures { Gives place_of_span result (sign (inside room) wanted self.old) self.new }
     {
@@ -61,8 +64,7 @@ impl<'a> Parser<'a> {
 
     // ---- statements that begin with expressions
 
-    /// Behind the right side of a swap. There `<` may be the begin of region arguments, and then what follows it is
-    /// unexpected.
+    /// Reads the end of a swap. A `<` there may begin region arguments, and then the symbol after it is unexpected.
     fn end_swap(&mut self, right: &Expr) -> Result<Span, Stop>
         ensures { (room : ℕ) → Gives place_of_span result (end_of_swap (suc room) (view_expression right.now) self.old) self.new }
     {
@@ -87,9 +89,9 @@ impl<'a> Parser<'a> {
         })
     }
 
-    /// Goes on behind the expression that a statement begins with.
+    /// Parses the rest of a statement, after the expression that it begins with.
     fn parse_rest_of_statement(&mut self, room: u32, value: Box<Expr>) -> Result<Stmt, Stop>
-        ensures { Gives view_statement result (behind room (nested_statements room) (view_boxed value) self.old) self.new }
+        ensures { Gives view_statement result (following room (nested_statements room) (view_boxed value) self.old) self.new }
     {
         if self.sees(Sign::Swap) && is_unary(&value) {
             return self.parse_swap(room, value);
@@ -100,7 +102,7 @@ impl<'a> Parser<'a> {
         })
     }
 
-    /// An expression that begins with this name.
+    /// Parses an expression that begins with this name.
     fn parse_expression_from(&mut self, room: u32, name: Ident) -> Result<Box<Expr>, Stop>
         ensures { Gives view_boxed result (expression_from room (nested_statements room) (view_name name) self.old) self.new }
     {
@@ -110,7 +112,7 @@ impl<'a> Parser<'a> {
         self.parse_assignment(room, target)
     }
 
-    /// A statement that begins with an expression that begins with this name.
+    /// Parses a statement that begins with an expression that begins with this name.
     fn parse_statement_from(&mut self, room: u32, name: Ident) -> Result<Stmt, Stop>
         ensures { Gives view_statement result (statement_from room (nested_statements room) (view_name name) self.old) self.new }
     {
@@ -125,7 +127,7 @@ impl<'a> Parser<'a> {
         self.parse_rest_of_statement(room, value)
     }
 
-    /// A label's colon follows the name, or the name begins an expression.
+    /// Parses a statement after a name: the name is a label if a colon follows, otherwise it begins an expression.
     #[cycle(statement)]
     fn parse_named_statement(&mut self, room: u32, name: Name) -> Result<Stmt, Stop>
         requires { is_some (next self.old) ≡ true }
@@ -140,7 +142,7 @@ impl<'a> Parser<'a> {
         Ok(labelled(name, block))
     }
 
-    // ---- statements that begin with words and signs
+    // ---- statements that begin with keywords and signs
 
     #[cycle(statement)]
     fn parse_block_statement(&mut self, room: u32) -> Result<Stmt, Stop>
@@ -149,7 +151,7 @@ impl<'a> Parser<'a> {
         Ok(block(self.parse_block(room)?))
     }
 
-    /// Takes `else`, if it comes next.
+    /// Reads `else`, if it comes next.
     #[tactic(auto, unfolding(crate::specs::inside::Parsing::take))]
     fn take_else(&mut self) -> Option<Span>
         ensures seen { starts is_else (next self.old) ≡ is_some result }
@@ -170,7 +172,8 @@ impl<'a> Parser<'a> {
         condition: Box<Expr>,
         then: Box<Stmt>,
     ) -> Result<Stmt, Stop>
-        ensures { Gives view_statement result (else_part room (nested_statements room) (place_of_span span) (view_boxed condition) (view_statement then.value) self.old) self.new }
+        ensures { Gives view_statement result (else_part room (nested_statements room) (place_of_span span) (view_boxed condition)
+            (view_statement then.value) self.old) self.new }
     {
         let Some(_) = self.take_else() else {
             return Ok(conditional(span, condition, then, None));
@@ -179,7 +182,7 @@ impl<'a> Parser<'a> {
         Ok(conditional(span, condition, then, Some(otherwise)))
     }
 
-    /// `if`
+    /// Parses an `if` statement.
     #[cycle(statement)]
     fn parse_if(&mut self, room: u32) -> Result<Stmt, Stop>
         requires { is_some (next self.old) ≡ true }
@@ -191,7 +194,7 @@ impl<'a> Parser<'a> {
         self.parse_else_part(room, span, condition, then)
     }
 
-    /// `while`
+    /// Parses a `while` statement.
     #[cycle(statement)]
     fn parse_while(&mut self, room: u32) -> Result<Stmt, Stop>
         requires { is_some (next self.old) ≡ true }
@@ -216,7 +219,7 @@ impl<'a> Parser<'a> {
         Ok(Some(self.parse_expression_here(room)?))
     }
 
-    /// Behind `return`.
+    /// Parses the rest of a `return` statement.
     fn parse_return(&mut self, room: u32, span: Span) -> Result<Stmt, Stop>
         ensures { Gives view_statement result (return_statement room (nested_statements room) (place_of_span span) self.old) self.new }
     {
@@ -228,7 +231,7 @@ impl<'a> Parser<'a> {
         })
     }
 
-    /// The value of an exception, in round brackets.
+    /// Parses the value of a thrown exception, in parentheses.
     fn parse_thrown(&mut self, room: u32) -> Result<Option<Box<Expr>>, Stop>
         ensures { Gives (option_map view_boxed) result (thrown room (nested_statements room) self.old) self.new }
     {
@@ -238,7 +241,7 @@ impl<'a> Parser<'a> {
         Ok(Some(self.parse_group(room)?))
     }
 
-    /// `throw`
+    /// Parses a `throw` statement.
     fn parse_throw(&mut self, room: u32) -> Result<Stmt, Stop>
         requires { is_some (next self.old) ≡ true }
         ensures { Gives view_statement result (after_symbol (throw_statement room (nested_statements room)) self.old) self.new }
@@ -255,7 +258,7 @@ impl<'a> Parser<'a> {
         })
     }
 
-    /// A statement without statements inside it.
+    /// Parses a statement that contains no other statements.
     fn parse_plain_statement(&mut self, room: u32) -> Result<Stmt, Stop>
         ensures { Gives view_statement result (plain_statement room (nested_statements room) self.old) self.new }
     {
@@ -299,21 +302,21 @@ impl<'a> Parser<'a> {
     }
 }
 
-/// The room inside one more bracket.
+/// Returns the number of levels left inside one more bracket.
 pub(crate) fn inside(room: u32) -> u32
     ensures { result ≡ inside room }
 {
     room.saturating_sub(1)
 }
 
-/// Whether an expression is an operand with its prefixes and postfixes: what may stand in a swap.
+/// Returns true if an expression is an operand with its prefixes and postfixes, as the sides of a swap must be.
 fn is_unary(value: &Expr) -> bool
     ensures { result ≡ is_unary (view_expression value.now) }
 {
     !matches!(value, Expr::Binary { .. } | Expr::Assign { .. })
 }
 
-/// Whether an expression ends in `new` and a name, so that `<` may follow it with region arguments.
+/// Returns true if an expression ends in `new` and a name, so that `<` may follow it with region arguments.
 #[cycle(ends_in_new)]
 fn ends_in_new(value: &Expr) -> bool
     ensures { result ≡ ends_in_new (view_expression value.now) }
@@ -356,7 +359,8 @@ fn conditional(
     then: Box<Stmt>,
     otherwise: Option<Box<Stmt>>,
 ) -> Stmt
-    ensures { view_statement result ≡ conditional (place_of_span span) (view_boxed condition) (view_boxed_statement then) (option_map view_boxed_statement otherwise) }
+    ensures { view_statement result ≡ conditional (place_of_span span) (view_boxed condition) (view_boxed_statement then)
+        (option_map view_boxed_statement otherwise) }
 {
     Stmt::If {
         span,

@@ -1,23 +1,23 @@
-//! Why a parse stops.
+//! The reasons for which a parse stops.
 ghost use Rattle.std.specs.Prelude.{◌≡◌};
 ghost use Rattle.cyc_parse.specs.declared.stop.Stop.TheVariants.{Memory};
 
 use std::alloc::{AllocError, AllocFailed};
 
-/// Why symbols are refused. The place is the first symbol that is left, or the end of the text.
+/// Why symbols are rejected. The place is that of the first symbol left, or the end of the text.
 #[derive(Clone, Copy)]
 pub(crate) enum Reason {
-    /// No program goes on with this symbol, or none ends here.
+    /// No program continues with this symbol, or no program ends here.
     Unexpected,
-    /// The symbol stands too deep.
+    /// The symbol is nested too deep.
     TooDeep,
-    /// A list is too long with the item that begins here.
+    /// The item that begins here is one too many of its list.
     TooLong,
 }
 
 #[derive(Clone, Copy)]
 pub(crate) enum Stop {
-    /// An allocation was refused.
+    /// An allocation failed.
     Memory,
     Refused(Reason),
 }

@@ -1,9 +1,9 @@
-//! What the parser reads: tokens whose names are numbers.
+//! The parser's input: tokens whose names are numbers.
 
 use cyc_syntax::{Keyword, Name, Sign};
 use cyc_words::Span;
 
-/// A token without its place. A region name and an identifier of one text have one name.
+/// A token without its place in the text. A region name and an identifier with equal texts have equal names.
 #[derive(Clone, Copy)]
 pub(crate) enum Terminal {
     Identifier(Name),

@@ -17,31 +17,30 @@ ghost use Rattle.cyc_parse.specs.Acceptance.{IsAccepted, IsRefused, IsFaulty};
 use crate::cursor::Parser;
 use crate::stop::{Reason, Stop};
 use crate::symbol::{Symbol, Terminal};
-use cyc_syntax::{Declaration, Names, Token, TokenKind, Tree, place_behind};
+use cyc_syntax::{Declaration, Names, Token, TokenKind, Tree, place_after};
 use cyc_words::{Code, Fault, Span};
 use std::alloc::{AllocError, Global};
 
-/// The tree of a text that has these tokens, or its fault.
+/// Parses the tokens of a text into its tree, or returns its fault.
 ///
-/// A token is refused that no program goes on with, that stands too deep, or that begins an item too many of its list;
-/// and so is the end of the text, where its tokens are not yet a program. Any growth of the tree may be refused for
-/// want of memory.
+/// A token is rejected if no program continues with it. A token is also rejected if it is nested too deep, or if it begins an item too many
+/// of its list. The end of the text is rejected if its tokens are not yet a program. Any growth of the tree may fail for lack of memory.
 pub fn parse(alloc: Global, tokens: &[Token], text: &[u8]) -> Result<Tree, Fault>
     requires short { length text.now ≤ max_bytes }
     requires tokens { AreTokensOf text.now tokens.now }
-    // What is accepted has a tree, and this is answered; what is refused is so for what its code says at its place, and
-    // a program that breaks a limit is refused for the first that it breaks.
+    // An accepted text has a tree, which is returned. A fault holds for the reason that its code gives, at its place. A program that breaks
+    // a limit is rejected for the first limit that it breaks.
     ensures decides { Decides (IsAccepted (map (token_of text.now) tokens.now)) (λ tree t. declarations_of t ≡ tree)
         (IsRefused text.now (map (token_of text.now) tokens.now)) (IsFaulty text.now (map (token_of text.now) tokens.now)) result }
-    // Names have the numbers of their texts, in the order in which they first come.
+    // Names are numbered in the order of the first occurrence of their texts.
     ensures names { IfOk result (λ t. t.names ≡ distinct_texts (texts_in (map (token_of text.now) tokens.now))) }
-    // A tree weighs as much as there are tokens.
+    // The weight of a tree is the number of its tokens.
     ensures weight { IfOk result (λ t. tree_weight (declarations_of t) ≡ length tokens.now) }
 {
     answer(alloc, tokens, text)
 }
 
-/// What the parser of symbols answers, as a tree or a fault of the text.
+/// Returns the result of the parser of symbols, as a tree or a fault of the text.
 fn answer(alloc: Global, tokens: &[Token], text: &[u8]) -> Result<Tree, Fault>
     requires short { length text.now ≤ max_bytes }
     requires tokens { AreTokensOf text.now tokens.now }
@@ -58,7 +57,7 @@ fn answer(alloc: Global, tokens: &[Token], text: &[u8]) -> Result<Tree, Fault>
 
 // ---- from tokens to symbols
 
-/// The symbol that a token is. Its name, if it has one, is numbered.
+/// Returns the symbol of a token. The name of the token, if it has one, is interned.
 fn symbol_of_token(token: Token, text: &[u8], names: &mut Names) -> Result<Symbol, AllocError>
     requires { LiesIn text.now token }
     ensures names { OnOk result (names.new ≡ fold with_text names.old (texts_in (token_of text.now token ∷ []))) }
@@ -79,7 +78,7 @@ fn symbol_of_token(token: Token, text: &[u8], names: &mut Names) -> Result<Symbo
     })
 }
 
-/// The symbols that tokens are, with their names numbered in the order in which they first come.
+/// Returns the symbols of tokens, with their names numbered in the order of their first occurrence.
 fn symbols_of_tokens(
     alloc: Global,
     tokens: &[Token],
@@ -100,7 +99,7 @@ fn symbols_of_tokens(
 
 // ---- from symbols to declarations
 
-/// The declarations that symbols spell, or their fault in this text.
+/// Returns the declarations that the symbols spell, or their fault in this text.
 #[tactic(auto, using(crate::proofs::Ends::whole_ends))]
 fn declarations_of(
     alloc: Global,
@@ -116,14 +115,14 @@ fn declarations_of(
         Ok(declarations) => Ok(declarations),
         Err(Stop::Memory) => Err(Fault::memory()),
         Err(Stop::Refused(reason)) => {
-            let end = place_behind(Span { line: 1, column: 1 }, text);
+            let end = place_after(Span { line: 1, column: 1 }, text);
             Err(parser.fault(reason, end))
         }
     }
 }
 
 impl<'a> Parser<'a> {
-    /// A program, and nothing behind it.
+    /// Parses a program that uses up all symbols.
     fn parse_whole_program(&mut self) -> Result<Vec<Declaration>, Stop>
         ensures { Gives (λ v. map view_declaration v.items) result (whole_program self.old) self.new }
     {
@@ -145,7 +144,7 @@ impl<'a> Parser<'a> {
         }
     }
 
-    /// The fault of a refusal at what is left, in a text that ends at this place.
+    /// Returns the fault of a rejection at the next symbol, in a text that ends at this place.
     fn fault(&self, reason: Reason, end: Span) -> Fault
         ensures { result ≡ fault_of (place_of_span end) (record { reason = view_reason reason; left = self.now }) }
     {

@@ -4,7 +4,8 @@ ghost use Rattle.cyc_syntax.specs.inside.TreeView.{place_of_span, view_name, vie
 ghost use Rattle.cyc_parse.specs.inside.Code.{Gives};
 ghost use Rattle.cyc_parse.specs.inside.Parsing.{next, starts, begins_region, regions, region_list};
 ghost use Rattle.cyc_parse.specs.inside.Steps.{one_pointer};
-ghost use Rattle.cyc_parse.specs.inside.Types.{begins_type, mark_at, optional_region, region_of, no_more_pointers, pointers_of, with_pointers, optional_regions, written_type};
+ghost use Rattle.cyc_parse.specs.inside.Types.{begins_type, mark_at, optional_region, region_of, no_more_pointers, pointers_of, with_pointers};
+ghost use Rattle.cyc_parse.specs.inside.Types.{optional_regions, written_type};
 
 use crate::cursor::{Parser, refusal};
 use crate::growth::append;
@@ -13,7 +14,7 @@ use crate::symbol::Terminal;
 use cyc_syntax::{BaseType, Ident, Keyword, Pointer, PointerKind, Sign, WrittenType};
 use cyc_words::Span;
 
-/// The most items that a list may have.
+/// The largest number of items of a list.
 pub(crate) const MAX_ITEMS: u32 = 64;
 
 impl<'a> Parser<'a> {
@@ -38,7 +39,7 @@ impl<'a> Parser<'a> {
         )
     }
 
-    /// Region names with commas between.
+    /// Parses region names separated by commas.
     pub(crate) fn parse_regions(&mut self) -> Result<Vec<Ident>, Stop>
         ensures { (room : ℕ) → Gives (λ v. map view_name v.items) result (regions (suc room) self.old) self.new }
     {
@@ -53,7 +54,7 @@ impl<'a> Parser<'a> {
         Err(refusal(self.begins_region(), Reason::TooLong))
     }
 
-    /// Region arguments in their brackets.
+    /// Parses region arguments in angle brackets.
     pub(crate) fn parse_region_list(&mut self) -> Result<Vec<Ident>, Stop>
         ensures { (room : ℕ) → Gives (λ v. map view_name v.items) result (region_list (suc room) self.old) self.new }
     {
@@ -74,7 +75,7 @@ impl<'a> Parser<'a> {
         }
     }
 
-    /// The one region of a handle's or a key's type, in its brackets.
+    /// Parses the region of a handle's or a key's type, in angle brackets.
     pub(crate) fn parse_region_of(&mut self) -> Result<Ident, Stop>
         ensures { (room : ℕ) → Gives view_name result (region_of (suc room) self.old) self.new }
     {
@@ -93,7 +94,7 @@ impl<'a> Parser<'a> {
         Ok(Some(self.take_region_name()?))
     }
 
-    /// The next symbol, if it is a pointer mark.
+    /// Returns the next symbol, if it is a pointer mark.
     fn mark(&self) -> Option<PointerKind>
         ensures { result ≡ mark_at (next self.now) }
     {
@@ -125,7 +126,7 @@ impl<'a> Parser<'a> {
         }
     }
 
-    /// The pointer marks of a type.
+    /// Parses the pointer marks of a type.
     fn parse_pointers(&mut self) -> Result<Vec<Pointer>, Stop>
         ensures { (room : ℕ) → Gives (λ v. map view_pointer v.items) result (pointers_of (suc room) 64 self.old) self.new }
     {

@@ -1,4 +1,4 @@
--- Nodes of the code's trees that lie in boxes, as the trees that they are.
+-- The views of nodes that the code's trees store in boxes.
 use Rattle.std.specs.declared.boxed.Box.{Box}
 use Rattle.std.specs.declared.alloc.Global.{Global as Heap}
 use Rattle.cyc_syntax.specs.declared.tree.Expr.{Expr}

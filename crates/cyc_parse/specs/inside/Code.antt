@@ -1,4 +1,4 @@
--- What the code has to do with the parser of symbols: the symbols that it reads, and what its functions give.
+-- The relation between the code and the parser of symbols: the symbols that the code reads, and the results of its functions.
 use Rattle.std.specs.Prelude.{◌≡◌, ℕ, List, [], ◌∷◌, Result, Ok, Err}
 use Rattle.cyc_syntax.specs.Symbols as terminals
 use Rattle.cyc_syntax.specs.Symbols.{Symbol, Terminal, Place}
@@ -28,19 +28,17 @@ view_reason reasons.Unexpected = Unexpected
 view_reason reasons.TooDeep = TooDeep
 view_reason reasons.TooLong = TooLong
 
--- A refusal of the code is the parser's, and stands at the first of the symbols left. When memory runs out, nothing is
--- said.
+-- A rejection by the code is the same as the parser's, at the first of the symbols left. If memory runs out, nothing is claimed.
 abbrev pub Stops : {Y : Type 0} → Stop → Outcome Y → List Symbol → Type 0
 Stops stops.Memory outcome left = Unit {0}
 Stops (stops.Refused why) outcome left = outcome ≡ Err (record { reason = view_reason why; left = left })
 
--- What the code answered, seen by `view`, and the symbols that it left are what the parser gives, unless memory ran
--- out.
+-- The result of the code, seen by `view`, and the symbols left by it equal those of the parser, unless memory ran out.
 abbrev pub Gives : {X Y : Type 0} → (X → Y) → Result X Stop → Outcome Y → List Symbol → Type 0
 Gives view (Ok x) outcome left = outcome ≡ Ok (view x, left)
 Gives view (Err e) outcome left = Stops e outcome left
 
--- the next symbol, whatever it is, if it does not stand too deep
+-- reads the next symbol, whatever it is, unless it is nested too deep
 abbrev pub accepted : ℕ → Parser Place
 accepted room [] = Err (record { reason = Unexpected; left = [] })
 accepted room (t ∷ ts) = accept room t.place t ts

@@ -22,12 +22,12 @@ begins_void t = is_some (is_word words.Void t)
 abbrev pub member : ℕ → Parser Member
 member room = written_type room >>= (λ t. identifier room >>= (λ x. pure (record { of_type = t; name = x })))
 
--- ---- structs and exceptions: each field and constructor ends in a semicolon. The number counts those that may still come.
+-- ---- structs and exceptions: each field and constructor ends in a semicolon. The number counts the items that may still follow.
 
 abbrev pub field : ℕ → Parser Member
 field room = member room >>= (λ m. sign room signs.Semicolon >> pure m)
 
--- whether a constructor has an `int`
+-- reads `(int)` if it comes next; returns whether the constructor has an `int`
 abbrev pub has_int : ℕ → Parser Bool
 has_int room = if_sees signs.LeftParen (sign room signs.LeftParen >> word (inside room) words.Int >> sign (inside room) signs.RightParen >> pure true) (pure false)
 
@@ -50,7 +50,7 @@ abbrev pub parameter_list : ℕ → Parser ParameterList
 parameter_list room = if_starts begins_void (advance >> pure Void)
     (if_starts begins_type (separated room begins_type (member room) >>= (λ ms. pure (Listed ms))) (pure (Listed [])))
 
--- the regions of an effect, up to its closing brace
+-- parses the regions of an effect, up to the closing brace
 abbrev pub effect_regions : ℕ → Parser (List Named)
 effect_regions room = if_starts begins_region (regions room) (pure [])
 
@@ -85,21 +85,21 @@ module _ (room : ℕ) where
   abbrev pub global_value : Parser (Option GlobalValue)
   global_value = if_sees signs.Assign (sign here signs.Assign >> value room >>= (λ v. pure (Some v))) (pure None)
 
-  -- behind a type and a name
+  -- parses the rest of a global variable, after its type and its name
   abbrev pub global : WrittenType → Named → Parser Declaration
   global t x = global_value >>= (λ v. sign here signs.Semicolon >> pure (Global t x v))
 
   abbrev pub function : Option WrittenType → Named → Parser Declaration
   function t f = sign here signs.LeftParen >> parameters room >>= (λ ps. sign room signs.RightParen >> body room (nested_statements room) >>= (λ b. pure (Function t f ps b)))
 
-  -- behind the type that a declaration begins with
+  -- parses the rest of a declaration, after the type that it begins with
   abbrev pub typed : WrittenType → Parser Declaration
   typed t = identifier here >>= (λ x. if_sees signs.LeftParen (function (Some t) x) (global t x))
 
   abbrev pub struct_fields : Named → List Named → Parser Declaration
   struct_fields s rs = sign here signs.LeftBrace >> some_of begins_type (field room) >>= (λ fs. sign room signs.RightBrace >> sign here signs.Semicolon >> pure (StructType s rs fs))
 
-  -- behind `struct`: a struct is declared, or its type begins another declaration
+  -- after `struct`: either a struct is declared, or the struct type begins another declaration
   abbrev pub struct_or_typed : Place → Parser Declaration
   struct_or_typed p = identifier here >>= (λ s. optional_regions here >>= (λ rs. if_sees signs.LeftBrace (struct_fields s rs) (with_pointers here p (Struct s rs) >>= typed)))
 
@@ -125,6 +125,6 @@ module _ (room : ℕ) where
   abbrev pub program : Parser (List Declaration)
   program = declaration >>= (λ d. (λ ts. declarations_in (length ts) ts) >>= (λ ds. pure (d ∷ ds)))
 
--- The program that the symbols spell. A symbol of a program stands at most 200 deep.
+-- The program that the symbols spell, if any. Symbols nested more than 200 deep are rejected.
 abbrev pub program_of : List Symbol → Result (List Declaration × List Symbol) Refusal
 program_of ts = program 200 ts

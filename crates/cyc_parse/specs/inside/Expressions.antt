@@ -1,4 +1,4 @@
--- The parser of expressions, by recursive descent: chains of binary operators by their levels, from the tightest.
+-- The parser of expressions, by recursive descent. Chains of binary operators are parsed level by level, the tightest first.
 use Rattle.std.specs.Prelude.{ℕ, zero, suc, Bool, true, false, nat_eq, List, [], ◌∷◌, length, Option, Some, None, is_some, if◌then◌else◌}
 use Rattle.cyc_syntax.specs.declared.tokens.Keyword.{Keyword}
 use Rattle.cyc_syntax.specs.declared.tokens.Keyword.TheVariants as words
@@ -15,7 +15,7 @@ use Rattle.cyc_syntax.specs.Trees.{Binary, Assign, Initial, Plain, Fields, Array
 use Rattle.cyc_syntax.specs.Grammar.{level, max_items}
 use Rattle.cyc_parse.specs.inside.Parsing.{Parser, Unexpected, TooDeep, TooLong, ◌>>=◌, ◌>>◌, pure, refuse, choose, advance, if_is, if_sees, refuse_item, is_sign, separated, region_list, opens_regions, sign, word, identifier}
 
--- ---- what begins an expression, and what goes on with one
+-- ---- first symbols of expressions, and symbols that continue one
 
 abbrev pub begins_by_word : Keyword → Bool
 begins_by_word words.Null = true
@@ -29,7 +29,7 @@ begins_by_word words.New = true
 begins_by_word words.RegionNew = true
 begins_by_word _ = false
 
--- the operator that a sign is in front of an operand
+-- the prefix operator that a sign denotes before an operand
 abbrev pub prefix_operator : Sign → Option PrefixOperator
 prefix_operator signs.Minus = Some prefixes.Negate
 prefix_operator signs.Not = Some prefixes.Not
@@ -50,7 +50,7 @@ begins_expression (terminals.Character c) = true
 begins_expression (Word k) = begins_by_word k
 begins_expression (Mark s) = begins_by_sign s
 
--- an expression, or a brace
+-- an initial value begins with an expression or a brace
 abbrev pub begins_initial : Terminal → Bool
 begins_initial (Identifier x) = true
 begins_initial (RegionName r) = false
@@ -90,7 +90,7 @@ abbrev pub operator_at : ℕ → Option Terminal → Option BinaryOperator
 operator_at k (Some (Mark s)) = of_level k (binary_operator s)
 operator_at k _ = None
 
--- ---- parts of trees
+-- ---- lists as parts of trees
 
 abbrev pub chain_of : List Expression → Expressions
 chain_of [] = NoExpressions
@@ -107,7 +107,7 @@ binary_of e (ThenOperation o p r os) = Binary e (ThenOperation o p r os)
 
 -- ---- chains of binary operators, given the parser of an operand with its prefixes and postfixes
 
--- behind as many operators as a chain may have
+-- the end of a chain that has the maximal number of operators: one more is rejected
 abbrev pub no_more_operations : ℕ → Parser Operations
 no_more_operations k = if_is (operator_at k) (λ o. refuse TooLong) (pure NoOperations)
 
@@ -115,22 +115,22 @@ unfoldable pub operations : Parser Expression → ℕ → ℕ → Parser Operati
 operations operand k zero = no_more_operations k
 operations operand k (suc left) = if_is (operator_at k) (λ o. advance >>= (λ p. operand >>= (λ e. operations operand k left >>= (λ os. pure (ThenOperation o p e os))))) (pure NoOperations)
 
--- goes on from a first operand by the operators of the levels up to this one
+-- extends a first operand by the operators of the levels up to this one
 unfoldable pub climb : Parser Expression → ℕ → Expression → Parser Expression
 climb unary zero e = pure e
 climb unary (suc k) e = climb unary k e >>= (λ first. operations (unary >>= climb unary k) (suc k) max_items >>= (λ os. pure (binary_of first os)))
 
--- ---- at one depth, given the parsers one level deeper
+-- ---- the parsers at one depth, given the parsers one level deeper
 
 pub record Nested : Type 0 where
   pub unary : Parser Expression
   pub binary : Parser Expression
   pub expression : Parser Expression
-  -- an expression in round brackets
+  -- parses an expression in parentheses
   pub group : Parser Expression
   pub initial : Parser Initial
 
--- behind as many postfixes as an operand may have
+-- the end of an operand that has the maximal number of postfixes: one more is rejected
 abbrev pub no_more_postfixes : Parser Postfixes
 no_more_postfixes = if_sees signs.LeftBracket (refuse TooLong) (if_sees signs.Arrow (refuse TooLong) (pure NoPostfixes))
 
@@ -141,7 +141,7 @@ module _ (room : ℕ) (inner : Nested) where
   abbrev pub arguments : Parser Expressions
   arguments = if_sees signs.RightParen (pure NoExpressions) (separated room begins_expression inner.expression >>= (λ es. pure (chain_of es)))
 
-  -- an expression that begins with this name
+  -- parses an expression that begins with this name
   abbrev pub from_name : Named → Parser Expression
   from_name x = if_sees signs.LeftParen (sign (suc room) signs.LeftParen >> arguments >>= (λ es. sign room signs.RightParen >> pure (Call x es))) (pure (Variable x))
 
@@ -172,7 +172,7 @@ module _ (room : ℕ) (inner : Nested) where
   abbrev pub with_postfixes : Parser Expression → Parser Expression
   with_postfixes first = first >>= (λ e. postfixes max_items >>= (λ ps. pure (chained e ps)))
 
-  -- an operand that begins with a sign: with this operator, or with none
+  -- parses an operand after a sign, which is this prefix operator or none
   abbrev pub prefixed_by : Option PrefixOperator → Parser Expression
   prefixed_by (Some o) = advance >>= (λ p. inner.unary >>= (λ e. pure (Prefixed p o e)))
   prefixed_by None = with_postfixes primary
@@ -195,7 +195,7 @@ module _ (room : ℕ) (inner : Nested) where
   abbrev pub expression : Parser Expression
   expression = binary >>= assignment
 
-  -- the values of a struct's fields, as many as there are
+  -- parses the further values of a struct's fields, whatever their number
   unfoldable pub more_values : ℕ → Parser Expressions
   more_values zero = pure NoExpressions
   more_values (suc turns) = if_sees signs.Comma (sign room signs.Comma >> inner.expression >>= (λ e. more_values turns >>= (λ es. pure (MoreExpressions e es)))) (pure NoExpressions)
@@ -206,7 +206,7 @@ module _ (room : ℕ) (inner : Nested) where
   abbrev pub fields : Named → List Named → Parser Initial
   fields s rs = sign (suc room) signs.LeftBrace >> values >>= (λ es. sign room signs.RightBrace >> pure (Fields s rs es))
 
-  -- a struct's name opens its fields, with region arguments or without, or the name begins an expression
+  -- after a name: it opens a struct's fields, with or without region arguments, or it begins an expression
   abbrev pub initial_from_name : Named → Parser Initial
   initial_from_name s = if_sees signs.LeftBrace (fields s [])
       (λ ts. (if opens_regions ts then region_list (suc room) >>= (λ rs. fields s rs) else with_postfixes (from_name s) >>= (λ e. pure (Plain e))) ts)
@@ -222,7 +222,7 @@ module _ (room : ℕ) (inner : Nested) where
   unfoldable pub initial : Parser Initial
   initial = choose initial_by
 
--- the parsers with so many levels of nesting left; with none, what begins here stands too deep
+-- the parsers with this many levels of nesting left; with none left, each rejects its first symbol as too deep
 unfoldable pub nested : ℕ → Nested
 nested zero = record {
   unary = refuse_item begins_expression TooDeep;

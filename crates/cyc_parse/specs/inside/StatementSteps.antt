@@ -1,5 +1,5 @@
--- Parts of the parser of statements that are functions of their own in the code, and one step of each list that the
--- code reads in a loop: the next item or clause, if the list goes on.
+-- Parts of the parser of statements that are separate functions in the code. For each list that the code reads in a loop: one step, which
+-- reads the next item or clause if the list continues.
 use Rattle.std.specs.Prelude.{ℕ, suc, Option, Some, None, option_map}
 use Rattle.cyc_syntax.specs.declared.tokens.Keyword.TheVariants as words
 use Rattle.cyc_syntax.specs.declared.tokens.Sign.TheVariants as signs
@@ -9,9 +9,9 @@ use Rattle.cyc_syntax.specs.Symbols.{Place, Terminal, Word, Mark}
 use Rattle.cyc_syntax.specs.Trees.{Named, Expression, Statement, Block, Empty, If, IfElse, Return, Break, Continue, Try, Body, Braces, Item, Items, Clauses, NoClauses, Default, Case}
 use Rattle.cyc_syntax.specs.inside.TreeView.{view_name, items_of}
 use Rattle.cyc_parse.specs.inside.Parsing.{Parser, ◌>>=◌, ◌>>◌, pure, choose, advance, if_starts, sign, word, identifier}
-use Rattle.cyc_parse.specs.inside.Statements.{Nested, begins_item, is_case, is_default, body, expression, expression_from, behind, statement_from_name, return_value, throw_statement, caught, let_by, item}
+use Rattle.cyc_parse.specs.inside.Statements.{Nested, begins_item, is_case, is_default, body, expression, expression_from, following, statement_from_name, return_value, throw_statement, caught, let_by, item}
 
--- what goes on behind one symbol, given its place
+-- the continuation after one symbol, given its place
 abbrev pub after_symbol : {A : Type 0} → (Place → Parser A) → Parser A
 after_symbol f = advance >>= f
 
@@ -19,7 +19,7 @@ module _ (room : ℕ) (inner : Nested) where
   abbrev pub return_statement : Place → Parser Statement
   return_statement p = return_value room inner >>= (λ v. sign (suc room) signs.Semicolon >> pure (Return p v))
 
-  -- a statement that begins with this name
+  -- parses a statement that begins with this name
   abbrev pub named_statement : ℕ → Parser Statement
   named_statement x = advance >>= (λ p. statement_from_name room inner (record { name = x; place = p }))
 
@@ -27,13 +27,13 @@ module _ (room : ℕ) (inner : Nested) where
   block_statement = body room inner >>= (λ b. pure (Block b))
 
   abbrev pub expression_statement : Parser Statement
-  expression_statement = expression room inner >>= behind room inner
+  expression_statement = expression room inner >>= following room inner
 
-  -- a statement that begins with an expression that begins with this name
+  -- parses a statement that begins with an expression that begins with this name
   abbrev pub statement_from : Named → Parser Statement
-  statement_from x = expression_from room inner x >>= behind room inner
+  statement_from x = expression_from room inner x >>= following room inner
 
-  -- a statement without statements inside it
+  -- parses a statement that contains no other statements
   abbrev pub plain_by : Option Terminal → Parser Statement
   plain_by (Some (Mark signs.Semicolon)) = advance >>= (λ p. pure (Empty p))
   plain_by (Some (Word words.Return)) = after_symbol return_statement
@@ -45,11 +45,11 @@ module _ (room : ℕ) (inner : Nested) where
   abbrev pub plain_statement : Parser Statement
   plain_statement = choose plain_by
 
-  -- the brace that closes behind the items of a block
+  -- reads the closing brace after the items of a block
   abbrev pub end_of_block : Place → Items → Parser Body
   end_of_block p is = sign room signs.RightBrace >>= (λ q. pure (Braces p is q))
 
-  -- the brace that closes behind the clauses of a `try`
+  -- reads the closing brace after the clauses of a `try`
   abbrev pub end_of_try : Place → Statement → Clauses → Parser Statement
   end_of_try p s cs = sign room signs.RightBrace >> pure (Try p s cs)
 
@@ -59,7 +59,7 @@ module _ (room : ℕ) (inner : Nested) where
   abbrev pub one_item : Parser (Option Item)
   one_item = if_starts begins_item (item room inner >>= (λ i. pure (Some i))) (pure None)
 
-  -- a clause up to its colon: its exception and its variable
+  -- parses the start of a clause up to its colon: its exception and its variable
   abbrev pub clause_head : Parser (Option (Named × Option Named))
   clause_head = if_starts is_case (word room words.Case >> sign room signs.And >> identifier room >>= (λ x. caught room inner >>= (λ v. sign room signs.Colon >> pure (Some (x, v))))) (pure None)
 
@@ -67,7 +67,7 @@ module _ (room : ℕ) (inner : Nested) where
   with_items None = pure None
   with_items (Some head) = inner.items >>= (λ is. pure (Some (Case head.0 head.1 is)))
 
-  -- a clause, as what it makes of those behind it
+  -- parses one clause, returned as a function of the clauses after it
   abbrev pub one_clause : Parser (Option (Clauses → Clauses))
   one_clause = clause_head >>= with_items
 
@@ -80,7 +80,7 @@ then_clause c = Case (view_name c.exception) (option_map view_name c.variable) (
 abbrev pub view_clause_head : Ident × Option Ident → Named × Option Named
 view_clause_head head = (view_name head.0, option_map view_name head.1)
 
--- `if`, with what stands behind `else` or without
+-- the tree of an `if`, with or without an `else`
 abbrev pub conditional : Place → Expression → Statement → Option Statement → Statement
 conditional p c s None = If p c s
 conditional p c s (Some t) = IfElse p c s t

@@ -13,7 +13,7 @@ use Rattle.cyc_parse.specs.inside.Parsing.{Parser, Unexpected, TooDeep, ◌>>=�
 use Rattle.cyc_parse.specs.inside.Types.{written_type, region_of}
 use Rattle.cyc_parse.specs.inside.Expressions.{begins_by_sign, begins_by_word, nested, from_name, with_postfixes, climb, assignment}
 
--- ---- what begins statements and items
+-- ---- first symbols of statements and items
 
 abbrev pub statement_word : Keyword → Bool
 statement_word words.If = true
@@ -73,14 +73,14 @@ is_else _ = false
 
 -- ---- swaps
 
--- an operand with its prefixes and postfixes: what may stand in a swap
+-- true if the expression is an operand with its prefixes and postfixes, as the sides of a swap must be
 abbrev pub is_unary : Expression → Bool
 is_unary (Binary e os) = false
 is_unary (Assign a b) = false
 is_unary _ = true
 
 abbrev mutual
-  -- The expression ends in `new` and a name, so that `<` may follow it with region arguments.
+  -- True if the expression ends in `new` and a name, so that `<` may follow it with region arguments.
   pub ends_in_new : Expression → Bool
   ends_in_new (Prefixed p o e) = ends_in_new e
   ends_in_new (New p i) = ends_in_name i
@@ -126,12 +126,12 @@ abbrev mutual
   is_variable (Binary e os) = false
   is_variable (Assign a b) = false
 
--- Behind the right side of a swap: `<` may be the begin of region arguments, and then what follows it is unexpected.
+-- After the right side of a swap: `<` may begin region arguments, and then the symbol after this `<` is unexpected.
 abbrev pub end_of_swap : ℕ → Expression → Parser Place
 end_of_swap room e = if_sees signs.Semicolon (sign room signs.Semicolon)
     (λ ts. (if sees signs.Less ts && ends_in_new e then advance >> refuse Unexpected else refuse Unexpected) ts)
 
--- ---- at one depth, given the parsers one level deeper
+-- ---- the parsers at one depth, given the parsers one level deeper
 
 pub record Nested : Type 0 where
   pub statement : Parser Statement
@@ -147,19 +147,19 @@ module _ (room : ℕ) (inner : Nested) where
   abbrev pub expression : Parser Expression
   expression = (nested here).expression
 
-  -- an expression that begins with this name
+  -- parses an expression that begins with this name
   abbrev pub expression_from : Named → Parser Expression
   expression_from x = (with_postfixes room (nested room) (from_name room (nested room) x) >>= climb (nested here).unary 10) >>= assignment room (nested room)
 
   abbrev pub swap : Expression → Parser Statement
   swap a = sign here signs.Swap >> (nested here).unary >>= (λ b. end_of_swap here b >> pure (Swap a b))
 
-  -- behind the expression that a statement begins with
-  abbrev pub behind : Expression → Parser Statement
-  behind e = λ ts. (if sees signs.Swap ts && is_unary e then swap e else sign here signs.Semicolon >> pure (Evaluate e)) ts
+  -- parses the rest of a statement, after the expression that it begins with
+  abbrev pub following : Expression → Parser Statement
+  following e = λ ts. (if sees signs.Swap ts && is_unary e then swap e else sign here signs.Semicolon >> pure (Evaluate e)) ts
 
   abbrev pub statement_from_name : Named → Parser Statement
-  statement_from_name x = if_sees signs.Colon (sign here signs.Colon >> body >>= (λ b. pure (Labelled x b))) (expression_from x >>= behind)
+  statement_from_name x = if_sees signs.Colon (sign here signs.Colon >> body >>= (λ b. pure (Labelled x b))) (expression_from x >>= following)
 
   abbrev pub else_part : Place → Expression → Statement → Parser Statement
   else_part p c s = if_starts is_else (word here words.Else >> inner.statement >>= (λ t. pure (IfElse p c s t))) (pure (If p c s))
@@ -173,7 +173,7 @@ module _ (room : ℕ) (inner : Nested) where
   abbrev pub caught : Parser (Option Named)
   caught = if_sees signs.LeftParen (sign room signs.LeftParen >> identifier (inside room) >>= (λ v. sign (inside room) signs.RightParen >> pure (Some v))) (pure None)
 
-  -- the number bounds the clauses: as many as there are symbols
+  -- the number bounds the clauses; the number of symbols suffices
   unfoldable pub clauses_in : ℕ → Parser Clauses
   clauses_in zero = pure NoClauses
   clauses_in (suc turns) =
@@ -206,7 +206,7 @@ module _ (room : ℕ) (inner : Nested) where
   statement_by (Some (Word words.Continue)) = advance >>= (λ p. sign here signs.Semicolon >> pure (Continue p))
   statement_by (Some (Word words.Throw)) = advance >>= (λ p. throw_statement p)
   statement_by (Some (Word words.Try)) = advance >>= (λ p. try_statement p)
-  statement_by _ = expression >>= behind
+  statement_by _ = expression >>= following
 
   unfoldable pub statement : Parser Statement
   statement = choose statement_by
@@ -228,7 +228,7 @@ module _ (room : ℕ) (inner : Nested) where
   abbrev pub alias : Parser Item
   alias = word here words.Alias >> region_of here >>= (λ r. written_type here >>= (λ t. identifier here >>= (λ x. sign here signs.Assign >> identifier room >>= (λ y. sign here signs.Semicolon >> pure (Alias r t x y)))))
 
-  -- `= new_ukey()`
+  -- reads `= new_ukey()`
   abbrev pub new_key : Parser (Unit {0})
   new_key = sign here signs.Assign >> word room words.NewKey >> sign room signs.LeftParen >> sign (inside room) signs.RightParen >> sign here signs.Semicolon >> pure tt
 
@@ -243,7 +243,7 @@ module _ (room : ℕ) (inner : Nested) where
   abbrev pub executed : Parser Item
   executed = statement >>= (λ s. pure (Execute s))
 
-  -- `char` and a bracket begin an expression, and else a declaration
+  -- `char` begins an expression if a parenthesis follows, otherwise a declaration
   abbrev pub char_item : Parser Item
   char_item = λ ts. (if opens_low_byte ts then executed else local) ts
 
@@ -267,7 +267,7 @@ module _ (room : ℕ) (inner : Nested) where
   abbrev pub items : Parser Items
   items = λ ts. items_in (length ts) ts
 
--- the parsers with so many levels of nesting left; with none, what begins here stands too deep
+-- the parsers with this many levels of nesting left; with none left, each rejects its first symbol as too deep
 unfoldable pub nested_statements : ℕ → Nested
 nested_statements zero = record {
   statement = refuse_item begins_statement TooDeep;

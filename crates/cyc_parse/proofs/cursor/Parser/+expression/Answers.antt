@@ -11,7 +11,7 @@ use Rattle.cyc_parse.specs.inside.Code.{Gives}
 use Rattle.cyc_parse.specs.inside.Parsing.{Outcome}
 use Rattle.cyc_parse.proofs.Loops.{goes_on, fails, fails_full, ends_as, is_full_as, onto-expressions, onto-postfixes, onto-operations, postfixes_steps, operations_steps, more_values_steps}
 use Rattle.cyc_parse.proofs.Rounds.{separated_begins, item_fails, list_ends, rest_fails, list_goes_on, is_too_long, item_rounds, no_comma, a_comma, comma_fails, comma_too_many}
-use Rattle.cyc_parse.proofs.NextItems.{no_item_behind, comma_stops, item_behind, item_stops, no_operation, an_operation, operand_stops}
+use Rattle.cyc_parse.proofs.NextItems.{no_item_after, comma_stops, item_after, item_stops, no_operation, an_operation, operand_stops}
 use Rattle.cyc_parse.proofs.LoneOperands.{field_is_postfix, no_chain}
 use Rattle.cyc_parse.proofs.cursor.Parser.+expression.Goals as goal
 
@@ -109,7 +109,7 @@ parse_operations-returns t c =
 
 pub parse_values-returns-then-not-sees : goal.parse_values-returns-then-not-sees
 parse_values-returns-then-not-sees t c =
-    let none = no_item_behind c.args.room (nested c.args.room).expression c.loop.self (sym c.sees.ensures ∙ c.if-not-sees.true) in
+    let none = no_item_after c.args.room (nested c.args.room).expression c.loop.self (sym c.sees.ensures ∙ c.if-not-sees.true) in
     ends_as view_expression _ NoExpressions expressions_of onto-expressions _ _ (more_values_steps c.args.room (nested c.args.room)) c.loop.values.items c.len-most.result c.loop.counter c.loop.self c.loop.self None _ c.loop-test.true none refl c.loop.invariant
 
 pub parse_values-returns-in_err-take_sign_inside : goal.parse_values-returns-in_err-take_sign_inside
@@ -127,7 +127,7 @@ parse_values-returns-in_err-value t c =
 pub parse_values-loop-preserved : goal.parse_values-loop-preserved
 parse_values-loop-preserved t c =
     let read : (nested c.args.room).expression c.take_sign_inside.new.self ≡ Ok (view_expression c.into_inner-in-loop.result, c.parse_expression-in-loop.new.self) = c.in_ok-value.ensures ∙ ap (λ (e : Expr). Ok (view_expression e, c.parse_expression-in-loop.new.self)) (sym c.into_inner-in-loop.ensures) in
-    let one = item_behind c.args.room (nested c.args.room).expression c.loop.self _ c.take_sign_inside.new.self c.parse_expression-in-loop.new.self (sym c.sees.ensures ∙ c.if-not-sees.false) c.in_ok-take_sign_inside.ensures (view_expression c.into_inner-in-loop.result) read in
+    let one = item_after c.args.room (nested c.args.room).expression c.loop.self _ c.take_sign_inside.new.self c.parse_expression-in-loop.new.self (sym c.sees.ensures ∙ c.if-not-sees.false) c.in_ok-take_sign_inside.ensures (view_expression c.into_inner-in-loop.result) read in
     rw c.in_ok-append-2.ensures.items (goes_on view_expression _ _ _ _ (more_values_steps c.args.room (nested c.args.room)) c.loop.values.items c.len-most.result c.loop.counter c.loop.self c.parse_expression-in-loop.new.self (Some c.into_inner-in-loop.result) c.into_inner-in-loop.result _ c.loop-test.true one refl c.loop.invariant)
 
 no_more_values : (room : ℕ) (ts : List Symbol) → more_values room (nested room) 0 ts ≡ Ok (NoExpressions, ts)
