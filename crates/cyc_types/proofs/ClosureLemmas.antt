@@ -1,4 +1,4 @@
--- The tests of `Closure` decide the outlives relation.
+-- The boolean tests of `Closure` decide the outlives relation.
 use Rattle.std.proofs.Common.{◌≡◌, ◌≢◌, ◌⊎◌, inl, inr, true, not, ◌&&◌, ◌||◌, List, [], ◌∷◌, refl, sym, ◌∙◌, subst}
 use Rattle.std.specs.Prelude.{Contains}
 use Rattle.std.proofs.lemmas.Bool.{or_cases, or_left, or_right, and_parts, and_from, cases_Bool, true≢false, false_from_ne_true, not-true, not_from_false}
@@ -20,7 +20,7 @@ not_unique r n = not_from_false (region_eq r Unique) (false_from_ne_true (region
 pub unique_not : (r : Region) → not (region_eq r Unique) ≡ true → r ≢ Unique
 unique_not r h e = let k : region_eq r Unique ≡ true = subst (λ z. region_eq z Unique ≡ true) (sym e) refl in true≢false (sym k ∙ not-true (region_eq r Unique) h)
 
--- ---- the pairs alone
+-- ---- paths of pairs
 
 pub above-refl : (w : List (Region × Region)) (a : Region) → above w a a ≡ true
 above-refl [] a = region_eq-refl a
@@ -45,7 +45,7 @@ above-trans (p ∷ ps) a b d h k =
           ]
     ]
 
--- a pair that leads where the ones behind it lead already adds nothing
+-- a pair whose path already exists adds no path
 pub above-known : (p : Region × Region) (ps : List (Region × Region)) → above ps p.0 p.1 ≡ true → (a b : Region) → above (p ∷ ps) a b ≡ above ps a b
 above-known p ps h a b =
     elim (cases_Bool (above ps a b)) [
@@ -83,7 +83,7 @@ above-sound c (p ∷ ps) pairs a b h =
           through a p.0 b (rest a p.0 u.0) (through p.0 p.1 b (pairs p.0 p.1 (Contains-head p ps)) (rest p.1 b u.1))
     ]
 
--- what leads to a region that leads to one of these leads to one of these
+-- if a leads to b, and b leads to one of these regions, then a does
 pub above_one_of-up : (w : List (Region × Region)) (rs : List Region) (a b : Region) →
     above w a b ≡ true → above_one_of w rs b ≡ true → above_one_of w rs a ≡ true
 above_one_of-up w [] a b h k = k
@@ -96,7 +96,7 @@ above_one_of-up w (r ∷ rs) a b h k =
       | inr m ↦ or_right (not (region_eq r Unique) && above w a r) (above_one_of w rs a) (above_one_of-up w rs a b h m)
     ]
 
--- ---- the pairs and the open scopes
+-- ---- paths over pairs and open scopes
 
 module _ (w : List (Region × Region)) (live : List Region) where
   pub leads-refl : (opened : List Scope) (a : Region) → leads w live opened a a ≡ true
@@ -107,7 +107,7 @@ module _ (w : List (Region × Region)) (live : List Region) where
   leads-above [] a b h = h
   leads-above (s ∷ e) a b h = or_left (leads w live e a b) _ (leads-above e a b h)
 
-  -- the parts of a path over the newest scope
+  -- a path over the newest scope, split into its parts
   pub newest-parts : (s : Scope) (e : List Scope) (a b : Region) →
       (is_outlived_by_live s.kind && above_one_of w (live_regions live e) a && leads w live e s.region b) ≡ true →
       (is_outlived_by_live s.kind ≡ true) × (above_one_of w (live_regions live e) a ≡ true) × (leads w live e s.region b ≡ true)
@@ -124,7 +124,7 @@ module _ (w : List (Region × Region)) (live : List Region) where
       (and_from (is_outlived_by_live s.kind && above_one_of w (live_regions live e) a) (leads w live e s.region b)
       (and_from (is_outlived_by_live s.kind) (above_one_of w (live_regions live e) a) k u) r)
 
-  -- what leads somewhere does so by the pairs alone, or it leads to something live
+  -- a path uses only pairs, or it leads over a live region
   pub leads-cases : (opened : List Scope) (a b : Region) → leads w live opened a b ≡ true →
       (above w a b ≡ true) ⊎ (above_one_of w (live_regions live opened) a ≡ true)
   leads-cases [] a b h = inl h
@@ -185,7 +185,7 @@ module _ (w : List (Region × Region)) (live : List Region) where
         | inr q ↦ or_left (leads w live e a b) _ (leads-opening e a b q)
       ]
 
--- the region of an open scope is not the unique one
+-- the region of an open scope is not the unique region
 opening_not_unique : (live : List Region) (opened : List Scope) (a b : Region) → names_no_unique_scope opened ≡ true →
     IsLiveAtOpening live opened a b → b ≢ Unique
 opening_not_unique live [] a b n h = absurd h
@@ -212,7 +212,7 @@ module _ (c : RegionContext) (no_unique : names_no_unique c.written ≡ true) (n
             ]
       ]
 
-  -- how a test comes out true
+  -- the cases in which the test is true
   outliving-from : (a b : Region) → b ≢ Unique →
       ((leads c.written c.live c.opened a b ≡ true) ⊎ (leads c.written c.live c.opened a Heap ≡ true)) → is_outliving c a b ≡ true
   outliving-from a b n h =

@@ -1,4 +1,4 @@
--- The loops that go over what is written of a type.
+-- The loops over the parts of a written type.
 use Rattle.std.proofs.Common.{◌≡◌, ℕ, ◌+◌, ◌-◌, ◌<◌, List, [], ◌∷◌, length, map, drop, refl, sym, ap, ◌∙◌, arith}
 use Rattle.std.proofs.lemmas.List.{length-drop}
 use Rattle.cyc_syntax.specs.declared.tree.Pointer.{Pointer as PointerCode}
@@ -10,20 +10,20 @@ use Rattle.cyc_types.specs.typing.Scopes.{RegionName}
 use Rattle.cyc_types.specs.typing.Formation.{region_or, left_out_at, pointers_written}
 use Rattle.cyc_types.specs.inside.WrittenMarks.{left_out_by}
 
--- the marks from this one on make this type of what the marks before have made
+-- applying the marks from this index on to the first type gives the second type
 abbrev pub MarksLeft : List RegionName → Region → List PointerCode → (i : ℕ) → Ty → Ty → Type 0
 MarksLeft names outermost ms i t whole = pointers_written names outermost t (map view_pointer (drop i ms)) ≡ whole
 
--- what is left out, by how many marks stand behind
+-- the default region of an omitted region, by the number of marks after it
 left_out : (outermost : Region) (ms : List PointerCode) → left_out_at outermost (map view_pointer ms) ≡ left_out_by outermost (length ms)
 left_out outermost [] = refl
 left_out outermost (m ∷ ms) = refl
 
-pub marked : (names : List RegionName) (outermost : Region) (ms : List PointerCode) (i before behind : ℕ) (m : PointerCode) (t u whole : Ty) → i < length ms → drop i ms ≡ m ∷ drop (i + 1) ms → before + i ≡ length ms → behind ≡ before - 1
-    → u ≡ types.Pointer m.kind t (region_or names (left_out_by outermost behind) (view_pointer m).region) → MarksLeft names outermost ms i t whole → MarksLeft names outermost ms (i + 1) u whole
-marked names outermost ms i before behind m t u whole inside here counted next made left =
-    let rest : length (drop (i + 1) ms) ≡ behind = omega (arith, length-drop (i + 1) ms, counted, next, inside) in
-    let same : left_out_at outermost (map view_pointer (drop (i + 1) ms)) ≡ left_out_by outermost behind = left_out outermost (drop (i + 1) ms) ∙ ap (left_out_by outermost) rest in
+pub marked : (names : List RegionName) (outermost : Region) (ms : List PointerCode) (i before following : ℕ) (m : PointerCode) (t u whole : Ty) → i < length ms → drop i ms ≡ m ∷ drop (i + 1) ms → before + i ≡ length ms → following ≡ before - 1
+    → u ≡ types.Pointer m.kind t (region_or names (left_out_by outermost following) (view_pointer m).region) → MarksLeft names outermost ms i t whole → MarksLeft names outermost ms (i + 1) u whole
+marked names outermost ms i before following m t u whole inside here counted next made left =
+    let rest : length (drop (i + 1) ms) ≡ following = omega (arith, length-drop (i + 1) ms, counted, next, inside) in
+    let same : left_out_at outermost (map view_pointer (drop (i + 1) ms)) ≡ left_out_by outermost following = left_out outermost (drop (i + 1) ms) ∙ ap (left_out_by outermost) rest in
     ap (λ (v : Ty). pointers_written names outermost v (map view_pointer (drop (i + 1) ms))) made
     ∙ sym (ap (λ (s : Region). pointers_written names outermost (types.Pointer m.kind t (region_or names s (view_pointer m).region)) (map view_pointer (drop (i + 1) ms))) same)
     ∙ sym (ap (λ (ns : List PointerCode). pointers_written names outermost t (map view_pointer ns)) here)

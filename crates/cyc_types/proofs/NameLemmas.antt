@@ -1,4 +1,4 @@
--- The table of region names finds what a name stands for, as names come and go.
+-- The table of region names stays correct as names are declared and removed.
 use Rattle.std.specs.List.{list_any}
 use Rattle.std.proofs.Common.{◌≡◌, ℕ, ◌+◌, ◌<◌, Bool, false, cond, not, nat_eq, ◌&&◌, List, [], ◌∷◌, ◌++◌, length, map, reverse, take, get_or, Option, Some, refl, sym, ap, ◌∙◌}
 use Rattle.std.proofs.lemmas.List.{reverse-append, take_more}
@@ -9,10 +9,10 @@ use Rattle.cyc_words.proofs.Booleans.{not_and_itself}
 use Rattle.cyc_types.specs.declared.region.Region.{Region}
 use Rattle.cyc_types.specs.declared.names.Binding.{Binding}
 use Rattle.cyc_types.specs.typing.Scopes.{region_among}
-use Rattle.cyc_types.specs.typing.Heads.{region_numbers}
+use Rattle.cyc_types.specs.typing.DeclarationRules.{region_numbers}
 use Rattle.cyc_types.specs.inside.Names.{names_of, Finds}
 
--- a name that a binding has, has a place in the table
+-- a name of a binding has an entry in the table
 pub in_range : (table : List (Option Region)) (bs old : List Binding) (b : Binding) → Finds table old → old ≡ bs ++ b ∷ [] → b.name < length table
 in_range table bs old b f e = get_or_within table b.name b.region (f.0 b.name ∙ ap (λ ns. region_among ns b.name) front ∙ ap (λ t. cond t (Some b.region) (region_among (names_of bs) b.name)) (eq-eqb b.name b.name refl))
   where
@@ -21,7 +21,7 @@ in_range table bs old b f e = get_or_within table b.name b.region (f.0 b.name �
 
 -- ---- sets of names
 
--- a table without its names has none
+-- after its names are removed, the table marks no name
 pub none_left : (table : List Bool) (names : List ℕ) (left : List Bool) (x : ℕ) → get_or table x false ≡ list_any (nat_eq x) (reverse names)
     → get_or left x false ≡ (not (list_any (nat_eq x) names) && get_or table x false) → get_or left x false ≡ false
 none_left table names left x known is =

@@ -1,4 +1,4 @@
--- What is live and what leads where, found by where regions opened.
+-- Live regions and the outlives relation, decided by the opening positions of regions.
 use Rattle.std.proofs.Common.{◌≡◌, ◌⊎◌, inl, inr, ℕ, zero, suc, ◌+◌, ◌<◌, ◌≤◌, Bool, true, false, ◌&&◌, ◌||◌, not, List, [], ◌∷◌, ◌++◌, reverse, length, take, refl, ap, sym, ◌∙◌, subst, arith}
 use Rattle.std.specs.List.{list_any}
 use Rattle.std.proofs.lemmas.Bool.{or_cases, or_left, or_right, and_parts, and_from, false_from_ne_true, cases_lt, true_from_ne_false}
@@ -22,7 +22,7 @@ use Rattle.cyc_types.proofs.TableLemmas.{eq_true_at}
 abbrev default : Scope
 default = record { region = Heap; kind = Block }
 
--- one of the oldest scopes, by its place
+-- a test that holds of one of the oldest scopes holds at an index
 any-place : (p : Scope → Bool) (n : ℕ) (scopes : List Scope) → list_any p (take n scopes) ≡ true →
     (i : ℕ) × (i < n) × (i < length scopes) × (p (scope_at scopes i) ≡ true)
 any-place p zero scopes h = cc
@@ -39,9 +39,9 @@ any-at p n i scopes lt within e =
     list_any_at p (take n scopes) i default (let l : length (take n scopes) ≡ n = length-take-le n scopes within in omega (arith, lt, l))
     (ap p (get_or-take n scopes i default lt) ∙ e)
 
--- ---- what is live, and what leads to it
+-- ---- live regions, and the regions that lead to live regions
 
--- what leads to itself alone, and is not among these regions, leads to none of them
+-- a region that leads to no other region and is not among these regions leads to none of these
 not-above : (w : List (Region × Region)) (rs : List Region) (a : Region) → ((b : Region) → above w a b ≡ region_eq a b) →
     is_region_among a rs ≡ false → above_one_of w rs a ≡ true → ⊥
 not-above w rs a alone apart h =
@@ -49,7 +49,7 @@ not-above w rs a alone apart h =
     let e : a ≡ r.0 = region_eq-true a r.0 (sym (alone r.0) ∙ (and_parts (not (region_eq r.0 Unique)) (above w a r.0) r.2).1) in
     never_true_and_false (any-from (λ y. region_eq y a) rs r.0 r.1 (eq_true_at r.0 a (sym e))) apart
 
--- whether one of these leads somewhere, or it is among what it leads to: the one list or the other is gone through
+-- if regions have a path into a list, either list may be searched
 pub above-among : (w : List (Region × Region)) (rs below : List Region) (a : Region) →
     ((b : Region) → above w a b ≡ is_region_among b below) →
     above_one_of w rs a ≡ list_any (λ r. not (region_eq r Unique) && is_region_among r rs) below
@@ -73,7 +73,7 @@ above-among w rs below a e = same_tests (above_one_of w rs a) (list_any (λ r. n
     (subst (λ z. not (region_eq z Unique) ≡ true) (sym same) u.0)
     (e q.0 ∙ any-from (λ y. region_eq y q.0) below r.0 r.1 (eq_true_at r.0 q.0 (sym same)))))
 
--- what is among these, leads to one of these
+-- a region among these regions leads to a region among these
 pub above-itself : (w : List (Region × Region)) (rs : List Region) (a : Region) → not (region_eq a Unique) ≡ true →
     is_region_among a rs ≡ true → above_one_of w rs a ≡ true
 above-itself w rs a n h =
@@ -100,7 +100,7 @@ module _ (live : List Region) (scopes : List Scope) where
 
 module _ (w : List (Region × Region)) (live : List Region) (openings : List ℕ) (scopes : List Scope) (n : ℕ)
     (order : IsInOrder w live openings scopes n) where
-  -- what was not live from the start is not live, where its oldest scope is not among these
+  -- a region that was not live at the start is not live if its oldest scope is not among these scopes
   pub live-missed : (count : ℕ) (r : Region) → count ≤ n → is_region_among r live ≡ false →
       (opening_of openings r < count → region_eq (scope_at scopes (opening_of openings r)).region r ≡ false) →
       is_region_among r (live_before live scopes count) ≡ false
@@ -119,7 +119,7 @@ module _ (w : List (Region × Region)) (live : List Region) (openings : List ℕ
             ]
       ])
 
-  -- the oldest scope of a region tells whether it is live
+  -- the position of a region's oldest scope decides whether the region is live
   pub live-tested : (count : ℕ) (r : Region) → count ≤ n → is_region_among r live ≡ false → opening_of openings r < count →
       region_eq (scope_at scopes (opening_of openings r)).region r ≡ is_region_among r (live_before live scopes count)
   live-tested count r le never_live lt = same_tests (region_eq (scope_at scopes (opening_of openings r)).region r) (is_region_among r (live_before live scopes count))
@@ -127,7 +127,7 @@ module _ (w : List (Region × Region)) (live : List Region) (openings : List ℕ
       (λ h. true_from_ne_false (region_eq (scope_at scopes (opening_of openings r)).region r)
       (λ f. never_true_and_false h (live-missed count r le never_live (λ l. f))))
 
-  -- what leads somewhere does so by the pairs alone, or by one scope
+  -- a path uses only pairs, or it leads over exactly one scope
   by-one-scope : (k : ℕ) (a b : Region) → k ≤ n → leads w live (reverse (take k scopes)) a b ≡ true →
       (above w a b ≡ true) ⊎ ((i : ℕ) × (i < n) × (is_outlived_by_live (scope_at scopes i).kind ≡ true)
       × ((scope_at scopes i).region ≡ b) × (above_one_of w (live_before live scopes i) a ≡ true))
@@ -151,7 +151,7 @@ module _ (w : List (Region × Region)) (live : List Region) (openings : List ℕ
             ]
       ]
 
-  -- the oldest scope of a region that is new at a scope which what is live outlives is that scope
+  -- the oldest scope of a region that is new at a scope is that scope, if the live regions outlive it
   its-own : (i : ℕ) → i < n → is_outlived_by_live (scope_at scopes i).kind ≡ true → opening_of openings (scope_at scopes i).region ≡ i
   its-own i lt k =
       let o = order.each i lt in
@@ -164,10 +164,10 @@ module _ (w : List (Region × Region)) (live : List Region) (openings : List ℕ
         ]
       ]
 
--- ---- where all scopes are in order
+-- ---- paths if all scopes are in order
 module _ (w : List (Region × Region)) (live : List Region) (openings : List ℕ) (scopes : List Scope)
     (order : IsInOrder w live openings scopes (length scopes)) where
-  -- a path goes over the scope of the region at its end
+  -- a path leads over the scope of its end region, if the live regions outlive that region
   pub leads-there : (a b : Region) → opening_of openings b < length scopes →
       (scope_at scopes (opening_of openings b)).region ≡ b →
       is_outlived_by_live (scope_at scopes (opening_of openings b)).kind ≡ true →
@@ -177,7 +177,7 @@ module _ (w : List (Region × Region)) (live : List Region) (openings : List ℕ
       (subst (λ z. leads w live (reverse (take (opening_of openings b) scopes)) z b ≡ true) (sym e)
       (leads-refl w live (reverse (take (opening_of openings b) scopes)) b))
 
-  -- and no other path does
+  -- otherwise no path over a scope leads to the region
   pub leads-nowhere : (a b : Region) → above w a b ≡ false →
       (opening_of openings b < length scopes → (scope_at scopes (opening_of openings b)).region ≡ b →
       is_outlived_by_live (scope_at scopes (opening_of openings b)).kind ≡ true →
@@ -196,7 +196,7 @@ module _ (w : List (Region × Region)) (live : List Region) (openings : List ℕ
             (subst (λ z. is_outlived_by_live (scope_at scopes z).kind ≡ true) (sym at) p.2)))
       ])
 
-  -- so the scope there decides
+  -- the scope of the end region decides whether a path exists
   pub leads-by_place : (a b : Region) (place : ℕ) → place ≡ opening_of openings b → place < length scopes →
       (scope_at scopes place).region ≡ b → is_outlived_by_live (scope_at scopes place).kind ≡ true → above w a b ≡ false →
       above_one_of w (live_before live scopes place) a ≡ leads w live (reverse scopes) a b
@@ -216,10 +216,10 @@ module _ (w : List (Region × Region)) (live : List Region) (openings : List ℕ
       (subst (λ (p : ℕ). (scope_at scopes p).region ≡ b) (sym at) same)
       (subst (λ (p : ℕ). is_outlived_by_live (scope_at scopes p).kind ≡ true) (sym at) k)))
 
--- ---- scopes come and go
+-- ---- opening and closing of scopes
 
 module _ (w : List (Region × Region)) (live : List Region) where
-  -- what the older scopes are decides
+  -- being in order depends only on the older scopes
   orderly-same : (openings : List ℕ) (xs ys : List Scope) (i : ℕ) → ((j : ℕ) → j ≤ i → scope_at xs j ≡ scope_at ys j) → take i xs ≡ take i ys →
       IsOrderly w live openings xs i → IsOrderly w live openings ys i
   orderly-same openings xs ys i at older o =
@@ -240,7 +240,7 @@ module _ (w : List (Region × Region)) (live : List Region) where
             (subst (λ (s : Scope). is_region_among s.region (live_before live xs i) ≡ false) e (o.fresh (back k)));
       }
 
-  -- where one more opens
+  -- opening one more scope keeps the older scopes in order
   pub in_order-more : (openings : List ℕ) (scopes : List Scope) (s : Scope) (n : ℕ) → IsInOrder w live openings scopes n →
       IsInOrder w live openings (scopes ++ s ∷ []) n
   in_order-more openings scopes s n o = record {
@@ -251,7 +251,7 @@ module _ (w : List (Region × Region)) (live : List Region) where
         (o.each i lt);
   }
 
-  -- where the table says something new of a region that is not live
+  -- storing the position of a region that is not live keeps the scopes in order
   pub in_order-noted : (openings noted : List ℕ) (scopes : List Scope) (n : ℕ) (region : Region) → IsInOrder w live openings scopes n →
       is_region_among region (live_before live scopes (length scopes)) ≡ false →
       ((r : Region) → region_eq region r ≡ false → opening_of noted r ≡ opening_of openings r) →
@@ -273,7 +273,7 @@ module _ (w : List (Region × Region)) (live : List Region) where
   }
 
   module _ (openings : List ℕ) (scopes : List Scope) (s : Scope) (o : IsInOrder w live openings scopes (length scopes)) where
-    -- where the scope that opens is in order too
+    -- ---- opening a scope that is in order too
     in_order-next : ((is_region_among s.region live ≡ true)
         ⊎ ((opening_of openings s.region ≤ length scopes) × ((scope_at (scopes ++ s ∷ []) (opening_of openings s.region)).region ≡ s.region))) →
         (is_outlived_by_live s.kind ≡ true → (b : Region) → above w s.region b ≡ region_eq s.region b) →
@@ -303,7 +303,7 @@ module _ (w : List (Region × Region)) (live : List Region) where
               (subst (λ (z : Scope). is_outlived_by_live z.kind ≡ true → is_region_among z.region (live_before live scopes (length scopes)) ≡ false) it fresh);
         }
 
-    -- a region that is live already
+    -- the region of the new scope is already live
     pub in_order-known : is_outlived_by_live s.kind ≡ false → is_region_among s.region (live_before live scopes (length scopes)) ≡ true →
         IsInOrder w live openings (scopes ++ s ∷ []) (length scopes + 1)
     in_order-known not_outlived known = in_order-next
@@ -327,7 +327,7 @@ module _ (w : List (Region × Region)) (live : List Region) where
         (λ k. absurd (never_true_and_false k not_outlived))
         (λ k. absurd (never_true_and_false k not_outlived))
 
-    -- a region that is not
+    -- the region of the new scope is not yet live
     pub in_order-new : opening_of openings s.region ≡ length scopes →
         (is_outlived_by_live s.kind ≡ true → (b : Region) → above w s.region b ≡ region_eq s.region b) →
         is_region_among s.region (live_before live scopes (length scopes)) ≡ false →

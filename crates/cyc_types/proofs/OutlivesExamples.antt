@@ -1,11 +1,11 @@
--- The outlives relation at work.
+-- Examples of the outlives relation.
 use Rattle.std.specs.Prelude.{◌≡◌, true, false, [], ◌∷◌, refl}
 use Rattle.cyc_types.specs.declared.region.Region.TheVariants.{Heap, Unique, Variable}
 use Rattle.cyc_types.specs.declared.scope.Kind.TheVariants.{Lexical, Dynamic}
 use Rattle.cyc_types.specs.Outlives.{RegionContext}
 use Rattle.cyc_types.specs.Closure.{is_outliving}
 
--- a function with the constraint that its region 0 outlives its region 1: the dynamic region 2 is opened, and then the lexical region 3
+-- Example: a function whose region 0 outlives its region 1 opens the dynamic region 2, and then the lexical region 3.
 abbrev nested : RegionContext
 nested = record {
   written = (Variable 0, Variable 1) ∷ [];
@@ -13,14 +13,14 @@ nested = record {
   opened = record { region = Variable 3; kind = Lexical } ∷ record { region = Variable 2; kind = Dynamic } ∷ [];
 }
 
--- what outlives a live region outlives the lexical region
+-- a region that outlives a live region outlives the lexical region opened after it
 through_the_live_region : is_outliving nested (Variable 0) (Variable 3) ≡ true
 through_the_live_region = refl
 
 opened_region_is_live : is_outliving nested (Variable 2) (Variable 3) ≡ true
 opened_region_is_live = refl
 
--- no live region outlives the opened dynamic region, but the heap does
+-- no live region except the heap outlives the opened dynamic region
 live_not_above_opened : is_outliving nested (Variable 1) (Variable 2) ≡ false
 live_not_above_opened = refl
 

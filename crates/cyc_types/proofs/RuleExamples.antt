@@ -1,5 +1,5 @@
--- Worked examples over ints of the typing rules, of the flow rules and of weights, by computation. Each text stands above its verdict;
--- all on one line.
+-- Examples of the typing rules, of the flow rules and of weights, by computation, for programs over ints. Each verdict has its program text
+-- above it, all on one line.
 use Rattle.std.specs.Prelude.{◌≡◌, ℕ, ◌+◌, List, [], ◌∷◌, Some, None, Ok, Err, codes, refl}
 use Rattle.cyc_words.specs.declared.fault.Code.TheVariants as faults
 use Rattle.cyc_syntax.specs.declared.tree.BinaryOperator.TheVariants as operators
@@ -17,12 +17,12 @@ use Rattle.cyc_types.specs.typing.Programs.{check_of}
 use Rattle.cyc_types.specs.flow.Programs.{flow_of}
 use Rattle.cyc_types.specs.Weight.{program_weight}
 
--- ---- trees of texts of one line
+-- ---- trees of one-line texts
 
 abbrev at : ℕ → Place
 at n = record { line = 1; column = n }
 
--- the names, with their numbers
+-- the names of the examples, in the order of their numbers
 abbrev texts : List (List ℕ)
 texts = codes "main" ∷ codes "x" ∷ codes "a" ∷ codes "v" ∷ codes "putchar" ∷ codes "getchar" ∷ []
 
@@ -56,7 +56,7 @@ one e = MoreExpressions e NoExpressions
 abbrev only : Item → Items
 only i = MoreItems i NoItems
 
--- `int main(){` and these items, to the brace at this column
+-- the function `int main(){` with these items, up to the brace at this column
 abbrev main_of : Items → ℕ → Declaration
 main_of is q = Function (Some (int 1)) (main 5) (parameters []) (Braces (at 11) is (at q))
 
@@ -68,7 +68,7 @@ void_v = Function None (v 6) (parameters []) (Braces (at 9) NoItems (at 11))
 abbrev return_0 : ℕ → Item
 return_0 n = Execute (Return (at n) (Some (Number (at (n + 7)) 0)))
 
--- of typing, and then of flow
+-- the verdict of typing, and then of flow
 abbrev verdict : List Declaration → Checked (Unit {0})
 verdict tree = and_then (check_of texts tree) flow_of
 

@@ -1,4 +1,5 @@
--- The three readings of a rule agree: what it derives and what it refuses with is what a checker computes, and nothing else.
+-- The three readings of a rule agree. The values that it derives and the faults that it rejects with are exactly the results of the
+-- checker.
 use Rattle.std.proofs.Common.{◌≡◌, ℕ, ◌<◌, ◌≤◌, Bool, true, false, cond, nat_lt, ◌⊎◌, List, [], ◌∷◌, ◌++◌, Option, Some, None, Ok, Err, inl, inr, refl, sym, ap, subst, ◌∙◌, arith}
 use Rattle.std.proofs.lemmas.Bool.{ltb-false}
 use Rattle.cyc_words.specs.declared.fault.Fault.{Fault}
@@ -7,7 +8,7 @@ use Rattle.cyc_words.proofs.Decisions.{IsDecided}
 use Rattle.cyc_words.proofs.Numbers.{lt-nat_lt, le-nat_lt, nat_lt-true}
 use Rattle.cyc_types.specs.Rules.{Checked, and_then, Demand, fault_of, AllKept, AreAbove, AreNotBelow, IsFaultOf, lesser, noted, settled, Rule, Refused, Own, Part, Derives, Refuses, unless, run}
 
--- ---- answers
+-- ---- results of the checker
 
 pub then_on : {A B : Type 0} {r : Checked A} {a : A} {x : Checked B} (next : A → Checked B) → r ≡ Ok a → next a ≡ x → and_then r next ≡ x
 then_on {x = x} next h k = subst (λ s. and_then s next ≡ x) (sym h) k
@@ -24,7 +25,7 @@ from_err f g {A} e = ap (λ (r : Checked A). elim r [ Ok x ↦ f | Err h ↦ h ]
 pub ok_is_no_err : {A : Type 0} (a : A) (f : Fault) → ◌≡◌ {A = Checked A} (Ok a) (Err f) → ⊥
 ok_is_no_err a f e = absurd (cc)
 
--- what is answered holds
+-- a result is correct: a success holds, and a fault is one of the rule's
 pub data Judges {A : Type 0} (holds : A → Type 0) (fails : Fault → Type 0) : Checked A → Type 0 where
   good : {a : A} → holds a → Judges holds fails (Ok a)
   bad : {f : Fault} → fails f → Judges holds fails (Err f)
@@ -38,7 +39,7 @@ pub chained : {A B : Type 0} {P : A → Type 0} {R : B → Type 0} {Q S : Fault 
 chained next (good {a} h) lose gain = gain a h
 chained next (bad {f} h) lose gain = bad (lose f h)
 
--- ---- demands that are kept
+-- ---- satisfied demands
 
 pub kept_settled : (known : Option Fault) (ds : List Demand) → AllKept ds → settled known ds ≡ known
 kept_settled known [] h = refl
@@ -48,7 +49,7 @@ pub settled_append : (known : Option Fault) (ds es : List Demand) → settled kn
 settled_append known [] es = refl
 settled_append known (d ∷ ds) es = settled_append (noted known d) ds es
 
--- ---- the fault of demands is what they settle to
+-- ---- the fault of a list of demands is the result of folding over them
 
 abbrev IsHigher : ℕ → Option Fault → Type 0
 IsHigher n None = Unit {0}
@@ -97,32 +98,32 @@ fault_settled ds f (before, d, after, is, broken, above, rest, eq) =
     ∙ takes (settled None before) (fault_of d) (before_settled (number_of d.code) None before tt above))
     ∙ after_settled (fault_of d) after rest ∙ ap Some (sym eq)
 
--- ---- and what they settle to is their fault
+-- ---- the result of folding over demands is their fault
 
 pub data Settles (ds : List Demand) : Option Fault → Type 0 where
   none_broken : AllKept ds → Settles ds None
   broken : {f : Fault} → IsFaultOf ds f → Settles ds (Some f)
 
--- with this fault known before them
+-- the fold over demands that starts with this known fault
 data From (e : Fault) (ds : List Demand) : Option Fault → Type 0 where
   same : AreNotBelow (number_of e.code) ds → From e ds (Some e)
   lower : {f : Fault} → IsFaultOf ds f → number_of f.code < number_of e.code → From e ds (Some f)
 
-behind : (d : Demand) (ds : List Demand) (f : Fault) → IsFaultOf ds f → (d.kept ≡ true) ⊎ (number_of f.code < number_of d.code) → IsFaultOf (d ∷ ds) f
-behind d ds f (before, x, after, is, b, above, rest, eq) s =
+later_fault : (d : Demand) (ds : List Demand) (f : Fault) → IsFaultOf ds f → (d.kept ≡ true) ⊎ (number_of f.code < number_of d.code) → IsFaultOf (d ∷ ds) f
+later_fault d ds f (before, x, after, is, b, above, rest, eq) s =
     (d ∷ before, x, after, ap (λ l. d ∷ l) is, b, (subst (λ g. (d.kept ≡ true) ⊎ (number_of g.code < number_of d.code)) eq s, above), rest, eq)
 
 from_kept : (e : Fault) (d : Demand) (ds : List Demand) (o : Option Fault) → d.kept ≡ true → From e ds o → From e (d ∷ ds) o
 from_kept e d ds o k (same h) = same (inl k, h)
-from_kept e d ds o k (lower {f} h l) = lower (behind d ds f h (inl k)) l
+from_kept e d ds o k (lower {f} h l) = lower (later_fault d ds f h (inl k)) l
 
 from_taken : (e : Fault) (d : Demand) (ds : List Demand) (o : Option Fault) → d.kept ≡ false → number_of d.code < number_of e.code → From (fault_of d) ds o → From e (d ∷ ds) o
 from_taken e d ds o k l (same h) = lower ([], d, ds, refl, k, tt, h, refl) l
-from_taken e d ds o k l (lower {f} h m) = lower (behind d ds f h (inr m)) (omega arith)
+from_taken e d ds o k l (lower {f} h m) = lower (later_fault d ds f h (inr m)) (omega arith)
 
 from_passed : (e : Fault) (d : Demand) (ds : List Demand) (o : Option Fault) → number_of e.code ≤ number_of d.code → From e ds o → From e (d ∷ ds) o
 from_passed e d ds o l (same h) = same (inr l, h)
-from_passed e d ds o l (lower {f} h m) = lower (behind d ds f h (inr (omega arith))) m
+from_passed e d ds o l (lower {f} h m) = lower (later_fault d ds f h (inr (omega arith))) m
 
 from_next : (e : Fault) (d : Demand) (ds : List Demand) → ((g : Fault) → From g ds (settled (Some g) ds)) → From e (d ∷ ds) (settled (noted (Some e) d) ds)
 from_next e d ds rest = by_kept d.kept refl
@@ -141,11 +142,11 @@ from (d ∷ ds) e = from_next e d ds (λ g. from ds g)
 
 settles_kept : (d : Demand) (ds : List Demand) (o : Option Fault) → d.kept ≡ true → Settles ds o → Settles (d ∷ ds) o
 settles_kept d ds o k (none_broken h) = none_broken (k, h)
-settles_kept d ds o k (broken {f} h) = broken (behind d ds f h (inl k))
+settles_kept d ds o k (broken {f} h) = broken (later_fault d ds f h (inl k))
 
 settles_broken : (d : Demand) (ds : List Demand) (o : Option Fault) → d.kept ≡ false → From (fault_of d) ds o → Settles (d ∷ ds) o
 settles_broken d ds o k (same h) = broken ([], d, ds, refl, k, tt, h, refl)
-settles_broken d ds o k (lower {f} h l) = broken (behind d ds f h (inr l))
+settles_broken d ds o k (lower {f} h l) = broken (later_fault d ds f h (inr l))
 
 settles_next : (d : Demand) (ds : List Demand) → Settles ds (settled None ds) → Settles (d ∷ ds) (settled (noted None d) ds)
 settles_next d ds rest = by_kept d.kept refl
@@ -187,7 +188,7 @@ judged (Refused f) = bad refl
 judged (Own ds a) = own_judged ds a (settled None ds) (settles ds)
 judged (Part r next) = chained (λ c. run (next c)) (judged r) (λ f h. inl h) (λ b h. mapped (judged (next b)) (λ a k. (b, h, k)) (λ f k. inr (b, h, k)))
 
--- ---- a rule leaves no choice
+-- ---- a rule is deterministic
 
 pub answers_tree : {A : Type 0} (r : Rule A) (a : A) → run r ≡ Ok a → Derives r a
 answers_tree r a e = go (run r) (judged r) e

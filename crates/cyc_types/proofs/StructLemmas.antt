@@ -1,4 +1,4 @@
--- The table of structs finds the first of each name.
+-- The table of structs finds the first struct of each name.
 use Rattle.std.proofs.Common.{◌≡◌, ◌≢◌, ℕ, suc, ◌+◌, Bool, true, false, cond, nat_eq, List, [], ◌∷◌, ◌++◌, length, set, get_or, ◌<◌, Option, Some, None, refl, sym, ap, ◌∙◌, arith}
 use Rattle.std.proofs.lemmas.Bool.{eqb-true, eq-eqb}
 use Rattle.std.proofs.lemmas.List.{get_or-set_same, get_or-set_other}
@@ -52,7 +52,7 @@ parameters_from n (s ∷ ss) x k e = by_test (parameters_from (suc n) ss x k) (n
 pub parameters_found : (ss : List StructName) (x : ℕ) (k : Known) → known_from 0 ss x ≡ Some k → parameters_among ss x ≡ Some k.parameters
 parameters_found ss x k e = parameters_from 0 ss x k e
 
--- ---- a struct more, at the end
+-- ---- one more struct at the end
 
 more_from : (n : ℕ) (ss : List StructName) (s : StructName) (x : ℕ) (k : Known) → known_from n ss x ≡ Some k → known_from n (ss ++ s ∷ []) x ≡ Some k
 more_from n [] s x k e = cc

@@ -1,4 +1,4 @@
--- The table of constraints: what its loops keep, and that it is closed at their end.
+-- The table of constraints: invariants of its loops, and that it is closed at their end.
 use Rattle.std.proofs.Common.{◌≡◌, inl, inr, ℕ, zero, suc, ◌+◌, ◌<◌, true, false, ◌&&◌, ◌||◌, List, [], ◌∷◌, ◌++◌, length, get_or, set, take, refl, ap, sym, ◌∙◌, subst, arith, add-one}
 use Rattle.std.proofs.lemmas.Bool.{or_left, or_right, true≢false, false_from_ne_true, cases_Bool}
 use Rattle.std.proofs.lemmas.List.{take_more, map-append}
@@ -11,7 +11,7 @@ use Rattle.cyc_types.proofs.RegionLemmas.{region_eq-refl, region_eq-true}
 
 -- ---- the entry of a region
 
--- equal regions are interchangeable in a test
+-- equal regions can replace each other in a test
 pub eq_true_at : (a b : Region) → a ≡ b → region_eq a b ≡ true
 eq_true_at a b e = subst (λ z. region_eq a z ≡ true) e (region_eq-refl a)
 
@@ -24,7 +24,7 @@ table_leads-here c cs a b e = rw (eq_true_at c.longer a e)
 pub table_leads-there : (c : Constraint) (cs : List Constraint) (a b : Region) → (c.longer ≡ a → ⊥) → table_leads (c ∷ cs) a b ≡ table_leads cs a b
 table_leads-there c cs a b n = rw (eq_false_at c.longer a n)
 
--- ---- the table before anything is closed
+-- ---- the table before it is closed
 
 abbrev pub AreOpen : List Constraint → Type 0
 AreOpen [] = Unit {0}
@@ -48,7 +48,7 @@ open-leads (c ∷ cs) h a b =
 same_pair : (p q : Region × Region) → p.0 ≡ q.0 → p.1 ≡ q.1 → p ≡ q
 same_pair (a, b) (x, y) l m = cc
 
--- one entry more, open, for the next constraint
+-- one more entry, not yet closed, for the next constraint
 pub push_open : (cs : List Constraint) (w : List (Region × Region)) (i : ℕ) (d : Region × Region) (c : Constraint) (new : List Constraint) →
     i < length w → written_in cs ≡ take i w → AreOpen cs → new ≡ cs ++ c ∷ [] →
     c.longer ≡ (get_or w i d).0 → c.shorter ≡ (get_or w i d).1 → c.outlived ≡ [] →
@@ -60,7 +60,7 @@ push_open cs w i d c new h e o n l m t =
       rw n (AreOpen-push cs c o t),
     )
 
--- ---- one round: each entry that leads to `via` leads to all of `below`
+-- ---- one round: each entry that leads to `via` is extended by all of `below`
 
 pub record EntryStep (via : Region) (below : List Region) (old new : Constraint) : Type 0 where
   pub longer : new.longer ≡ old.longer
@@ -102,7 +102,7 @@ SteppedTo-written via below (suc n) (c ∷ cs) (k ∷ ks) s =
     let r = SteppedTo-written via below n cs ks s.1 in
     cc
 
--- a region that has no entry leads to itself alone
+-- a region without an entry leads to no other region
 no_entry : (cs : List Constraint) (a b : Region) → has_entry cs a ≡ false → table_leads cs a b ≡ region_eq a b
 no_entry [] a b h = refl
 no_entry (c ∷ cs) a b h = elim (cases_Bool (region_eq c.longer a)) [
@@ -110,7 +110,7 @@ no_entry (c ∷ cs) a b h = elim (cases_Bool (region_eq c.longer a)) [
   | inr n ↦ rw n (no_entry cs a b (let g : (region_eq c.longer a || has_entry cs a) ≡ false = h in rw n at g))
 ]
 
--- the same lists of regions begin the entries
+-- extending entries does not change which regions have entries
 has_entry-stepped : (via : Region) (below : List Region) (old new : List Constraint) (a : Region) →
     SteppedTo via below (length old) old new → has_entry new a ≡ has_entry old a
 has_entry-stepped via below [] new a s = ap (λ z. has_entry z a) s
@@ -120,7 +120,7 @@ has_entry-stepped via below (c ∷ cs) (k ∷ ks) a s =
     let r = has_entry-stepped via below cs ks a s.1 in
     rw (l, r)
 
--- where a region has an entry, that was extended
+-- the entry of a region, after it was extended
 stepped-entry : (via : Region) (below : List Region) (old new : List Constraint) (a b : Region) →
     SteppedTo via below (length old) old new → has_entry old a ≡ true →
     table_leads new a b ≡ (table_leads old a b || (table_leads old a via && is_region_among b below))

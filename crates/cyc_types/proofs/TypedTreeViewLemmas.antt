@@ -1,4 +1,4 @@
--- The view of a typed node with lists of nodes, by the lists that its `Vec`s hold.
+-- The view of a typed node that holds lists of nodes, computed from the contents of its `Vec`s.
 use Rattle.std.proofs.Common.{◌≡◌, ℕ, List, Option, None, Some, refl, sym, ap, ◌∙◌}
 use Rattle.std.specs.declared.vec.Vec.{Vec}
 use Rattle.std.specs.declared.boxed.Box.{Box}
@@ -64,7 +64,7 @@ typed_default_view : (d : Option Body) → view_default (back-Stmt-Try-3 d) ≡ 
 typed_default_view None = refl
 typed_default_view (Some b) = ap (Default b.region) (items_view b.items)
 
--- ---- of each node that has one
+-- ---- nodes that contain lists
 
 pub view_typed_call : (w : Span) (f : Callee) (v : Vec ConvertedCode Heap) (t : ValueTypeCode) → view_expression (expr.Call w f v t) ≡ Call f (arguments_of v.items) (view_value_type t)
 view_typed_call w f v t = ap (λ cs. Call f cs (view_value_type t)) (arguments_view v)

@@ -1,2 +1,2 @@
--- worked examples, by computation
+-- examples, by computation
 pub mod Examples

@@ -1,4 +1,4 @@
--- What the typing rules of the whole language derive is well typed.
+-- The typing rules of the whole language derive well-typed trees.
 pub mod ListLemmas
 pub mod TestLemmas
 pub mod ExpressionLemmas
@@ -12,5 +12,5 @@ pub mod WeightLemmas
 pub mod TreeConstants
 pub mod DemandLemmas
 pub mod TextLemmas
--- worked examples, by computation
+-- examples, by computation
 pub mod Examples

@@ -1,15 +1,16 @@
--- What a typed statement declares: its locals and its regions, in order of their numbers. (This project's own choice.)
+-- The declarations of a typed statement: its locals and its regions, in the order of their numbers. The order of declarations by numbers is
+-- this project's own choice.
 use Rattle.std.specs.Prelude.{ℕ, suc, ◌+◌, List, [], ◌∷◌, ◌++◌, Option, None, Some}
 use Rattle.cyc_types.specs.declared.region.Region.TheVariants as regions
 use Rattle.cyc_types.specs.Types.{Ty, Int, Handle, Key}
 use Rattle.cyc_types.specs.TypedTrees.{Statement, Block, If, While, Try, Items, NoItems, MoreItems, Execute, Declare, DeclareRegion, OpenRegion, DeclareAlias, DeclareKey, Clauses, NoClauses, Default, Case}
 
--- the local that gets an exception's int, where there is one
+-- the type of the local that receives an exception's int, if there is one
 abbrev pub caught_types : Option ℕ → List Ty
 caught_types None = []
 caught_types (Some n) = Int ∷ []
 
--- the types of its locals, in order
+-- the types of the locals that a statement declares, in order
 abbrev mutual
   pub declared_types : Statement → List Ty
   declared_types (Block r js) = item_types js
@@ -32,7 +33,7 @@ abbrev mutual
   clause_types (Default r js) = item_types js
   clause_types (Case e n r js cs) = caught_types n ++ (item_types js ++ clause_types cs)
 
--- and how many regions: an opened one is that of its key
+-- the number of regions that a statement declares; an opened region belongs to its key and is not counted
 abbrev mutual
   pub declared_regions : Statement → ℕ
   declared_regions (Block r js) = suc (item_regions js)

@@ -1,6 +1,6 @@
--- WHAT IS DEMANDED OF THE NODES OF TYPED TREES, and that all nodes of a tree meet it. A list of demands says what is asked of the nodes that any
--- list asks something of; of all others nothing is asked but what is asked of their parts. So each form of the language has its line here, once
--- for all lists. (This project's own choice.)
+-- DEMANDS ON THE NODES OF TYPED TREES, and that all nodes of a tree satisfy them. A record of demands states a condition for each kind of
+-- node that any record restricts. All other nodes satisfy the demands if their parts do. Each form of the language has one line here,
+-- shared by all records of demands. The form of demands on nodes is this project's own choice.
 use Rattle.std.specs.Prelude.{ℕ, List, [], ◌∷◌, Option, Some, None}
 use Rattle.cyc_types.specs.declared.typed.PointerOperator.{PointerOperator}
 use Rattle.cyc_types.specs.TypedTrees.{Expression, Number, Load, AddressOfCell, NumberOfElements, FreeUnique, FreeKey, Call, Unary, Binary, Assign, Store, New, Dereference, Target, Member, Element, Placement, OnHeap, AsUnique}
@@ -8,13 +8,13 @@ use Rattle.cyc_types.specs.TypedTrees.{ByHandle, Initial, Plain, Fields, Array, 
 use Rattle.cyc_types.specs.TypedTrees.{VariableSide, CellSide, Statement, Block, Evaluate, Swap, If, While, Return, Throw, Try, Items, NoItems, MoreItems, Execute, Declare, Clauses, NoClauses, Default, Case, Function}
 
 pub record Demands : Type 1 where
-  -- of a constant
+  -- the demand on a constant
   pub number : ℕ → Type 0
-  -- of the values of a new struct's fields
+  -- the demand on the values of a new struct's fields
   pub fields : Arguments → Type 0
-  -- of an operator on pointers, and of the operations behind it
+  -- the demand on a pointer operator and the operations after it
   pub pointer : PointerOperator → Operations → Type 0
-  -- of the number of an exception that is thrown or caught
+  -- the demand on the number of an exception that is thrown or caught
   pub exception : ℕ → Type 0
 
 module _ (d : Demands) where
@@ -41,7 +41,7 @@ module _ (d : Demands) where
     CellMeets (Member k a s f t) = Meets a
     CellMeets (Element a i t) = Meets a × Meets i
 
-    -- the handle of `rnew`
+    -- the handle of `rnew` satisfies the demands
     pub PlacementMeets : Placement → Type 0
     PlacementMeets OnHeap = Unit {0}
     PlacementMeets AsUnique = Unit {0}
@@ -70,12 +70,12 @@ module _ (d : Demands) where
   SideMeets (VariableSide l t) = Unit {0}
   SideMeets (CellSide x) = CellMeets x
 
-  -- a value that may be left out
+  -- an optional value satisfies the demands
   abbrev pub ValueMeets : Option Converted → Type 0
   ValueMeets None = Unit {0}
   ValueMeets (Some c) = ConvertedMeets c
 
-  -- what is thrown with an exception, if it has an int
+  -- the int of a thrown exception, if it has one, satisfies the demands
   abbrev pub ThrownMeets : Option Expression → Type 0
   ThrownMeets None = Unit {0}
   ThrownMeets (Some a) = Meets a
@@ -105,7 +105,7 @@ module _ (d : Demands) where
     ClausesMeet (Default r js) = ItemsMeet js
     ClausesMeet (Case tag x r js cs) = d.exception tag × ItemsMeet js × ClausesMeet cs
 
-  -- of the bodies of functions
+  -- the bodies of all functions satisfy the demands
   abbrev pub FunctionsMeet : List Function → Type 0
   FunctionsMeet [] = Unit {0}
   FunctionsMeet (h ∷ hs) = ItemsMeet h.body × FunctionsMeet hs

@@ -1,4 +1,4 @@
--- what the contracts of the checker, of the flow check and of later phases rest on
+-- definitions that the contracts of the checker, of the flow check and of later passes use
 pub mod Types
 pub mod TypeView
 pub mod TypedTrees
@@ -12,7 +12,8 @@ pub mod Demands
 pub mod Texts
 pub mod Weight
 pub mod Outlives
--- what the functions inside these crates promise each other: the rules as functions, and the table of constraints
+-- contracts inside these crates: the rules as functions, and the table of constraints
 pub mod Closure
--- What the functions of this crate promise each other and what its proofs say: no public contract of the product means it.
+-- Contracts between this crate's functions, and statements of its proofs. No public contract of the product depends on these internal
+-- definitions.
 pub mod inside

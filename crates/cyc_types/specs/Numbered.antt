@@ -1,4 +1,4 @@
--- What a typed tree may name, by number, as later phases ask it of each form. (This project's own choice.)
+-- The ranges of the numbers that a typed tree may contain, as later passes require them. The choice of ranges is this project's own choice.
 use Rattle.std.specs.Prelude.{◌≡◌, ℕ, suc, ◌+◌, ◌<◌, List, [], ◌∷◌, Option, Some, map, length, slice_get}
 use Rattle.cyc_types.specs.declared.typed.Callee.{Callee}
 use Rattle.cyc_types.specs.declared.typed.Callee.TheVariants as callees
@@ -10,16 +10,16 @@ use Rattle.cyc_types.specs.typing.WellTyped.{signature_of}
 abbrev pub signatures_of : List Function → List Signature
 signatures_of hs = map signature_of hs
 
--- what there is to name
+-- the numbers of declared entities that a tree may refer to
 pub record Numbering : Type 0 where
   pub globals : ℕ
   pub functions : List Signature
-  -- of the function
+  -- the number of locals of the function
   pub locals : ℕ
   pub regions : ℕ
   pub result : Option Ty
 
--- the signature of what is called
+-- the numbering gives the callee this signature
 abbrev pub IsSignature : Numbering → Callee → Signature → Type 0
 IsSignature b callees.Putchar s = s ≡ signature_of_ints (Int ∷ [])
 IsSignature b callees.Getchar s = s ≡ signature_of_ints []

@@ -1,6 +1,5 @@
--- The outlives relation between the regions of a function: where the first outlives the second, what points into the first may
--- stand where a pointer into the second is wanted. (The relation is that of Grossman et al. 2002; which pairs the scopes add is
--- this project's own choice.)
+-- The outlives relation between the regions of a function. If the first region outlives the second, a pointer into the first may be used as
+-- a pointer into the second. (The relation is that of Grossman et al. 2002; the pairs that scopes add are this project's own choice.)
 use Rattle.std.specs.Prelude.{◌≡◌, ◌≢◌, ◌⊎◌, Bool, true, false, not, ◌&&◌, List, [], ◌∷◌, ◌++◌, map, Contains}
 use Rattle.std.specs.List.{list_all}
 use Rattle.cyc_types.specs.declared.region.Region.{Region}
@@ -10,45 +9,45 @@ use Rattle.cyc_types.specs.declared.scope.Kind.TheVariants.{Block, Lexical, Dyna
 use Rattle.cyc_types.specs.declared.scope.Scope.{Scope}
 use Rattle.cyc_types.specs.Types.{region_eq}
 
--- What the relation stands on.
+-- The data from which the outlives relation is computed.
 pub record RegionContext : Type 0 where
-  -- the constraints of the function: the first region outlives the second
+  -- the constraints of the function, pairs of which the first region outlives the second
   pub written : List (Region × Region)
-  -- live before any scope was opened
+  -- the regions that are live before any scope is opened
   pub live : List Region
   -- the open scopes, newest first
   pub opened : List Scope
 
--- the live regions, where these scopes are open
+-- the live regions while these scopes are open
 abbrev pub live_regions : List Region → List Scope → List Region
 live_regions live opened = map (λ s. s.region) opened ++ live
 
--- whether what is live when a scope opens outlives its region: an opened dynamic region and an alias block's are older than
--- their scopes
+-- True if the regions live at the opening of a scope of this kind outlive its region. Opened dynamic regions and the regions of alias
+-- blocks are older than their scopes, so false for them.
 abbrev pub is_outlived_by_live : Kind → Bool
 is_outlived_by_live Block = true
 is_outlived_by_live Lexical = true
 is_outlived_by_live Dynamic = false
 is_outlived_by_live Alias = false
 
--- b is the region of an open block or lexical scope, and a was live when that opened
+-- b is the region of an open block or lexical scope, and a was live when that scope opened
 abbrev pub IsLiveAtOpening : List Region → List Scope → Region → Region → Type 0
 IsLiveAtOpening live [] a b = ⊥
 IsLiveAtOpening live (s ∷ earlier) a b =
     ((is_outlived_by_live s.kind ≡ true) × (b ≡ s.region) × (a ≢ Unique) × Contains (live_regions live earlier) a)
     ⊎ IsLiveAtOpening live earlier a b
 
--- the pairs from which the relation is made
+-- the pairs that generate the relation
 abbrev pub IsGiven : RegionContext → Region → Region → Type 0
 IsGiven c a b =
     ((a ≡ Heap) × (b ≢ Unique)) ⊎ (Contains c.written (a, b) ⊎ IsLiveAtOpening c.live c.opened a b)
 
--- THE OUTLIVES RELATION: the least reflexive and transitive relation with these pairs
+-- THE OUTLIVES RELATION: the least reflexive and transitive relation that contains these pairs
 pub data OutlivesIn (c : RegionContext) : Region → Region → Type 0 where
   itself : (a : Region) → OutlivesIn c a a
   given : (a b : Region) → IsGiven c a b → OutlivesIn c a b
   through : (a b d : Region) → OutlivesIn c a b → OutlivesIn c b d → OutlivesIn c a d
 
--- whether no constraint names the region of unique pointers
+-- true if no constraint mentions the unique region
 abbrev pub names_no_unique : List (Region × Region) → Bool
 names_no_unique written = list_all (λ p. not (region_eq p.0 Unique) && not (region_eq p.1 Unique)) written

@@ -1,7 +1,7 @@
--- A RULE AS A VALUE. A rule says three things at once: what is derived by it, which fault it refuses with, and what a checker
--- computes. They are three readings of the one value, and agree for every rule (`proofs/RuleLaws`).
--- A construct has demands of its own, and parts. Its parts are walked first, in order; then, of all its demands that are broken,
--- the one of the lowest code is the fault, and at one code the first. (The order is this project's own choice.)
+-- A RULE AS A VALUE. A rule has three readings: what it derives, with which fault it rejects, and what a checker computes. The three agree
+-- for every rule (`proofs/RuleLaws`). A construct has demands of its own, and parts. The parts of a construct are checked first, in order.
+-- Among the broken demands of a construct, the one with the lowest code is reported, and the first if several have that code. (The order of
+-- evaluation is this project's own choice.)
 use Rattle.std.specs.Prelude.{◌≡◌, ◌⊎◌, ℕ, ◌<◌, ◌≤◌, Bool, true, false, nat_lt, if◌then◌else◌, List, [], ◌∷◌, ◌++◌, Option, Some, None, Result, Ok, Err}
 use Rattle.cyc_words.specs.declared.fault.Code.{Code}
 use Rattle.cyc_words.specs.declared.fault.Fault.{Fault}
@@ -20,7 +20,7 @@ fault_at c p = record { code = c; line = p.line; column = p.column }
 
 -- ---- demands
 
--- what a construct asks, and whether it is so
+-- a demand of a construct: its code, its place, and whether it is satisfied
 pub record Demand : Type 0 where
   pub code : Code
   pub place : Place
@@ -36,17 +36,17 @@ abbrev pub AllKept : List Demand → Type 0
 AllKept [] = Unit {0}
 AllKept (d ∷ ds) = (d.kept ≡ true) × AllKept ds
 
--- each is kept or has a higher code than this
+-- each demand is satisfied or has a higher code than this
 abbrev pub AreAbove : ℕ → List Demand → Type 0
 AreAbove n [] = Unit {0}
 AreAbove n (d ∷ ds) = ((d.kept ≡ true) ⊎ (n < number_of d.code)) × AreAbove n ds
 
--- each is kept or has no lower code than this
+-- each demand is satisfied or has at least this code
 abbrev pub AreNotBelow : ℕ → List Demand → Type 0
 AreNotBelow n [] = Unit {0}
 AreNotBelow n (d ∷ ds) = ((d.kept ≡ true) ⊎ (n ≤ number_of d.code)) × AreNotBelow n ds
 
--- of the broken demands the one of the lowest code, and at one code the first, is this fault
+-- the fault is that of the broken demand with the lowest code, and of the first one if several have it
 abbrev pub IsFaultOf : List Demand → Fault → Type 0
 IsFaultOf ds f =
     (before : List Demand) × (d : Demand) × (after : List Demand) × (ds ≡ before ++ (d ∷ after)) × (d.kept ≡ false)
@@ -57,7 +57,7 @@ abbrev pub lesser : Option Fault → Fault → Option Fault
 lesser None f = Some f
 lesser (Some e) f = if nat_lt (number_of f.code) (number_of e.code) then Some f else Some e
 
--- the fault behind a demand, where this one is known before it
+-- the fault after one more demand, given the fault known before it
 abbrev pub noted : Option Fault → Demand → Option Fault
 noted known d = if d.kept then known else lesser known (fault_of d)
 
@@ -68,28 +68,28 @@ settled known (d ∷ ds) = settled (noted known d) ds
 -- ---- rules
 
 pub data Rule : Type 0 → Type 1 where
-  -- nothing is derived, and the fault is this
+  -- nothing is derived, and this fault is reported
   Refused : {A : Type 0} → Fault → Rule A
-  -- where all demands are kept, this is derived
+  -- this value is derived if all demands are satisfied
   Own : {A : Type 0} → List Demand → A → Rule A
-  -- a part, and then what its tree leads to
+  -- a part, followed by a rule that depends on the part's result
   Part : {A B : Type 0} → Rule B → (B → Rule A) → Rule A
 
--- this is derived, and nothing is demanded
+-- the rule that derives this value without any demand
 abbrev pub gives : {A : Type 0} → A → Rule A
 gives a = Own [] a
 
--- demands of which nothing is made
+-- the rule that only checks demands, and derives no information
 abbrev pub demands : List Demand → Rule (Unit {0})
 demands ds = Own ds tt
 
--- by the rule this is derived
+-- the typing rule derives this value
 abbrev pub Derives : {A : Type 0} → Rule A → A → Type 0
 Derives (Refused f) a = ⊥
 Derives (Own ds b) a = AllKept ds × (a ≡ b)
 Derives (Part {B = B} r next) a = (b : B) × Derives r b × Derives (next b) a
 
--- the rule refuses with this fault
+-- the rule rejects with this fault
 abbrev pub Refuses : {A : Type 0} → Rule A → Fault → Type 0
 Refuses (Refused g) f = f ≡ g
 Refuses (Own ds b) f = IsFaultOf ds f
@@ -99,7 +99,7 @@ abbrev pub unless : {A : Type 0} → Option Fault → A → Checked A
 unless None a = Ok a
 unless (Some f) a = Err f
 
--- what a checker computes
+-- the result that a checker computes for the rule
 abbrev pub run : {A : Type 0} → Rule A → Checked A
 run (Refused f) = Err f
 run (Own ds a) = unless (settled None ds) a

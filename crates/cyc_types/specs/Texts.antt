@@ -1,6 +1,6 @@
--- WHAT TYPED PROGRAMS OF TEXTS HAVE beyond what the typing rules ask of a typed tree. A struct has few fields, since the lists of a text
--- are short. The number of an exception is a word, since a text has few tokens. And arithmetic on pointers stands in chains of its own,
--- since `+` and `-` bind more closely than what compares. (This project's own choice.)
+-- PROPERTIES OF THE TYPED PROGRAMS OF TEXTS beyond those that the typing rules demand. A struct has few fields, since the lists of a text
+-- are short. The number of an exception is a word, since a text has few tokens. Pointer arithmetic forms chains of its own, since `+` and
+-- `-` bind more closely than comparisons. The choice of these properties of programs is this project's own choice.
 use Rattle.std.specs.Prelude.{◌≡◌, ◌≤◌, Bool, true, false, not, ◌&&◌}
 use Rattle.cyc_words.specs.Word.{IsWord}
 use Rattle.cyc_syntax.specs.Grammar.{max_items}
@@ -10,22 +10,22 @@ use Rattle.cyc_types.specs.TypedTrees.{Operations, NoOperations, ThenPointer, Th
 use Rattle.cyc_types.specs.Numbered.{argument_count}
 use Rattle.cyc_types.specs.Demands.{Demands, FunctionsMeet}
 
--- ---- chains
+-- ---- chains of operators
 
--- pointers are compared, with one another or with `NULL`
+-- true if the operator compares a pointer with another pointer or with `NULL`
 abbrev pub is_comparison : PointerOperator → Bool
 is_comparison pointers.AddFat = false
 is_comparison pointers.SubtractFat = false
 is_comparison o = true
 
--- arithmetic on pointers alone
+-- true if all operations are pointer arithmetic
 abbrev pub are_sums : Operations → Bool
 are_sums NoOperations = true
 are_sums (ThenPointer o a os) = not (is_comparison o) && are_sums os
 are_sums (ThenPointerPeek n o a os) = not (is_comparison o) && are_sums os
 are_sums os = false
 
--- behind arithmetic on a pointer nothing else comes
+-- true if pointer arithmetic is followed only by pointer arithmetic
 abbrev pub stands_alone : PointerOperator → Operations → Bool
 stands_alone pointers.AddFat os = are_sums os
 stands_alone pointers.SubtractFat os = are_sums os
@@ -33,7 +33,7 @@ stands_alone o os = true
 
 -- ---- programs
 
--- a struct has from 1 to 64 fields
+-- the demands that typed programs of texts satisfy: for instance, a struct has from 1 to 64 fields
 abbrev pub text_demands : Demands
 text_demands = record {
   number = λ n. Unit {0};

@@ -1,4 +1,4 @@
--- The view of the code's types: the same type, without where it lies in memory. This project's own choice.
+-- The view of the code's types: each type without its layout in memory. The view of types is this project's own choice.
 use Rattle.cyc_types.specs.declared.ty.Ty.{Ty as TyCode}
 use Rattle.cyc_types.specs.declared.ty.Ty.TheVariants as ty
 use Rattle.cyc_types.specs.declared.typed.ValueType.{ValueType as ValueTypeCode}

@@ -1,4 +1,4 @@
--- The view of the code's typed trees: the same tree, without where it lies in memory. This project's own choice.
+-- The view of the code's typed trees: each tree without its layout in memory. The view of typed trees is this project's own choice.
 use Rattle.std.specs.Prelude.{List, [], ◌∷◌, map, Option, None, Some, option_map}
 use Rattle.cyc_syntax.specs.Symbols.{place_of_span}
 use Rattle.cyc_types.specs.TypeView.{view_ty, view_value_type}
@@ -91,7 +91,7 @@ abbrev mutual
 abbrev pub view_converted : ConvertedCode → Converted
 view_converted c = Convert c.from c.to (view_expression c.value)
 
--- the same over lists, as a `Vec` has them
+-- the views of lists of nodes, given the contents of a `Vec`
 
 abbrev pub arguments_of : List ConvertedCode → Arguments
 arguments_of [] = NoArguments

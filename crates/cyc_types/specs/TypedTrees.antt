@@ -1,9 +1,9 @@
--- Typed trees as the rules and all later definitions speak of them: values with no memory behind them. Names are resolved to
--- numbers, each conversion stands where it happens, and brackets are gone. A place in the text is kept where a later phase may
--- refuse there.
+-- Typed trees as mathematical values, for the rules and all later definitions. Names are resolved to numbers, each conversion is an
+-- explicit node, and parentheses are removed. A node stores its place in the text if a later pass may report a fault at it.
 --
--- Nobody needs an environment of names or the type of an operand to say what a tree does: what a variable's value is used for, and
--- what an operator works on, are told apart by the nodes. (The form of typed trees is this project's own choice.)
+-- The meaning of a tree depends neither on an environment of names nor on the types of operands. The typed trees have distinct nodes for
+-- the uses of the value of a variable, and for the kinds of the operands of an operator. (The form of typed trees is this project's own
+-- choice.)
 use Rattle.std.specs.Prelude.{ℕ, Bool, List, Option, None, Some}
 use Rattle.cyc_syntax.specs.Symbols.{Place}
 use Rattle.cyc_types.specs.declared.region.Region.{Region}
@@ -20,9 +20,9 @@ use Rattle.cyc_types.specs.Types as types
 
 -- ---- expressions
 
--- a variable
+-- a variable: a local or a global
 pub data Lvalue : Type 0 where
-  -- with the place of the name
+  -- a local, with the place of its name
   Local : Place → (number : ℕ) → Lvalue
   Global : (number : ℕ) → Lvalue
 
@@ -30,69 +30,69 @@ mutual
   pub data Expression : Type 0 where
     -- a number or a character constant
     Number : ℕ → Expression
-    -- `NULL`
+    -- the constant `NULL`
     NullPointer : Expression
-    -- `heap_region`
+    -- the constant `heap_region`
     HeapRegion : Expression
-    -- the variable of a `for`, by how many are around that one: it is no place
+    -- the variable of a `for`, numbered by how many `for`s enclose its own; it is not assignable
     Counter : (level : ℕ) → Expression
-    -- the value of a variable, which stays there
+    -- reads a variable, which keeps its value
     Copy : Lvalue → Ty → Expression
-    -- the value of a local that is a unique pointer or a key, which leaves the local empty
+    -- reads a local that is a unique pointer or a key, which leaves the local empty
     Move : Place → (number : ℕ) → Ty → Expression
-    -- the value of a local that is a unique pointer, only to look through it or to compare it: it stays there
+    -- reads a unique pointer in a local only to dereference or compare it; the local keeps its value
     Peek : Place → (number : ℕ) → Ty → Expression
-    -- the value in a cell that a pointer leads to
+    -- reads the cell that a pointer leads to
     Load : Dereference → Expression
-    -- the address of a variable, and that of a cell that a pointer leads to: with the type of the pointer
+    -- the address of a variable, or of a cell that a pointer leads to, with the type of the resulting pointer
     AddressOf : Lvalue → Ty → Expression
     AddressOfCell : Dereference → Ty → Expression
-    -- `numelts`
+    -- the operator `numelts`
     NumberOfElements : Expression → Expression
-    -- `ufree`
+    -- the call `ufree`
     FreeUnique : Expression → Expression
-    -- `free_ukey`
+    -- the call `free_ukey`
     FreeKey : Expression → Expression
-    -- with the type of its result, if it has one
+    -- a call, with the type of its result if it has one
     Call : Callee → Arguments → ValueType → Expression
     Unary : UnaryOperator → Expression → Expression
-    -- operands joined by operators that group to the left, and the type of the whole, which each of its results has
+    -- operands joined by operators that associate to the left, with the type of each intermediate result
     Binary : Expression → Operations → Ty → Expression
-    -- Of a variable, and of a cell that a pointer leads to. With the type of its value, if it has one: that of a unique pointer or of
-    -- a key has none, though what was stored is handed on.
+    -- An assignment to a variable or to a cell, with the type of its value. An assignment of a unique pointer or a key has no value,
+    -- although the stored value is converted.
     Assign : Lvalue → Converted → ValueType → Expression
     Store : Dereference → Converted → ValueType → Expression
-    -- `new` and `rnew`: a new object, and the type of the pointer to it
+    -- `new` and `rnew`: a new object, with the type of the pointer to it
     New : Placement → Initial → Ty → Expression
 
-  -- A place that a pointer leads to, each with the type of what is there.
+  -- A place that a pointer leads to, with the type of its content.
   pub data Dereference : Type 0 where
-    -- `*e`, of a pointer of this kind
+    -- `*e`, for a pointer of this kind
     Target : (pointer : Kind) → Expression → Ty → Dereference
-    -- `e->f`, by the number of the struct and that of the field in it
+    -- `e->f`, with the number of the struct and the number of its field
     Member : (pointer : Kind) → Expression → (struct field : ℕ) → Ty → Dereference
-    -- `e[i]`
+    -- the element `e[i]`
     Element : Expression → (index : Expression) → Ty → Dereference
 
-  -- where a new object is made
+  -- the region in which a new object is allocated
   pub data Placement : Type 0 where
-    -- `new`
+    -- the heap, by `new`
     OnHeap : Placement
-    -- `rnew(unique_region)`
+    -- the unique region, by `rnew(unique_region)`
     AsUnique : Placement
-    -- `rnew(e)`, by the handle of a region
+    -- the region of a handle, by `rnew(e)`
     ByHandle : Expression → Placement
 
-  -- what a new object holds
+  -- the initial contents of a new object
   pub data Initial : Type 0 where
-    -- a value of this kind
+    -- a single value of this kind
     Plain : Kind → Expression → Initial
-    -- a struct's fields, in order
+    -- the fields of a struct, in order
     Fields : Arguments → Initial
-    -- `{for i < length : element}`, where the variable is the counter of this level, with elements of this kind, and with the place of `for`
+    -- `{for i < length : element}`: the variable is the counter of this level, the elements have this kind, and `for` is at this place
     Array : Place → (level : ℕ) → (length : Expression) → Kind → (element : Expression) → Initial
 
-  -- an expression whose value is converted once it is evaluated
+  -- an expression whose value is converted after its evaluation
   pub data Converted : Type 0 where
     Convert : (from : Kind) → (to : Kind) → Expression → Converted
 
@@ -100,16 +100,16 @@ mutual
     NoArguments : Arguments
     MoreArguments : Converted → Arguments → Arguments
 
-  -- each operator with its right operand
+  -- each operator of a chain, with its right operand
   pub data Operations : Type 0 where
     NoOperations : Operations
-    -- it computes with two ints
+    -- an operator that computes with two ints
     ThenCompute : Operator → Expression → Operations → Operations
-    -- `&&` or `||`, where the value so far may decide
+    -- `&&` or `||`, which may be decided by the value so far
     ThenTest : LogicalOperator → Expression → Operations → Operations
-    -- the left operand is a pointer, or `NULL`
+    -- an operator whose left operand is a pointer or `NULL`
     ThenPointer : PointerOperator → Expression → Operations → Operations
-    -- the left operand is a peek of this local, which must stay as it is while the right one is evaluated
+    -- an operator whose left operand is a peek of this local, which must not change while the right operand is evaluated
     ThenPointerPeek : (number : ℕ) → PointerOperator → Expression → Operations → Operations
 
 abbrev pub type_of_place : Dereference → Ty
@@ -117,7 +117,7 @@ type_of_place (Target k a t) = t
 type_of_place (Member k a s f t) = t
 type_of_place (Element a i t) = t
 
--- what an operator of one operand gives
+-- the type of the result of a unary operator
 abbrev pub unary_type : UnaryOperator → Ty
 unary_type unary.LowByte = Char
 unary_type o = Int
@@ -143,7 +143,7 @@ type_of (Assign l c t) = t
 type_of (Store d c t) = t
 type_of (New w i t) = Value t
 
--- the local that a place is reached through by a peek
+-- the local whose peek the place is reached through, if any
 abbrev pub peeked : Dereference → Option ℕ
 peeked (Target k (Peek p n u) t) = Some n
 peeked (Member k (Peek p n u) s f t) = Some n
@@ -159,19 +159,19 @@ pub data Side : Type 0 where
 
 mutual
   pub data Statement : Type 0 where
-    -- a block, labelled or not, with the number of its region in its function
+    -- a block, with or without a label, with the number of its region in its function
     Block : (region : ℕ) → Items → Statement
     Empty : Statement
     Evaluate : Expression → Statement
     Swap : (left right : Side) → Statement
-    -- where no `else` is written, the second statement is empty
+    -- if no `else` is written, the second statement is empty
     If : Expression → Statement → Statement → Statement
-    -- with the place of `while`
+    -- a loop, with the place of `while`
     While : Place → Expression → Statement → Statement
     Return : Option Converted → Statement
     Break : Statement
     Continue : Statement
-    -- an exception by its number, with its int if it has one
+    -- throws the exception of this number, with its int if it has one
     Throw : (tag : ℕ) → Option Expression → Statement
     Try : Statement → Clauses → Statement
 
@@ -181,22 +181,22 @@ mutual
 
   pub data Item : Type 0 where
     Execute : Statement → Item
-    -- the declaration of the local of this number
+    -- declares the local of this number
     Declare : (number : ℕ) → Ty → Option Converted → Item
-    -- A lexical region, or with a key the region that this local is the key of, to the end of the block; the local `number` is its
-    -- handle.
+    -- A lexical region; or, with a key, the region of the key that this local holds. The region is live to the end of the block; the local
+    -- `number` is its handle.
     DeclareRegion : (region number : ℕ) → Item
     OpenRegion : (region number : ℕ) → Place → (key : ℕ) → Item
-    -- a local that shares the unique object of another to the end of the block
+    -- declares a local that shares the unique object of another local to the end of the block
     DeclareAlias : (region number : ℕ) → Ty → Place → (source : ℕ) → Item
-    -- a dynamic region, and the local that is its key
+    -- declares a dynamic region, and the local that is its key
     DeclareKey : (region number : ℕ) → Item
 
-  -- The clauses of a catch, each with the region of its items. A default is the last of them.
+  -- The clauses of a catch, each with the region of its items. A default clause is the last.
   pub data Clauses : Type 0 where
     NoClauses : Clauses
     Default : (region : ℕ) → Items → Clauses
-    -- an exception by its number, and the local that gets its int, if one does
+    -- a clause for the exception of this number, with the local that receives its int, if any
     Case : (tag : ℕ) → (number : Option ℕ) → (region : ℕ) → Items → Clauses → Clauses
 
 -- ---- programs
@@ -212,57 +212,59 @@ pub record GlobalVariable : Type 0 where
   pub value : Constant
 
 pub record StructType : Type 0 where
-  -- the number of its region parameters
+  -- the number of region parameters
   pub parameters : ℕ
-  -- their types, in order; a region parameter is the region variable of its number
+  -- the types of the fields, in order; a region parameter is the region variable of its number
   pub fields : List Ty
 
--- what a caller knows of a function
+-- the signature of a function, as its callers know it
 pub record Signature : Type 0 where
-  -- How many regions its parameters name or leave out: in its types they are the region variables from 1 on.
+  -- The number of regions that the parameters name or omit. In the types, the regions that the parameters name or omit are the region
+  -- variables from 1 on.
   pub variables : ℕ
   pub parameters : List Ty
-  -- a `void` function has none
+  -- the result type; a `void` function has none
   pub result : Option Ty
-  -- the regions that must be live where it is called, and pairs of which the first outlives the second
+  -- the regions that must be live at a call, and pairs of which the first outlives the second
   pub effect : List Region
   pub constraints : List (Region × Region)
 
--- The locals of a function are numbered from 0: first its parameters, then what its body declares, in order. So are its regions:
--- first its own, in which its parameters and the body's own variables live, then those that its parameters name, then those that its
--- body declares, in order: blocks and clauses, lexical regions, those of aliases and dynamic ones. Opening a dynamic region declares none.
+-- The locals of a function are numbered from 0: first its parameters, then the declarations of its body, in order. A function's regions are
+-- numbered as its locals are. The first is the function's own region, which contains its parameters and the outermost variables of the
+-- body. The second group of regions are those that the parameters name. The last group are the regions that the body declares, in order:
+-- blocks and clauses, lexical regions, alias regions and dynamic regions. Opening a dynamic region declares none.
 pub record Function : Type 0 where
   pub name : ℕ
-  -- of its name
+  -- the place of the function's name
   pub place : Place
   pub parameters : List Ty
-  -- a `void` function has none
+  -- the result type; a `void` function has none
   pub result : Option Ty
-  -- how many regions its parameters name
+  -- the number of regions that the parameters name
   pub variables : ℕ
-  -- the regions that must be live where it is called, and pairs of which the first outlives the second
+  -- the regions that must be live at a call, and pairs of which the first outlives the second
   pub effect : List Region
   pub constraints : List (Region × Region)
-  -- the types of what the body declares
+  -- the types of the locals that the body declares
   pub locals : List Ty
-  -- the number of its own region
+  -- the number of the function's own region
   pub region : ℕ
-  -- the number of its regions
+  -- the number of regions of the function
   pub regions : ℕ
   pub body : Items
-  -- the place of its last brace
+  -- the place of the function's last brace
   pub end : Place
 
--- the number of the first exception that a program declares; those before it are the language's own
+-- the number of the first exception that a program declares; the lower numbers are built-in exceptions
 abbrev pub first_exception : ℕ
 first_exception = 5
 
--- structs, globals and functions have the numbers of their places in these lists
+-- a program; structs, globals and functions are numbered by their positions in these lists
 pub record Program : Type 0 where
   pub structs : List StructType
-  -- of each that is declared, whether it has an int; the first has the number `first_exception`
+  -- for each declared exception, whether it has an int; the first has the number `first_exception`
   pub exceptions : List Bool
   pub globals : List GlobalVariable
   pub functions : List Function
-  -- the number of `main`
+  -- the number of the function `main`
   pub main : ℕ

@@ -1,6 +1,5 @@
--- Types as all definitions speak of them: values with no memory behind them. (Types, marks of pointers, handles and
--- keys are Cyclone's, Grossman et al. 2002 and the User's Manual, 1.0; which of them there are is this project's own
--- choice.)
+-- Types as mathematical values, for all definitions. (Types, pointer marks, handles and keys are Cyclone's, Grossman et al. 2002 and the
+-- User's Manual, 1.0; the selection is this project's own choice.)
 use Rattle.std.specs.Prelude.{ℕ, List, map, Option, None, Some, ◌==◌, Bool, true, false, slice_index_or}
 use Rattle.cyc_syntax.specs.declared.tree.PointerKind.{PointerKind}
 use Rattle.cyc_syntax.specs.declared.tree.PointerKind.TheVariants.{Nullable, NonNull, Fat}
@@ -8,9 +7,9 @@ use Rattle.cyc_types.specs.declared.region.Region.{Region}
 use Rattle.std.specs.List.{list_any}
 use Rattle.cyc_types.specs.declared.region.Region.TheVariants.{Heap, Unique, Variable}
 
--- ---- regions: their equality as a test, and the substitution of region variables
+-- ---- regions: a test for equality, and the substitution of region variables
 
--- a variable becomes the region at its number, if there is one
+-- the substitution of a region: a variable becomes the region at its number, if there is one
 abbrev pub substituted_region : List Region → Region → Region
 substituted_region regions Heap = Heap
 substituted_region regions Unique = Unique
@@ -34,25 +33,25 @@ pub data Ty : Type 0 where
   Int : Ty
   -- a byte, 0 to 255
   Char : Ty
-  -- the mark, the target, and the region of the target
+  -- a pointer: its mark, its target type, and the region of the target
   Pointer : PointerKind → Ty → Region → Ty
   Handle : Region → Ty
   Key : Region → Ty
-  -- its number among the structs, and a region for each of its parameters
+  -- a struct: its number, and a region for each of its parameters
   Struct : ℕ → List Region → Ty
 
--- the type of an expression: it has no value, it is the null pointer, whose type is what is wanted, or it has a value of a type
+-- the type of an expression: no value, the null pointer (whose type is the expected one), or a value of a type
 pub data ValueType : Type 0 where
   Void : ValueType
   Null : ValueType
   Value : Ty → ValueType
 
--- what a call of a function gives, which may have no result
+-- the type of a call's result; a function may have none
 abbrev pub result_type : Option Ty → ValueType
 result_type None = Void
 result_type (Some t) = Value t
 
--- each region variable replaced by the region at its number in the list
+-- the type with each region variable replaced by the region at its number in the list
 abbrev pub substituted_ty : List Region → Ty → Ty
 substituted_ty regions Int = Int
 substituted_ty regions Char = Char
@@ -66,7 +65,7 @@ words_of_mark Nullable = 1
 words_of_mark NonNull = 1
 words_of_mark Fat = 3
 
--- the words of a cell: a fat pointer has three, any other value one
+-- the number of words of a cell: three for a fat pointer, otherwise one
 abbrev pub words_of : Ty → ℕ
 words_of Int = 1
 words_of Char = 1

@@ -1,4 +1,4 @@
--- what the functions inside these crates promise each other: the rules as functions, and the table of constraints
+-- contracts inside these crates: the rules as functions, and the table of constraints
 pub mod Openings
 pub mod RegionMarks
 pub mod ConstraintPlaces

@@ -4,6 +4,6 @@ pub mod Tests
 pub mod Formation
 pub mod Expressions
 pub mod Statements
-pub mod Heads
+pub mod DeclarationRules
 pub mod Programs
 pub mod WellTyped

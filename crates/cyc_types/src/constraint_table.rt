@@ -1,4 +1,4 @@
-//! Closed constraints in a table: what begins with a region is found there, and no constraint is searched.
+//! A table of closed constraints, indexed by region: the constraints that begin with a region are found without a search.
 ghost use Rattle.std.specs.Prelude.{◌≡◌, ℕ, ◌<◌, cond, get_or, length, Some, None, OnOk, IfSome, MatchOption};
 ghost use Rattle.cyc_types.specs.declared.region.Region.{Region};
 ghost use Rattle.cyc_types.specs.Types.{region_eq};
@@ -10,16 +10,16 @@ use crate::constraints::Constraint;
 use std::alloc::{AllocError, Global};
 use std::marker::Model;
 
-/// Where the first constraint that begins with each region stands.
+/// The position of the first constraint of each region.
 #[derive(Drop)]
 pub(crate) struct Places {
     heap: Option<usize>,
     unique: Option<usize>,
-    /// By the number of a region variable.
+    /// Indexed by the number of a region variable.
     variables: Vec<Option<usize>>,
 }
 
-/// Constraints in their order. A clause sees the list alone.
+/// Constraints in their order. Contracts see it as the list of constraints.
 #[derive(Drop)]
 pub(crate) struct ConstraintTable {
     constraints: Vec<Constraint>,
@@ -39,7 +39,7 @@ impl Model for ConstraintTable {
 }
 
 impl Places {
-    /// No region has a place.
+    /// Returns a table in which no region has a position.
     fn new(alloc: Global) -> Places
         ensures { (r : Region) → place_of result r ≡ None }
     {
@@ -75,7 +75,7 @@ impl Places {
     }
 }
 
-/// Makes the table so long that it has an entry for this variable.
+/// Grows the table until it has an entry for this variable.
 fn grow(variables: &mut Vec<Option<usize>>, number: usize) -> Result<(), AllocError>
     ensures same { (x : ℕ) → get_or variables.new.items x None ≡ get_or variables.old.items x None }
     ensures long { OnOk result (number < length variables.new.items) }
@@ -93,7 +93,7 @@ fn grow(variables: &mut Vec<Option<usize>>, number: usize) -> Result<(), AllocEr
 impl ConstraintTable {
     ghost use Rattle.std.specs.Prelude.{◌≡◌, IfOk};
 
-    /// The table of these constraints.
+    /// Returns the table of these constraints.
     pub(crate) fn new(
         alloc: Global,
         constraints: Vec<Constraint>,
@@ -111,9 +111,10 @@ impl ConstraintTable {
     }
 }
 
-/// The entry that says what the region outlives, if a constraint begins with it.
+/// Returns the entry with all regions that this region outlives, if a constraint begins with it.
 pub(crate) fn entry_of(constraints: &ConstraintTable, region: Region) -> Option<&Constraint>
-    ensures entry { MatchOption result ((b : Region) → table_leads constraints.now region b ≡ region_eq region b) (λ c. (b : Region) → table_leads constraints.now region b ≡ entry_leads c.now b) }
+    ensures entry { MatchOption result ((b : Region) → table_leads constraints.now region b ≡ region_eq region b)
+        (λ c. (b : Region) → table_leads constraints.now region b ≡ entry_leads c.now b) }
     ensures longer { IfSome result (λ c. c.now.longer ≡ region) }
 {
     match constraints.places.get(region) {
@@ -122,7 +123,7 @@ pub(crate) fn entry_of(constraints: &ConstraintTable, region: Region) -> Option<
     }
 }
 
-/// Whether the first region outlives the second by the constraints.
+/// Returns true if the first region outlives the second by the constraints.
 pub(crate) fn table_leads(constraints: &ConstraintTable, a: Region, b: Region) -> bool
     ensures { result ≡ table_leads constraints.now a b }
 {

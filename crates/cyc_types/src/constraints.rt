@@ -1,4 +1,4 @@
-//! The outlives constraints of a function, closed under transitivity once and for all.
+//! The outlives constraints of a function, closed under transitivity once.
 ghost use Rattle.std.specs.Prelude.{◌≡◌, ◌||◌, ◌&&◌, [], IfOk, OnOk, MatchOption, IfSome, IsTrue};
 ghost use Rattle.cyc_types.specs.declared.region.Region.{Region};
 ghost use Rattle.cyc_types.specs.Types.{region_eq, is_region_among};
@@ -9,7 +9,7 @@ use crate::region_list::RegionList;
 use smallvec::SmallVec;
 use std::alloc::{AllocError, Global};
 
-/// A constraint as it is written, and all that its longer-lived region outlives by the constraints.
+/// A constraint as written, with all regions that its longer-lived region outlives by the constraints.
 #[derive(Drop)]
 pub struct Constraint {
     pub longer: Region,
@@ -18,7 +18,7 @@ pub struct Constraint {
 }
 
 impl Constraint {
-    /// The constraint, with nothing known of what the longer-lived region outlives.
+    /// Returns the constraint before closing: no outlived region is recorded yet.
     fn new(alloc: Global, longer: Region, shorter: Region) -> Constraint
         ensures longer { result.longer ≡ longer }
         ensures shorter { result.shorter ≡ shorter }
@@ -31,14 +31,14 @@ impl Constraint {
         }
     }
 
-    /// Whether the longer-lived region is known to outlive this one.
+    /// Returns true if the entry records that its longer-lived region outlives this one.
     pub(crate) fn leads_to(&self, region: Region) -> bool
         ensures { result ≡ entry_leads self.now region }
     {
         self.longer == region || self.outlived.has(region)
     }
 
-    /// Adds one region to those that the longer-lived one outlives.
+    /// Adds one region to the regions that the longer-lived one outlives.
     fn add(&mut self, region: Region) -> Result<(), AllocError>
         ensures longer { OnOk result (self.new.longer ≡ self.old.longer) }
         ensures shorter { OnOk result (self.new.shorter ≡ self.old.shorter) }
@@ -50,11 +50,12 @@ impl Constraint {
         Ok(())
     }
 
-    /// If the longer-lived region outlives `via`, adds all of `below` to what it outlives.
+    /// Adds all of `below` to the regions that the longer-lived region outlives, if it outlives `via`.
     fn extend(&mut self, via: Region, below: &[Region]) -> Result<(), AllocError>
         ensures longer { OnOk result (self.new.longer ≡ self.old.longer) }
         ensures shorter { OnOk result (self.new.shorter ≡ self.old.shorter) }
-        ensures leads { OnOk result ((b : Region) → entry_leads self.new b ≡ (entry_leads self.old b || (entry_leads self.old via && is_region_among b below.now))) }
+        ensures leads { OnOk result ((b : Region) → entry_leads self.new b
+            ≡ (entry_leads self.old b || (entry_leads self.old via && is_region_among b below.now))) }
     {
         if self.leads_to(via) {
             for region in below {
@@ -65,9 +66,10 @@ impl Constraint {
     }
 }
 
-/// The entry that says what the region outlives, if a constraint begins with it.
+/// Returns the entry with all regions that this region outlives, if a constraint begins with it.
 fn entry_of(constraints: &[Constraint], region: Region) -> Option<&Constraint>
-    ensures entry { MatchOption result ((b : Region) → table_leads constraints.now region b ≡ region_eq region b) (λ c. (b : Region) → table_leads constraints.now region b ≡ entry_leads c.now b) }
+    ensures entry { MatchOption result ((b : Region) → table_leads constraints.now region b ≡ region_eq region b)
+        (λ c. (b : Region) → table_leads constraints.now region b ≡ entry_leads c.now b) }
     ensures longer { IfSome result (λ c. c.now.longer ≡ region) }
 {
     for constraint in constraints {
@@ -78,7 +80,7 @@ fn entry_of(constraints: &[Constraint], region: Region) -> Option<&Constraint>
     None
 }
 
-/// Whether the first region is known to outlive the second.
+/// Returns true if the entries record that the first region outlives the second.
 fn is_known(constraints: &[Constraint], longer: Region, shorter: Region) -> bool
     ensures { result ≡ table_leads constraints.now longer shorter }
 {
@@ -88,7 +90,7 @@ fn is_known(constraints: &[Constraint], longer: Region, shorter: Region) -> bool
     }
 }
 
-/// The region and all that it outlives.
+/// Returns the region and all regions that it outlives.
 fn all_below(
     alloc: Global,
     constraints: &[Constraint],
@@ -104,7 +106,7 @@ fn all_below(
     Ok(below)
 }
 
-/// Each entry that leads to `via` leads to all of `below` too.
+/// Adds all of `below` to each entry that outlives `via`.
 fn extend_all(
     constraints: &mut [Constraint],
     via: Region,
@@ -112,7 +114,8 @@ fn extend_all(
 ) -> Result<(), AllocError>
     requires { IsTrue (has_entry constraints.old via) }
     ensures written { OnOk result (written_in constraints.new ≡ written_in constraints.old) }
-    ensures leads { OnOk result ((a b : Region) → table_leads constraints.new a b ≡ (table_leads constraints.old a b || (table_leads constraints.old a via && is_region_among b below.now))) }
+    ensures leads { OnOk result ((a b : Region) → table_leads constraints.new a b
+        ≡ (table_leads constraints.old a b || (table_leads constraints.old a via && is_region_among b below.now))) }
 {
     for constraint in constraints.iter_mut() {
         constraint.extend(via, below)?;
@@ -120,7 +123,7 @@ fn extend_all(
     Ok(())
 }
 
-/// The constraints, where each region is known to outlive itself alone.
+/// Returns the constraints, with each region recorded to outlive no other region.
 fn unclosed(alloc: Global, written: &[(Region, Region)]) -> Result<Vec<Constraint>, AllocError>
     ensures written { IfOk result (λ constraints. written_in constraints.items ≡ written.now) }
     ensures leads { IfOk result (λ constraints. (a b : Region) → table_leads constraints.items a b ≡ region_eq a b) }
@@ -133,7 +136,7 @@ fn unclosed(alloc: Global, written: &[(Region, Region)]) -> Result<Vec<Constrain
     Ok(constraints)
 }
 
-/// The constraints with all that they lead to.
+/// Returns the constraints, closed under transitivity.
 pub(crate) fn closed(
     alloc: Global,
     written: &[(Region, Region)],
@@ -144,7 +147,7 @@ pub(crate) fn closed(
     let mut constraints = unclosed(alloc, written)?;
     for i in (0..written.len()).rev() {
         let (longer, shorter) = written[i];
-        // what outlives the longer-lived region is known to outlive all of those below already
+        // the pair is already implied, so nothing is added
         if is_known(&constraints, longer, shorter) {
             continue;
         }

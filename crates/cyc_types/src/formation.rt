@@ -1,5 +1,5 @@
-//! The types that written types mean, by functions that always answer: what is left out has a default, and so has what is not known.
-//! What may be wrong with a written type is told apart from that.
+//! The types of written types, by total functions: an omitted part has a default, and so does an unknown name. The faults of a written type
+//! are found separately.
 ghost use Rattle.std.specs.Prelude.{◌≡◌, ℕ, map, option_map, replicate, unwrap_or, IfOk, OnOk, List};
 ghost use Rattle.cyc_syntax.specs.inside.TreeView.{view_name, view_base, view_pointer, view_type};
 ghost use Rattle.cyc_types.specs.declared.region.Region.TheVariants.{Heap};
@@ -16,7 +16,7 @@ use smallvec::SmallVec;
 use std::alloc::{AllocError, Global};
 use std::rc::Rc;
 
-/// What the name of a region stands for: a name that is not known is taken for that of the heap.
+/// Returns the region of a name; an unknown name denotes the heap.
 pub fn region_of(names: &RegionNames, name: Ident) -> Region
     ensures { result ≡ region_of names.now (view_name name) }
 {
@@ -26,7 +26,7 @@ pub fn region_of(names: &RegionNames, name: Ident) -> Region
     }
 }
 
-/// The region of a mark, where this one stands for what is left out.
+/// Returns the region of a mark, or this default if it is omitted.
 fn region_or(names: &RegionNames, left_out: Region, written: Option<Ident>) -> Region
     ensures { result ≡ region_or names.now left_out (option_map view_name written) }
 {
@@ -36,7 +36,7 @@ fn region_or(names: &RegionNames, left_out: Region, written: Option<Ident>) -> R
     }
 }
 
-/// The heap as often as this.
+/// Returns a list of this many heap regions.
 pub(crate) fn heaps(alloc: Global, count: usize) -> Result<Rc<SmallVec<Region, 4>>, AllocError>
     ensures { IfOk result (λ rs. rs.value.items ≡ replicate count Heap) }
 {
@@ -47,7 +47,7 @@ pub(crate) fn heaps(alloc: Global, count: usize) -> Result<Rc<SmallVec<Region, 4
     Ok(Rc::new(alloc, all)?)
 }
 
-/// The region arguments of a struct with this number of parameters. Where they are left out, they are the heap.
+/// Returns the region arguments of a struct with this number of parameters. Omitted region arguments are the heap.
 pub fn arguments_or(
     alloc: Global,
     names: &RegionNames,
@@ -66,7 +66,7 @@ pub fn arguments_or(
     Ok(Rc::new(alloc, all)?)
 }
 
-/// The type before the marks.
+/// Returns the type before its marks.
 fn base_written(
     alloc: Global,
     structs: &StructNames,
@@ -94,17 +94,17 @@ fn base_written(
     })
 }
 
-/// The region of a mark that has none written, where so many marks stand behind it: only the outermost has the first.
-fn left_out_by(outermost: Region, behind: usize) -> Region
-    ensures { result ≡ left_out_by outermost behind }
+/// Returns the default region of a mark with this many marks after it: `outermost` for the last mark, the heap for all other marks.
+fn left_out_by(outermost: Region, following: usize) -> Region
+    ensures { result ≡ left_out_by outermost following }
 {
-    if behind == 0 {
+    if following == 0 {
         return outermost;
     }
     Region::Heap
 }
 
-/// A pointer of this mark to a type.
+/// Returns the type of a pointer with this mark to a type.
 fn pointer_written(
     alloc: Global,
     names: &RegionNames,
@@ -121,7 +121,7 @@ fn pointer_written(
     })
 }
 
-/// The type with its marks, from the innermost on.
+/// Returns the type with its marks, applied from the innermost on.
 fn pointers_written(
     alloc: Global,
     names: &RegionNames,
@@ -132,16 +132,22 @@ fn pointers_written(
     ensures { IfOk result (λ t. view_ty t ≡ pointers_written names.now outermost (view_ty base) (map view_pointer marks.now)) }
 {
     let mut of_type = base;
-    let mut behind = marks.len();
+    let mut following = marks.len();
     for mark in marks {
-        behind -= 1;
-        of_type = pointer_written(alloc, names, left_out_by(outermost, behind), of_type, *mark)?;
+        following -= 1;
+        of_type = pointer_written(
+            alloc,
+            names,
+            left_out_by(outermost, following),
+            of_type,
+            *mark,
+        )?;
     }
     Ok(of_type)
 }
 
-/// The type that is written, where these structs and these names of regions are known. The first region stands for that of the
-/// outermost mark if it is left out, and the heap for any other.
+/// Returns the type of a written type, given the known structs and region names. An omitted region is `outermost` at the outermost mark,
+/// and the heap elsewhere.
 pub fn type_written(
     alloc: Global,
     structs: &StructNames,

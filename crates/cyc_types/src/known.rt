@@ -1,18 +1,18 @@
-//! What is known in the whole text of a program.
+//! The names that are known in the whole text of a program.
 ghost use Rattle.std.specs.Prelude.{◌≡◌, map, IfOk};
 ghost use Rattle.cyc_syntax.specs.inside.TreeView.{view_declaration};
-ghost use Rattle.cyc_types.specs.typing.Heads.{structs_of};
+ghost use Rattle.cyc_types.specs.typing.DeclarationRules.{structs_of};
 
 use crate::{NameSet, Region, RegionNames, StructNames};
 use cyc_syntax::Declaration;
 use std::alloc::{AllocError, Global};
 use std::marker::Model;
 
-/// What is known in the whole text of a program: the names of the regions that are there already, its structs, and the name `main`.
+/// The names that are known in the whole text of a program: the built-in regions, its structs, and `main`.
 #[derive(Drop)]
 pub struct Known {
     structs: StructNames,
-    /// That of the heap and that of the unique region.
+    /// The names of the heap and of the unique region.
     regions: RegionNames,
     heap: usize,
     unique: usize,
@@ -21,7 +21,7 @@ pub struct Known {
 
 impl Model for Known {
     ghost use Rattle.std.specs.Prelude.{◌≡◌};
-    ghost use Rattle.cyc_types.specs.typing.Heads.{Known as KnownValue};
+    ghost use Rattle.cyc_types.specs.typing.DeclarationRules.{Known as KnownValue};
     ghost use Rattle.cyc_types.specs.inside.Namings.{first_regions};
 
     ghost Value = { KnownValue };
@@ -31,7 +31,7 @@ impl Model for Known {
     ghost invariant = { λ k. k.regions ≡ first_regions k.heap k.unique };
 }
 
-/// The structs of a program in order.
+/// Returns the structs of a program in order.
 fn structs_of(alloc: Global, declarations: &[Declaration]) -> Result<StructNames, AllocError>
     ensures { IfOk result (λ structs. structs ≡ structs_of (map view_declaration declarations.now)) }
 {
@@ -47,10 +47,10 @@ fn structs_of(alloc: Global, declarations: &[Declaration]) -> Result<StructNames
 impl Known {
     ghost use Rattle.std.specs.Prelude.{◌≡◌, map, IfOk, OnOk};
     ghost use Rattle.cyc_syntax.specs.inside.TreeView.{view_declaration};
-    ghost use Rattle.cyc_types.specs.typing.Heads.{structs_of, is_among, region_numbers};
+    ghost use Rattle.cyc_types.specs.typing.DeclarationRules.{structs_of, is_among, region_numbers};
     ghost use Rattle.cyc_types.specs.inside.Namings.{first_regions};
 
-    /// What is known in a program of these declarations, where the heap, the unique region and `main` have these names.
+    /// Returns the names known in a program of these declarations, given the names of the heap, the unique region and `main`.
     pub fn new(
         alloc: Global,
         heap: usize,
@@ -72,35 +72,35 @@ impl Known {
         })
     }
 
-    /// The structs that are declared.
+    /// Returns the declared structs.
     pub fn structs(&self) -> &StructNames
         ensures { result.now ≡ self.now.structs }
     {
         &self.structs
     }
 
-    /// The names of the regions that are there already.
+    /// Returns the names of the built-in regions.
     pub fn regions(&self) -> &RegionNames
         ensures { result.now ≡ self.now.regions }
     {
         &self.regions
     }
 
-    /// The name `main`.
+    /// Returns the name `main`.
     pub fn main(&self) -> usize
         ensures { result ≡ self.now.main }
     {
         self.main
     }
 
-    /// Whether a region that is there already has this name.
+    /// Returns true if a built-in region has this name.
     pub fn has_region(&self, name: usize) -> bool
         ensures { result ≡ is_among name (region_numbers self.now.regions) }
     {
         name == self.heap || name == self.unique
     }
 
-    /// Makes of the names those of the regions that are there already. What was among them is forgotten.
+    /// Resets the names to those of the built-in regions.
     #[tactic(auto, using(std::proofs::lemmas::List::drop_all))]
     pub fn reset(&self, names: &mut RegionNames) -> Result<(), AllocError>
         ensures { OnOk result (names.new ≡ self.now.regions) }
@@ -110,7 +110,7 @@ impl Known {
         names.declare(self.heap, Region::Heap)
     }
 
-    /// The same of a set of names.
+    /// Resets a set of names to those of the built-in regions.
     pub fn reset_set(&self, names: &mut NameSet) -> Result<(), AllocError>
         ensures { OnOk result (names.new ≡ region_numbers self.now.regions) }
     {

@@ -1,4 +1,4 @@
-//! Laws of the definitions in `specs/`. Each function does nothing: what it ensures is the law.
+//! Laws of the definitions in `specs/`. Each function of this file does nothing, and its contract states one law.
 ghost use Rattle.std.specs.Prelude.{◌≡◌, ◌↔◌, ℕ, ◌+◌, ◌*◌, ◌≤◌, List, Some, Ok, Err, length, slice_get};
 ghost use Rattle.cyc_words.specs.declared.fault.Fault.{Fault};
 ghost use Rattle.cyc_syntax.specs.Trees.{Declaration};
@@ -10,7 +10,7 @@ ghost use Rattle.cyc_types.specs.inside.typing.Formed.{IsFormedProgram};
 ghost use Rattle.cyc_types.specs.flow.Programs.{IsAllowedProgram, IsStoppedProgram, flow_of};
 ghost use Rattle.cyc_types.specs.Weight.{else_weight, statement_weight, function_weight, program_weight};
 
-/// The typing rules leave no choice: a tree has at most one typed tree.
+/// The typing rules are deterministic: a tree has at most one typed tree.
 pub fn one_typed_tree()
     ensures { (texts : List (List ℕ)) (tree : List Declaration) (p q : Program) → IsTypedProgram texts tree p → IsTypedProgram texts tree q → p ≡ q }
 {}
@@ -20,61 +20,61 @@ pub fn one_fault()
     ensures { (texts : List (List ℕ)) (tree : List Declaration) (f g : Fault) → IsRefusedProgram texts tree f → IsRefusedProgram texts tree g → f ≡ g }
 {}
 
-/// No tree is both well typed and refused.
+/// No tree is both well-typed and rejected.
 pub fn typed_or_refused()
     ensures { (texts : List (List ℕ)) (tree : List Declaration) (p : Program) (f : Fault) → IsTypedProgram texts tree p → IsRefusedProgram texts tree f → ⊥ }
 {}
 
-/// The checking function answers a typed tree exactly where the rules derive it, and a fault exactly where it is the first.
+/// The checker returns a typed tree exactly if the rules derive it, and a fault exactly if it is the first.
 pub fn checking_is_typing()
     ensures typed { (texts : List (List ℕ)) (tree : List Declaration) (p : Program) → (check_of texts tree ≡ Ok p) ↔ IsTypedProgram texts tree p }
     ensures refused { (texts : List (List ℕ)) (tree : List Declaration) (f : Fault) → (check_of texts tree ≡ Err f) ↔ IsRefusedProgram texts tree f }
 {}
 
-/// No typed tree both keeps the flow rules and is refused by one.
+/// No typed tree both satisfies the flow rules and is rejected by one.
 pub fn allowed_or_stopped()
     ensures { (program : Program) (f : Fault) → IsAllowedProgram program → IsStoppedProgram program f → ⊥ }
 {}
 
-/// A typed tree has at most one first fault of flow.
+/// A typed tree has at most one first flow fault.
 pub fn one_flow_fault()
     ensures { (program : Program) (f g : Fault) → IsStoppedProgram program f → IsStoppedProgram program g → f ≡ g }
 {}
 
-/// The function of the flow rules answers nothing exactly where they are kept, and a fault exactly where it is the first.
+/// The flow check succeeds exactly if the flow rules are satisfied, and returns a fault exactly if it is the first.
 pub fn flow_checking_is_flow()
     ensures kept { (program : Program) → (flow_of program ≡ Ok tt) ↔ IsAllowedProgram program }
     ensures refused { (program : Program) (f : Fault) → (flow_of program ≡ Err f) ↔ IsStoppedProgram program f }
 {}
 
-/// What the typing rules derive is well typed.
+/// The typing rules derive well-typed trees.
 pub fn typed_trees_are_well_typed()
     ensures { (texts : List (List ℕ)) (tree : List Declaration) (p : Program) → IsTypedProgram texts tree p → IsWellTypedProgram p }
 {}
 
-/// What the typing rules derive declares no type with a region that is not there yet.
+/// The typing rules derive no declaration of a type with an unknown region.
 pub fn typed_trees_are_formed()
     ensures { (texts : List (List ℕ)) (tree : List Declaration) (p : Program) → IsTypedProgram texts tree p → IsFormedProgram p }
 {}
 
-/// A typed tree weighs no more than the tree that it is of.
+/// A typed tree weighs at most as much as its syntax tree.
 pub fn typed_trees_are_no_heavier()
     ensures { (texts : List (List ℕ)) (tree : List Declaration) (p : Program) → IsTypedProgram texts tree p → program_weight p ≤ tree_weight tree }
 {}
 
-/// An `else` adds the weight of the statement behind it at least, but for one token that an empty statement has when it stands alone.
+/// An `else` adds at least the weight of its statement, except for the one token of an empty statement.
 pub fn an_else_weighs_its_statement()
     ensures { (s : Statement) → statement_weight s ≤ 1 + else_weight s (statement_weight s) }
 {}
 
-/// A program weighs at least what each of its functions does, and three tokens for each global and six for each function.
+/// A program weighs at least as much as each of its functions; each global weighs at least three tokens, and each function six.
 pub fn programs_outweigh_their_parts()
     ensures function { (p : Program) (n : ℕ) (h : Function) → slice_get p.functions n ≡ Some h → function_weight h ≤ program_weight p }
     ensures declarations { (p : Program) → 3 * length p.globals + 6 * length p.functions ≤ program_weight p }
 {}
 
-/// A function weighs at least two tokens for each parameter, three for each local that it declares, and two for each region but those
-/// that its parameters name.
+/// Each function has a least weight. The least weight of a function is two tokens for each parameter, three for each local that it
+/// declares, and two for each region that its parameters do not name.
 pub fn functions_outweigh_their_locals()
     ensures { (p : Program) (n : ℕ) (h : Function) → IsWellTypedProgram p → slice_get p.functions n ≡ Some h
         → (h.variables + 1 ≤ h.regions) × (2 * length h.parameters + 3 * length h.locals + 2 * h.regions + 4 ≤ function_weight h + 2 * h.variables) }

@@ -1,6 +1,7 @@
 //! Types and regions of the Cyclone subset, the typed tree with its typing rules, and the outlives relation between regions.
 #![tactic(auto)]
 
+pub use flowed::Flowed;
 pub use known::Known;
 pub use name_set::NameSet;
 pub use names::RegionNames;
@@ -14,6 +15,7 @@ pub use typed::TypedTree;
 
 mod constraint_table;
 mod constraints;
+mod flowed;
 pub mod formation;
 mod known;
 pub mod laws;

@@ -1,14 +1,14 @@
-//! A set of names, which tells in constant time whether it has one.
+//! A set of names with constant-time membership.
 
 use std::alloc::{AllocError, Global};
 use std::marker::Model;
 
-/// A set of names. A clause sees them as they were added, the newest first.
+/// A set of names. Contracts see it as the list of names added, newest first.
 #[derive(Drop)]
 pub struct NameSet {
-    /// The oldest first.
+    /// The names, oldest first.
     names: Vec<usize>,
-    /// For each name whether the set has it.
+    /// For each name, true if it is in the set.
     marks: Vec<bool>,
 }
 
@@ -27,7 +27,7 @@ impl NameSet {
     ghost use Rattle.std.specs.Prelude.{◌≡◌, [], ◌∷◌, nat_eq, OnOk};
     ghost use Rattle.std.specs.List.{list_any};
 
-    /// A set without names.
+    /// Returns the empty set.
     pub fn new(alloc: Global) -> NameSet
         ensures { result ≡ [] }
     {
@@ -37,7 +37,7 @@ impl NameSet {
         }
     }
 
-    /// Whether the set has the name.
+    /// Returns true if the set contains the name.
     pub fn has(&self, name: usize) -> bool
         ensures { result ≡ list_any (nat_eq name) self.now }
     {
@@ -47,7 +47,7 @@ impl NameSet {
         }
     }
 
-    /// Adds a name, which the set may have. An error leaves the names as they were.
+    /// Adds a name, which may already be in the set. An error leaves the set unchanged.
     pub fn add(&mut self, name: usize) -> Result<(), AllocError>
         ensures { OnOk result (self.new ≡ name ∷ self.old) }
     {
@@ -57,7 +57,7 @@ impl NameSet {
         Ok(())
     }
 
-    /// Forgets all names.
+    /// Removes all names.
     pub fn clear(&mut self)
         ensures { self.new ≡ [] }
     {
@@ -69,7 +69,7 @@ impl NameSet {
 ghost use Rattle.std.specs.Prelude.{◌≡◌, ℕ, ◌<◌, length, nat_eq, not, ◌||◌, ◌&&◌, false, get_or, OnOk};
 ghost use Rattle.std.specs.List.{list_any};
 
-/// Makes the table so long that it has a place for this name.
+/// Grows the table until it has an entry for this name.
 pub(crate) fn grow(table: &mut Vec<bool>, name: usize) -> Result<(), AllocError>
     ensures same { (x : ℕ) → get_or table.new.items x false ≡ get_or table.old.items x false }
     ensures long { OnOk result (name < length table.new.items) }

@@ -1,10 +1,10 @@
-//! The region names in scope, found in constant time.
+//! The region names in scope, with constant-time lookup.
 
 use crate::{NameSet, Region};
 use std::alloc::{AllocError, Global};
 use std::marker::Model;
 
-/// A region name in scope, what it stands for, and what it stood for before.
+/// A region name in scope, the region that it denotes, and the region that it denoted before.
 #[derive(Clone, Copy)]
 struct Binding {
     name: usize,
@@ -12,12 +12,12 @@ struct Binding {
     hidden: Option<Region>,
 }
 
-/// The region names in scope. A clause sees them with the newest first.
+/// The region names in scope. Contracts see them as a list, newest first.
 #[derive(Drop)]
 pub struct RegionNames {
-    /// The oldest first.
+    /// The bindings, oldest first.
     bindings: Vec<Binding>,
-    /// For each name what it stands for.
+    /// For each name, the region that it denotes.
     newest: Vec<Option<Region>>,
 }
 
@@ -36,9 +36,9 @@ impl Model for RegionNames {
 impl RegionNames {
     ghost use Rattle.std.specs.Prelude.{◌≡◌, ℕ, ◌-◌, ◌<◌, [], ◌∷◌, ◌++◌, length, drop, get_or, None, OnOk};
     ghost use Rattle.cyc_types.specs.typing.Scopes.{region_among};
-    ghost use Rattle.cyc_types.specs.typing.Heads.{region_numbers};
+    ghost use Rattle.cyc_types.specs.typing.DeclarationRules.{region_numbers};
 
-    /// No names.
+    /// Returns an empty list of names.
     pub fn new(alloc: Global) -> RegionNames
         ensures { result ≡ [] }
     {
@@ -48,14 +48,14 @@ impl RegionNames {
         }
     }
 
-    /// How many names were declared and are not forgotten, those that hide another among them.
+    /// Returns the number of names in scope, including hidden ones.
     pub fn len(&self) -> usize
         ensures { result ≡ length self.now }
     {
         self.bindings.len()
     }
 
-    /// What the name stands for, if it is known.
+    /// Returns the region of the name, if it is known.
     pub fn find(&self, name: usize) -> Option<Region>
         ensures { result ≡ region_among self.now name }
     {
@@ -65,7 +65,7 @@ impl RegionNames {
         }
     }
 
-    /// Declares a name, which hides an older one that is the same.
+    /// Declares a name, which hides an older declaration of that name.
     pub fn declare(&mut self, name: usize, region: Region) -> Result<(), AllocError>
         ensures { OnOk result (self.new ≡ record { name = name; region = region } ∷ self.old) }
     {
@@ -80,7 +80,7 @@ impl RegionNames {
         Ok(())
     }
 
-    /// Forgets the newest name.
+    /// Removes the newest name.
     fn undo(&mut self)
         ensures { self.new ≡ drop 1 self.old }
     {
@@ -90,7 +90,7 @@ impl RegionNames {
         self.newest[binding.name] = binding.hidden;
     }
 
-    /// Forgets all names but this number of the oldest.
+    /// Removes all names but this number of the oldest.
     #[tactic(auto, using(cyc_words::proofs::Lists::drop_one_more))]
     pub fn close(&mut self, count: usize)
         ensures { self.new ≡ drop (length self.old - count) self.old }
@@ -109,7 +109,7 @@ impl RegionNames {
 }
 
 ghost use Rattle.std.specs.Prelude.{◌≡◌, ℕ, ◌<◌, ◌++◌, length, get_or, None, OnOk};
-ghost use Rattle.cyc_types.specs.typing.Heads.{region_numbers};
+ghost use Rattle.cyc_types.specs.typing.DeclarationRules.{region_numbers};
 ghost use Rattle.cyc_types.specs.inside.Names.{names_of};
 
 /// Adds the names of bindings to a set, the oldest first.
@@ -122,7 +122,7 @@ fn add_all(bindings: &[Binding], set: &mut NameSet) -> Result<(), AllocError>
     Ok(())
 }
 
-/// Makes the table so long that it has a place for this name.
+/// Grows the table until it has an entry for this name.
 fn grow(table: &mut Vec<Option<Region>>, name: usize) -> Result<(), AllocError>
     ensures same { (x : ℕ) → get_or table.new.items x None ≡ get_or table.old.items x None }
     ensures long { OnOk result (name < length table.new.items) }

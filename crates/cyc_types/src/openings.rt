@@ -1,4 +1,4 @@
-//! Where the oldest open scope of each region stands: what leads where is found there, and no scope is searched.
+//! The position of the oldest open scope of each region, by which the outlives relation is decided without a search of the scopes.
 ghost use Rattle.std.specs.Prelude.{◌≡◌, ◌≤◌, ◌<◌, ◌||◌, ◌&&◌, ◌++◌, ◌+◌, ℕ, List, [], ◌∷◌, reverse, length, get_or, not, false, true, IsTrue, OnOk, IfOk};
 ghost use Rattle.std.specs.List.{list_any};
 ghost use Rattle.cyc_types.specs.declared.region.Region.{Region};
@@ -15,7 +15,7 @@ use crate::region_list::RegionList;
 use crate::scope::{Scope, is_outlived_by_live};
 use std::alloc::AllocError;
 
-/// Where the oldest scope of the region stands, if one is open.
+/// Returns the index of the oldest scope of the region, if one is open.
 fn opening_of(openings: &[usize], region: Region) -> usize
     ensures { result ≡ opening_of openings.now region }
 {
@@ -28,7 +28,7 @@ fn opening_of(openings: &[usize], region: Region) -> usize
     }
 }
 
-/// Whether the region is live where this many of the oldest scopes are open.
+/// Returns true if the region is live while this many of the oldest scopes are open.
 pub(crate) fn is_live_before(
     live: &RegionList,
     openings: &[usize],
@@ -49,7 +49,7 @@ pub(crate) fn is_live_before(
     false
 }
 
-/// Whether one of these regions is live there, the unique region aside.
+/// Returns true if one of these regions is live at that point, not counting the unique region.
 fn is_one_live_before(
     live: &RegionList,
     openings: &[usize],
@@ -68,7 +68,7 @@ fn is_one_live_before(
     false
 }
 
-/// Whether the constraints lead from `a` to what is live there, the unique region aside.
+/// Returns true if the constraints lead from `a` to a region that is live at that point, not counting the unique region.
 fn is_above_live_before(
     constraints: &ConstraintTable,
     live: &RegionList,
@@ -90,9 +90,10 @@ fn is_above_live_before(
     }
 }
 
-/// Whether the constraints and the open scopes lead from `a` to `b`, where all scopes are in order.
+/// Returns true if the constraints and the open scopes lead from `a` to `b`, provided that all scopes are in order.
 ///
-/// What is live where a scope opens leads to its region. No other way leads there but the constraints, since the region is new.
+/// A region that is live when a scope opens leads to the scope's region. A region that is not live when the scope opens leads to the
+/// scope's region only by constraints, since that region is new.
 pub(crate) fn leads_in_order(
     constraints: &ConstraintTable,
     live: &RegionList,
@@ -118,7 +119,7 @@ pub(crate) fn leads_in_order(
     false
 }
 
-/// Makes the table so long that it has an entry for this variable.
+/// Grows the table until it has an entry for this variable.
 fn grow(openings: &mut Vec<usize>, number: usize) -> Result<(), AllocError>
     ensures same { (x : ℕ) → get_or openings.new.items x 0 ≡ get_or openings.old.items x 0 }
     ensures long { OnOk result (number < length openings.new.items) }
@@ -133,7 +134,7 @@ fn grow(openings: &mut Vec<usize>, number: usize) -> Result<(), AllocError>
     Ok(())
 }
 
-/// Notes where the oldest scope of a region stands, if the region is a variable.
+/// Stores the index of the oldest scope of a region, if the region is a variable.
 fn note(openings: &mut Vec<usize>, region: Region, place: usize) -> Result<bool, AllocError>
     ensures noted { IfOk result (λ noted. noted ≡ true → opening_of openings.new.items region ≡ place) }
     ensures others { (r : Region) → region_eq region r ≡ false → opening_of openings.new.items r ≡ opening_of openings.old.items r }
@@ -146,7 +147,7 @@ fn note(openings: &mut Vec<usize>, region: Region, place: usize) -> Result<bool,
     Ok(true)
 }
 
-/// Whether no constraint begins with the region.
+/// Returns true if no constraint begins with the region.
 fn is_alone(constraints: &ConstraintTable, region: Region) -> bool
     ensures { IsTrue result → (b : Region) → table_leads constraints.now region b ≡ region_eq region b }
 {
@@ -156,7 +157,8 @@ fn is_alone(constraints: &ConstraintTable, region: Region) -> bool
     }
 }
 
-/// Where the oldest `in_order` scopes are in order, whether the scope is too if it opens next. Where its oldest scope stands is then noted.
+/// Returns true if the next scope would be in order, given that the oldest `in_order` scopes are in order. Stores the index of the oldest
+/// scope of its region.
 pub(crate) fn opens_in_order(
     constraints: &ConstraintTable,
     live: &RegionList,
@@ -168,7 +170,8 @@ pub(crate) fn opens_in_order(
     requires closed { IsClosed constraints.now }
     requires order { IsInOrder (written_in constraints.now) live.now openings.old.items scopes.now in_order }
     ensures kept { IsInOrder (written_in constraints.now) live.now openings.new.items scopes.now in_order }
-    ensures next { IfOk result (λ next. next ≡ true → IsInOrder (written_in constraints.now) live.now openings.new.items (scopes.now ++ scope ∷ []) (length scopes.now + 1)) }
+    ensures next { IfOk result (λ next. next ≡ true → IsInOrder (written_in constraints.now) live.now openings.new.items (scopes.now ++ scope ∷ [])
+        (length scopes.now + 1)) }
 {
     let place = scopes.len();
     if in_order < place {

@@ -1,11 +1,12 @@
-//! Which region outlives which, by the constraints of a function and the scopes that are open.
+//! The outlives relation between regions, given the constraints of a function and the open scopes.
 ghost use Rattle.std.specs.Prelude.{◌≡◌, ◌≢◌, ◌↔◌, ◌||◌, ◌-◌, [], ◌∷◌, reverse, drop, IsTrue, IfOk, OnOk, OnErr, length, ◌<◌};
 ghost use Rattle.std.specs.List.{list_any};
 ghost use Rattle.std.specs.Option.{ForSome};
 ghost use Rattle.cyc_types.specs.declared.scope.Scope.{Scope};
 ghost use Rattle.cyc_types.specs.Outlives.{OutlivesIn, live_regions, is_outlived_by_live};
 ghost use Rattle.cyc_types.specs.Types.{region_eq, is_region_among};
-ghost use Rattle.cyc_types.specs.Closure.{HasNoUnique, IsClosed, above, above_one_of, above_one_opened, context_of, is_outliving, is_above_known, leads, written_in};
+ghost use Rattle.cyc_types.specs.Closure.{HasNoUnique, IsClosed, above, above_one_of, above_one_opened, context_of, is_outliving, is_above_known};
+ghost use Rattle.cyc_types.specs.Closure.{leads, written_in};
 
 use crate::Region;
 use crate::constraint_table::{ConstraintTable, table_leads};
@@ -16,20 +17,22 @@ use crate::scope::{Kind, Scope, is_outlived_by_live};
 use std::alloc::{AllocError, Global};
 use std::marker::Model;
 
-/// The outlives relation of a function at one place of its body: the constraints that are written, what is live before any
-/// scope opens, and the open scopes.
+/// The outlives relation of a function at one point of its body. The outlives relation consists of the written constraints, the regions
+/// that are live before any scope opens, and the open scopes.
 ///
-/// The heap outlives every region but the unique one. What is live when a block or a lexical scope opens outlives its region;
-/// opening a dynamic or an alias region adds nothing. The unique region is related to itself alone. Questions take no memory.
+/// The heap outlives every region except the unique one. A region that is live when a block or a lexical scope opens outlives the new
+/// region. Opening a dynamic or an alias region adds nothing. The unique region is related to no other region. Queries of the outlives
+/// relation do not allocate.
 #[derive(Drop)]
 pub struct Outlives {
     constraints: ConstraintTable,
     live: RegionList,
-    /// Oldest first.
+    /// The open scopes, oldest first.
     scopes: Vec<Scope>,
-    /// For each region variable that scopes have the place of the oldest; what it says of others does not count.
+    /// For each region variable of an open scope, the index of its oldest scope. Entries of variables without an open scope are
+    /// meaningless.
     openings: Vec<usize>,
-    /// How many of the oldest scopes are in order, so that `openings` tells what is live there and what leads where.
+    /// The number of oldest scopes that are in order. For these, `openings` decides which regions are live and which outlive which.
     in_order: usize,
 }
 
@@ -46,8 +49,8 @@ impl Model for Outlives {
 }
 
 impl Outlives {
-    /// No scope is open yet. The first region of each pair of `written` outlives the second; `live` are the regions that are live at
-    /// the start.
+    /// Returns the relation without open scopes. The first region of each pair of `written` outlives the second; `live` lists the regions
+    /// that are live at the start.
     pub fn new(
         alloc: Global,
         written: &[(Region, Region)],
@@ -66,16 +69,16 @@ impl Outlives {
         })
     }
 
-    /// Whether `a` outlives `b`.
+    /// Returns true if `a` outlives `b`.
     pub fn outlives(&self, a: Region, b: Region) -> bool
         ensures tested { result ≡ is_outliving self.now a b }
-        // Where neither the constraints nor the scopes have the unique region, this is the relation.
+        // If neither the constraints nor the scopes mention the unique region, this is the outlives relation.
         ensures related { HasNoUnique self.now → (IsTrue result ↔ OutlivesIn self.now a b) }
     {
         self.is_outliving(a, b)
     }
 
-    /// Whether the region is live.
+    /// Returns true if the region is live.
     #[tactic(auto, using(crate::proofs::SearchLemmas::live_among))]
     pub fn is_live(&self, region: Region) -> bool
         ensures { result ≡ is_region_among region (live_regions self.now.live self.now.opened) }
@@ -92,15 +95,15 @@ impl Outlives {
         self.live.has(region) || is_opened(&self.scopes, region)
     }
 
-    /// How many scopes are open.
+    /// Returns the number of open scopes.
     pub fn len(&self) -> usize
         ensures { result ≡ length self.now.opened }
     {
         self.scopes.len()
     }
 
-    /// Opens a scope. Its region is live until the scope is closed. It may be a region that the constraints name or that is live
-    /// already, as the region of a key is.
+    /// Opens a scope. The scope's region is live until the scope is closed. The region may occur in constraints or already be live, as the
+    /// region of a key may.
     pub fn open_scope(&mut self, region: Region, kind: Kind) -> Result<(), AllocError>
         ensures opened { OnOk result (self.new ≡ record self.old { opened = record { region = region; kind = kind } ∷ self.old.opened }) }
         ensures unchanged { OnErr result (self.new ≡ self.old) }
@@ -139,7 +142,7 @@ impl Outlives {
         self.in_order = self.in_order.min(self.scopes.len());
     }
 
-    /// Whether `a` outlives `b`: by the constraints and the scopes, or because it outlives the heap.
+    /// Returns true if `a` outlives `b`: by the constraints and the scopes, or because it outlives the heap.
     fn is_outliving(&self, a: Region, b: Region) -> bool
         ensures { result ≡ is_outliving self.now a b }
     {
@@ -149,7 +152,7 @@ impl Outlives {
         b != Region::Unique && (self.leads(a, b) || self.leads(a, Region::Heap))
     }
 
-    /// Whether the constraints and the open scopes lead from `a` to `b`.
+    /// Returns true if the constraints and the open scopes lead from `a` to `b`.
     fn leads(&self, a: Region, b: Region) -> bool
         ensures { result ≡ leads self.now.written self.now.live self.now.opened a b }
     {
@@ -167,7 +170,7 @@ impl Outlives {
     }
 }
 
-/// Whether one of these scopes has the region.
+/// Returns true if one of these scopes has this region.
 fn is_opened(scopes: &[Scope], region: Region) -> bool
     ensures { result ≡ list_any (λ s. region_eq s.region region) scopes.now }
 {
@@ -179,7 +182,7 @@ fn is_opened(scopes: &[Scope], region: Region) -> bool
     false
 }
 
-/// Whether the constraints lead from `a` to one of these regions, the unique region aside.
+/// Returns true if the constraints lead from `a` to one of these regions, not counting the unique region.
 fn is_above_one_of(constraints: &ConstraintTable, regions: &[Region], a: Region) -> bool
     requires { IsClosed constraints.now }
     ensures { result ≡ above_one_of (written_in constraints.now) regions.now a }
@@ -192,7 +195,7 @@ fn is_above_one_of(constraints: &ConstraintTable, regions: &[Region], a: Region)
     false
 }
 
-/// The same of the regions of scopes.
+/// Returns true if the constraints lead from `a` to the region of one of these scopes, not counting the unique region.
 fn is_above_one_opened(constraints: &ConstraintTable, scopes: &[Scope], a: Region) -> bool
     requires { IsClosed constraints.now }
     ensures { result ≡ above_one_opened (written_in constraints.now) scopes.now a }
@@ -205,7 +208,7 @@ fn is_above_one_opened(constraints: &ConstraintTable, scopes: &[Scope], a: Regio
     false
 }
 
-/// The same of all that is live where these scopes are open.
+/// Returns true if the constraints lead from `a` to a region that is live while these scopes are open.
 fn is_above_live(
     constraints: &ConstraintTable,
     live: &[Region],
@@ -218,10 +221,10 @@ fn is_above_live(
     is_above_one_of(constraints, live, a) || is_above_one_opened(constraints, scopes, a)
 }
 
-/// Whether the constraints and the open scopes lead from `a` to `b`.
+/// Returns true if the constraints and the open scopes lead from `a` to `b`.
 ///
-/// The scopes are passed from the oldest to the newest. Once all that is live at some scope is known to outlive `b`, a later scope
-/// matters only where its own region leads to `b`, and then all that is live there outlives `b` too.
+/// The scopes are visited from the oldest to the newest. After some scope whose live regions all outlive `b`, a later scope matters only if
+/// its own region leads to `b`. If a later scope's own region leads to `b`, all regions live at that scope outlive `b` too.
 fn leads(
     constraints: &ConstraintTable,
     live: &[Region],
@@ -250,8 +253,8 @@ fn leads(
     false
 }
 
-/// Whether `a` leads to `b`, where all that was live when the scope at `known` opened does, and nothing else but what the
-/// constraints say.
+/// Returns true if `a` leads to `b`. All regions live at the opening of the scope `known` are given to lead to `b`; otherwise only the
+/// constraints count.
 fn is_known(
     constraints: &ConstraintTable,
     live: &[Region],

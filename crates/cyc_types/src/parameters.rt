@@ -1,10 +1,11 @@
-//! The types of parameters: they declare the names of regions that stand in them, and what they leave out is a region of its own.
+//! The types of parameters. The types of parameters declare the region names that occur in them; each omitted region is a new region.
 ghost use Rattle.std.specs.Prelude.{◌≡◌, suc, map, option_map, IfOk, OnOk};
 ghost use Rattle.cyc_syntax.specs.inside.TreeView.{view_name, view_base, view_pointer, view_type, view_member};
 ghost use Rattle.cyc_types.specs.declared.region.Region.TheVariants.{Variable};
 ghost use Rattle.cyc_types.specs.Types as types;
 ghost use Rattle.cyc_types.specs.TypeView.{view_ty};
-ghost use Rattle.cyc_types.specs.typing.Formation.{region_for, after_region, mark_for, after_mark, regions_for, after_regions, arguments_for, base_for, after_base, pointers_for, after_marks, type_for, after_type, types_for, after_members};
+ghost use Rattle.cyc_types.specs.typing.Formation.{region_for, after_region, mark_for, after_mark, regions_for, after_regions, arguments_for};
+ghost use Rattle.cyc_types.specs.typing.Formation.{base_for, after_base, pointers_for, after_marks, type_for, after_type, types_for, after_members};
 ghost use Rattle.cyc_types.specs.inside.Namings.{naming};
 
 use crate::formation::heaps;
@@ -16,20 +17,20 @@ use smallvec::SmallVec;
 use std::alloc::{AllocError, Global};
 use std::rc::Rc;
 
-/// The next region, which is a new one.
+/// Returns the next region, which is new.
 fn next_region(next: &mut usize) -> Result<Region, AllocError>
     ensures region { IfOk result (λ r. r ≡ Variable next.old) }
     ensures next { OnOk result (next.new ≡ suc next.old) }
 {
     let number = *next;
-    let Some(behind) = number.checked_add(1) else {
+    let Some(following) = number.checked_add(1) else {
         return Err(AllocError);
     };
-    *next = behind;
+    *next = following;
     Ok(Region::Variable(number))
 }
 
-/// What the name of a region stands for, which is the next region where the name is not known.
+/// Returns the region of a name; an unknown name gets the next region.
 fn region_for(names: &mut RegionNames, next: &mut usize, name: Ident) -> Result<Region, AllocError>
     ensures region { IfOk result (λ r. r ≡ region_for (naming names.old next.old) (view_name name)) }
     ensures naming { OnOk result (naming names.new next.new ≡ after_region (naming names.old next.old) (view_name name)) }
@@ -42,7 +43,7 @@ fn region_for(names: &mut RegionNames, next: &mut usize, name: Ident) -> Result<
     Ok(region)
 }
 
-/// The region of a mark, which is the next one where it is left out.
+/// Returns the region of a mark; an omitted region is the next one.
 fn mark_for(
     names: &mut RegionNames,
     next: &mut usize,
@@ -57,7 +58,7 @@ fn mark_for(
     }
 }
 
-/// The region arguments of a struct with this number of parameters. Where they are left out, they are the heap.
+/// Returns the region arguments of a struct with this number of parameters. Omitted region arguments are the heap.
 fn arguments_for(
     alloc: Global,
     names: &mut RegionNames,
@@ -78,7 +79,7 @@ fn arguments_for(
     Ok(Rc::new(alloc, all)?)
 }
 
-/// The type before the marks.
+/// Returns the type before its marks.
 fn base_for(
     alloc: Global,
     structs: &StructNames,
@@ -108,7 +109,7 @@ fn base_for(
     })
 }
 
-/// A pointer of this mark to a type.
+/// Returns the type of a pointer with this mark to a type.
 fn pointer_for(
     alloc: Global,
     names: &mut RegionNames,
@@ -116,7 +117,8 @@ fn pointer_for(
     target: Ty,
     mark: Pointer,
 ) -> Result<Ty, AllocError>
-    ensures pointer { IfOk result (λ t. view_ty t ≡ types.Pointer mark.kind (view_ty target) (mark_for (naming names.old next.old) (view_pointer mark).region)) }
+    ensures pointer { IfOk result (λ t. view_ty t ≡ types.Pointer mark.kind (view_ty target)
+        (mark_for (naming names.old next.old) (view_pointer mark).region)) }
     ensures naming { OnOk result (naming names.new next.new ≡ after_mark (naming names.old next.old) (view_pointer mark).region) }
 {
     Ok(Ty::Pointer {
@@ -126,7 +128,7 @@ fn pointer_for(
     })
 }
 
-/// The type with its marks, from the innermost on.
+/// Returns the type with its marks, applied from the innermost on.
 fn pointers_for(
     alloc: Global,
     names: &mut RegionNames,
@@ -144,7 +146,7 @@ fn pointers_for(
     Ok(of_type)
 }
 
-/// The type of a parameter, where these structs and these names of regions are known.
+/// Returns the type of a parameter, given the known structs and region names.
 fn type_for(
     alloc: Global,
     structs: &StructNames,
@@ -159,8 +161,8 @@ fn type_for(
     pointers_for(alloc, names, next, base, &written.marks)
 }
 
-/// The types of parameters, where these structs and these names of regions are known, and the next region has this number. What they
-/// declare is known behind them.
+/// Returns the types of parameters, given the known structs and region names and the number of the next region. After the call, the region
+/// names that the parameters declare are known.
 pub fn types_for(
     alloc: Global,
     structs: &StructNames,

@@ -1,8 +1,7 @@
-//! Regions as types name them.
+//! Regions, as they occur in types.
 
-/// A region: the heap, the region of unique pointers, or a region variable by its number within its function (within its
-/// struct, in the type of a field). Variables that are declared, left out or made by the function itself, a block or a label
-/// are all numbered alike, each with a number of its own.
+/// A region: the heap, the unique region, or a region variable. A variable is numbered within its function (within its struct, in the type
+/// of a field). Variables that are declared, omitted, or created by the function, a block or a label share one numbering.
 #[derive(Clone, Copy, Debug, PartialEq, Eq, Default)]
 pub enum Region {
     /// `` `H ``
@@ -17,7 +16,7 @@ impl Region {
     ghost use Rattle.std.specs.Prelude.{◌≡◌};
     ghost use Rattle.cyc_types.specs.Types.{substituted_region};
 
-    /// The region at this variable's number in `map`. A variable past the end of `map` stays, as do the heap and the unique region.
+    /// Returns the region at this variable's number in `map`. A variable past the end of `map` stays, as do the heap and the unique region.
     pub fn substituted(self, map: &[Region]) -> Region
         ensures { result ≡ substituted_region map.now self }
     {

@@ -1,17 +1,17 @@
-//! A list of regions, which tells in constant time whether it has one.
+//! A list of regions with constant-time membership.
 
 use crate::Region;
 use crate::name_set::{grow, mark};
 use std::alloc::{AllocError, Global};
 use std::marker::Model;
 
-/// A list of regions. A clause sees them in their order.
+/// A list of regions. Contracts see them in their order.
 #[derive(Drop)]
 pub struct RegionList {
     regions: Vec<Region>,
     has_heap: bool,
     has_unique: bool,
-    /// For each region variable whether the list has it.
+    /// For each region variable, true if it is in the list.
     marks: Vec<bool>,
 }
 
@@ -43,7 +43,7 @@ impl RegionList {
         }
     }
 
-    /// The same list, with its marks.
+    /// Returns the list of these regions, with its marks.
     pub(crate) fn from_slice(alloc: Global, regions: &[Region]) -> Result<RegionList, AllocError>
         ensures { IfOk result (λ list. list ≡ regions.now) }
     {
@@ -60,7 +60,7 @@ impl RegionList {
         &self.regions
     }
 
-    /// Whether the list has the region.
+    /// Returns true if the region is in the list.
     pub(crate) fn has(&self, region: Region) -> bool
         ensures { result ≡ is_region_among region self.now }
     {

@@ -4,12 +4,12 @@ ghost use Rattle.cyc_types.specs.Outlives.{is_outlived_by_live};
 
 use crate::Region;
 
-/// What opens a region for the rest of a block.
+/// The construct that opens a region for the rest of a block.
 #[derive(Clone, Copy, Debug, PartialEq, Eq)]
 pub enum Kind {
-    /// A block, whose variables live in its region.
+    /// A block, whose region contains its variables.
     Block,
-    /// A `region` item that makes its region.
+    /// A `region` item that creates its region.
     Lexical,
     /// A `region` item that opens the region of a key.
     Dynamic,
@@ -24,7 +24,7 @@ pub struct Scope {
     pub kind: Kind,
 }
 
-/// Whether what is live when such a scope opens outlives its region.
+/// Returns true if the regions that are live when such a scope opens outlive its region.
 pub(crate) fn is_outlived_by_live(kind: Kind) -> bool
     ensures { result ≡ is_outlived_by_live kind }
 {

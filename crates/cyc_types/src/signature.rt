@@ -1,4 +1,4 @@
-//! What a caller knows of a function.
+//! The signature of a function, as its callers know it.
 ghost use Rattle.std.specs.Prelude.{◌≡◌, List, map, option_map, IfOk};
 ghost use Rattle.cyc_types.specs.Types.{substituted_region, substituted_ty};
 ghost use Rattle.cyc_types.specs.TypeView.{view_ty};
@@ -8,15 +8,15 @@ use crate::{Region, Ty};
 use smallvec::SmallVec;
 use std::alloc::{AllocError, Global};
 
-/// The type of a function with what it asks of its callers. Its region variables have the numbers from 1 on.
+/// The type of a function with its demands on callers. A signature's region variables are numbered from 1.
 #[derive(Drop)]
 pub struct Signature {
-    /// How many regions its parameters name or leave out.
+    /// The number of regions that the parameters name or omit.
     pub variables: usize,
     pub parameters: Vec<Ty>,
-    /// A `void` function has none.
+    /// The result type; a `void` function has none.
     pub result: Option<Ty>,
-    /// The regions that must be live where it is called.
+    /// The regions that must be live at a call.
     pub effect: SmallVec<Region, 4>,
     /// Pairs of regions of which the first outlives the second.
     pub constraints: SmallVec<(Region, Region), 4>,
@@ -27,7 +27,7 @@ impl Signature {
     ghost use Rattle.cyc_types.specs.typing.Expressions.{instantiated};
     ghost use Rattle.cyc_types.specs.inside.SignatureView.{view_signature};
 
-    /// The signature at a call, where each region variable is the region at its number in `instance`.
+    /// Returns the signature at a call: each region variable becomes the region at its number in `instance`.
     pub fn instantiated(&self, alloc: Global, instance: &[Region]) -> Result<Signature, AllocError>
         ensures { IfOk result (λ s. view_signature s ≡ instantiated instance.now (view_signature self.now)) }
     {

@@ -1,27 +1,27 @@
-//! The structs of a program, found by their names in constant time.
+//! The structs of a program, found by name in constant time.
 
 use std::alloc::{AllocError, Global};
 use std::marker::Model;
 
-/// A struct: its name, its number, and how many region parameters it has.
+/// A struct: its name, its number, and the number of its region parameters.
 #[derive(Clone, Copy)]
 pub struct Known {
     pub number: usize,
     pub parameters: usize,
 }
 
-/// A struct by its name.
+/// A declared struct, with its name.
 #[derive(Clone, Copy)]
 struct Entry {
     name: usize,
     parameters: usize,
 }
 
-/// The structs in order, each with the number of its place. Where a name is declared twice, the first counts.
+/// The structs in order, numbered by their positions. If a name is declared twice, the first declaration counts.
 #[derive(Drop)]
 pub struct StructNames {
     entries: Vec<Entry>,
-    /// For each name its first struct.
+    /// For each name, its first struct.
     by_name: Vec<Option<Known>>,
 }
 
@@ -42,7 +42,7 @@ impl StructNames {
     ghost use Rattle.cyc_types.specs.typing.Formation.{struct_number, parameters_among};
     ghost use Rattle.cyc_types.specs.inside.StructTables.{known_from};
 
-    /// No structs.
+    /// Returns an empty list of structs.
     pub fn new(alloc: Global) -> StructNames
         ensures { result ≡ [] }
     {
@@ -58,7 +58,7 @@ impl StructNames {
         self.entries.len()
     }
 
-    /// The struct of this name.
+    /// Returns the struct of this name, if any.
     fn find(&self, name: usize) -> Option<Known>
         ensures { result ≡ known_from 0 self.now name }
     {
@@ -68,7 +68,7 @@ impl StructNames {
         }
     }
 
-    /// The number of the struct of this name, or the one behind all.
+    /// Returns the number of the struct of this name, or the number of structs if there is none.
     #[tactic(auto, using(crate::proofs::StructLemmas::number_found, crate::proofs::StructLemmas::number_lost))]
     pub fn number(&self, name: usize) -> usize
         ensures { result ≡ struct_number self.now name }
@@ -79,7 +79,7 @@ impl StructNames {
         }
     }
 
-    /// How many region parameters the struct of this name has.
+    /// Returns the number of region parameters of the struct of this name.
     #[tactic(auto, using(crate::proofs::StructLemmas::parameters_found, crate::proofs::StructLemmas::parameters_lost))]
     pub fn parameters(&self, name: usize) -> Option<usize>
         ensures { result ≡ parameters_among self.now name }
@@ -90,7 +90,7 @@ impl StructNames {
         }
     }
 
-    /// Declares a struct with so many region parameters. Where one of its name is there, that one is found as before.
+    /// Declares a struct with this many region parameters. An earlier struct of that name is still the one found.
     pub fn declare(&mut self, name: usize, parameters: usize) -> Result<(), AllocError>
         ensures { OnOk result (self.new ≡ self.old ++ record { name = name; parameters = parameters } ∷ []) }
     {
@@ -108,7 +108,7 @@ impl StructNames {
 
 ghost use Rattle.std.specs.Prelude.{◌≡◌, ℕ, ◌<◌, length, get_or, None, OnOk};
 
-/// Makes the table so long that it has a place for this name.
+/// Grows the table until it has an entry for this name.
 fn grow(table: &mut Vec<Option<Known>>, name: usize) -> Result<(), AllocError>
     ensures same { (x : ℕ) → get_or table.new.items x None ≡ get_or table.old.items x None }
     ensures long { OnOk result (name < length table.new.items) }

@@ -1,4 +1,4 @@
-//! Types with all their regions.
+//! Types with explicit regions.
 
 use crate::Region;
 use cyc_syntax::PointerKind;
@@ -6,8 +6,8 @@ use smallvec::SmallVec;
 use std::alloc::{AllocError, Global};
 use std::rc::Rc;
 
-/// A type in which each region stands: a formed type of the subset, or a struct as the target of a pointer. What it is made of is
-/// shared by all that has the type, so that having it once more takes no memory.
+/// A type in which each region is explicit: a formed type of the subset, or a struct as the target of a pointer. Copies of a type share its
+/// parts, so copying does not allocate.
 #[derive(Drop)]
 pub enum Ty {
     Int,
@@ -26,7 +26,7 @@ pub enum Ty {
     Key {
         region: Region,
     },
-    /// The struct of this number with its region arguments, one for each of its region parameters.
+    /// The struct of this number, with one region argument for each of its region parameters.
     Struct {
         number: usize,
         regions: Rc<SmallVec<Region, 4>>,
@@ -38,7 +38,7 @@ impl Ty {
     ghost use Rattle.cyc_types.specs.Types.{substituted_ty, words_of};
     ghost use Rattle.cyc_types.specs.TypeView.{view_ty};
 
-    /// Whether the types are equal in all parts: marks, regions and structs, at each depth.
+    /// Returns true if the types are equal in all parts: marks, regions and structs, at each level.
     pub fn equals(&self, other: &Ty) -> bool
         ensures { IsTrue result ↔ (view_ty self.now ≡ view_ty other.now) }
     {
@@ -79,7 +79,7 @@ impl Ty {
         }
     }
 
-    /// The same type, which shares what it is made of.
+    /// Returns a copy of the type that shares its parts.
     pub fn share(&self) -> Result<Ty, AllocError>
         ensures { IfOk result (λ ty. view_ty ty ≡ view_ty self.now) }
     {
@@ -104,7 +104,7 @@ impl Ty {
         })
     }
 
-    /// The type with each region variable replaced by the region at its number in `map`; a variable past the end of `map` stays.
+    /// Returns the type with each region variable replaced by the region at its number in `map`; a variable past the end of `map` stays.
     pub fn substituted(&self, alloc: Global, map: &[Region]) -> Result<Ty, AllocError>
         ensures { IfOk result (λ ty. view_ty ty ≡ substituted_ty map.now (view_ty self.now)) }
     {
@@ -136,7 +136,7 @@ impl Ty {
         })
     }
 
-    /// The words of a cell of this type: three for a fat pointer, else one.
+    /// Returns the number of words of a cell of this type: three for a fat pointer, otherwise one.
     pub fn words(&self) -> u32
         ensures { result ≡ words_of (view_ty self.now) }
     {
@@ -153,7 +153,7 @@ impl Ty {
 ghost use Rattle.std.specs.Prelude.{◌≡◌, IfOk, map};
 ghost use Rattle.cyc_types.specs.Types.{substituted_region};
 
-/// Each region of a list substituted.
+/// Returns the list with each region substituted.
 fn all_substituted(
     alloc: Global,
     regions: &[Region],

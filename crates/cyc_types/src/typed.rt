@@ -1,20 +1,19 @@
-//! The typed tree: what the checker makes of an abstract syntax tree, and what every later phase reads.
+//! The typed tree: the checker builds it from an abstract syntax tree, and every later pass reads it.
 //!
-//! Each name is resolved to a number: a local by its number in its function, in order of declaration and the parameters first, a
-//! struct, an exception, a global and a function by its number in the program. What a variable's value is used for and what an
-//! operator works on are told apart by the nodes, each conversion stands where it happens, and brackets are gone: nobody needs an
-//! environment of names or the type of an operand to say what a tree does. Chains of operators are lists, so that a tree is no deeper
-//! than the one that it was made of. Rare and large parts are in boxes, so that a node is small.
+//! Each name is resolved to a number. A local has its number in its function: parameters first, then declarations in order. A struct, an
+//! exception, a global and a function have their numbers in the program. The nodes distinguish the uses of a variable's value and the kinds
+//! of an operator's operands. Each conversion is explicit, and parentheses are removed. The meaning of a typed tree needs neither an
+//! environment of names nor the types of operands. Chains of operators are lists, so a tree is no deeper than its syntax tree. Rare and
+//! large parts are in boxes, so that a node is small.
 //!
-//! A node keeps a place of the text where a later phase may refuse there, and where code is made that can end a run: by these a run's
-//! end is told.
+//! A node stores a place of the text if a later pass may report a fault there, or if its code can end a run.
 
 use crate::{Region, Ty};
 use cyc_syntax::Name;
 use cyc_words::Span;
 use smallvec::SmallVec;
 
-/// What a cell holds, and so what a conversion converts from and to.
+/// The kind of a cell's content, as the source or target of a conversion.
 #[derive(Clone, Copy)]
 pub enum Kind {
     Int,
@@ -29,7 +28,7 @@ pub enum Kind {
     Key,
 }
 
-/// What a call calls.
+/// The callee of a call.
 #[derive(Clone, Copy)]
 pub enum Callee {
     Putchar,
@@ -38,19 +37,19 @@ pub enum Callee {
     Function { number: usize },
 }
 
-/// The operators of one operand that compute.
+/// The unary operators that compute a number.
 #[derive(Clone, Copy)]
 pub enum UnaryOperator {
     Negate,
     Not,
     Complement,
-    /// The value of a char where an int is asked for; nothing is written for it.
+    /// The value of a char as an int; no token is written for it.
     Widen,
     /// `char(..)`: the low byte of an int.
     LowByte,
 }
 
-/// The operators of two ints that evaluate both.
+/// The operators on two ints that evaluate both operands.
 #[derive(Clone, Copy)]
 pub enum Operator {
     Or,
@@ -71,7 +70,7 @@ pub enum Operator {
     Remainder,
 }
 
-/// The operators that stop early.
+/// The operators that may skip their right operand.
 #[derive(Clone, Copy)]
 pub enum LogicalOperator {
     /// `&&`
@@ -80,7 +79,7 @@ pub enum LogicalOperator {
     OrElse,
 }
 
-/// The operators whose left operand is a pointer, or `NULL`. Each is named by what it does to its operands.
+/// The operators whose left operand is a pointer or `NULL`. Each such operator is named by its operation and the kinds of its operands.
 #[derive(Clone, Copy)]
 pub enum PointerOperator {
     /// A fat pointer and an int.
@@ -102,9 +101,9 @@ pub enum PointerOperator {
 /// The type of an expression.
 #[derive(Drop)]
 pub enum ValueType {
-    /// It has no value.
+    /// The expression has no value.
     Void,
-    /// It is the null pointer, of whatever type is wanted.
+    /// The expression is the null pointer, of whatever type is expected.
     Null,
     Value { of_type: Ty },
 }
@@ -114,11 +113,11 @@ pub enum ValueType {
 pub enum Lvalue {
     /// The local of this number, with the place of its name.
     Local { span: Span, number: usize },
-    /// The global of this number.
+    /// The global variable of this number.
     Global { number: usize },
 }
 
-/// An expression whose names, types and moves are settled.
+/// An expression with resolved names, types and moves.
 #[cycle(expression)]
 #[derive(Drop)]
 pub enum Expr {
@@ -130,28 +129,28 @@ pub enum Expr {
     NullPointer,
     /// `heap_region`
     HeapRegion,
-    /// The variable of a `for`, by how many are around that one: it is no place.
+    /// The variable of a `for`, numbered by how many `for`s enclose its own; it is not assignable.
     Counter {
         level: usize,
     },
-    /// The value of a variable, which stays there.
+    /// Reads a variable, which keeps its value.
     Copy {
         source: Lvalue,
         of_type: Ty,
     },
-    /// The value of a local that is a unique pointer or a key, which leaves the local empty.
+    /// Reads a local that is a unique pointer or a key, which leaves the local empty.
     Move {
         span: Span,
         number: usize,
         of_type: Ty,
     },
-    /// The value of a local that is a unique pointer, only to look through it or to compare it: it stays there.
+    /// Reads a unique pointer in a local only to dereference or compare it; the local keeps its value.
     Peek {
         span: Span,
         number: usize,
         of_type: Ty,
     },
-    /// The value in a cell that a pointer leads to.
+    /// Reads the cell that a pointer leads to.
     Load {
         source: Box<Dereference>,
     },
@@ -177,7 +176,7 @@ pub enum Expr {
     FreeKey {
         key: Box<Expr>,
     },
-    /// With the place of the name, and the type of its result, if it has one.
+    /// A call, with the place of the name, and the type of its result if it has one.
     Call {
         span: Span,
         callee: Callee,
@@ -188,25 +187,25 @@ pub enum Expr {
         operator: UnaryOperator,
         operand: Box<Expr>,
     },
-    /// Operands joined by operators that group to the left, at least one, and the type of the whole, which each of its results has.
+    /// Operands joined by at least one operator, which associate to the left, with the type of each intermediate result.
     Binary {
         first: Box<Expr>,
         rest: Vec<Operation>,
         of_type: Ty,
     },
-    /// The assignment of a variable, with the type of its value, if it has one: that of a unique pointer or of a key has none.
+    /// The assignment of a variable, with the type of its value. An assignment of a unique pointer or a key has no value.
     Assign {
         target: Lvalue,
         value: Box<Converted>,
         result: ValueType,
     },
-    /// The same of a cell that a pointer leads to.
+    /// The assignment of a cell that a pointer leads to.
     Store {
         target: Box<Dereference>,
         value: Box<Converted>,
         result: ValueType,
     },
-    /// `new` and `rnew`, at this place: a new object, and the type of the pointer to it.
+    /// `new` and `rnew`, at this place: a new object, with the type of the pointer to it.
     New {
         span: Span,
         placement: Placement,
@@ -215,18 +214,18 @@ pub enum Expr {
     },
 }
 
-/// A place that a pointer leads to, with the type of what is there.
+/// A place that a pointer leads to, with the type of its content.
 #[cycle(expression)]
 #[derive(Drop)]
 pub enum Dereference {
-    /// `*e`, of a pointer of this kind, with the place of e.
+    /// `*e`, for a pointer of this kind, with the place of e.
     Target {
         span: Span,
         kind: Kind,
         pointer: Expr,
         of_type: Ty,
     },
-    /// `e->f`, by the number of the struct and that of the field in it, with the place of f.
+    /// `e->f`, with the number of the struct and the number of its field, and the place of f.
     Member {
         span: Span,
         kind: Kind,
@@ -244,7 +243,7 @@ pub enum Dereference {
     },
 }
 
-/// Where a new object is made.
+/// The region in which a new object is allocated.
 #[cycle(expression)]
 #[derive(Drop)]
 pub enum Placement {
@@ -256,11 +255,11 @@ pub enum Placement {
     ByHandle { handle: Box<Expr> },
 }
 
-/// What a new object holds.
+/// The initial content of a new object.
 #[cycle(expression)]
 #[derive(Drop)]
 pub enum Initial {
-    /// A value of this kind.
+    /// The operands are values of this kind.
     Plain {
         kind: Kind,
         value: Expr,
@@ -269,8 +268,7 @@ pub enum Initial {
     Fields {
         values: Vec<Converted>,
     },
-    /// `{for i < length : element}`, where the variable is the counter of this level, with elements of this kind, and with the place of
-    /// `for`.
+    /// `{for i < length : element}`: the variable is the counter of this level, the elements have this kind, and `for` is at this place.
     Array {
         span: Span,
         level: usize,
@@ -280,7 +278,7 @@ pub enum Initial {
     },
 }
 
-/// An expression whose value is converted once it is evaluated, also where the kind stays.
+/// An expression whose value is converted after its evaluation, possibly to its own kind.
 #[cycle(expression)]
 #[derive(Drop)]
 pub struct Converted {
@@ -293,23 +291,23 @@ pub struct Converted {
 #[cycle(expression)]
 #[derive(Drop)]
 pub enum Operation {
-    /// It computes with two ints. The place is that of the operand.
+    /// An operator that computes with two ints. The place is that of the operand.
     Compute {
         span: Span,
         operator: Operator,
         operand: Expr,
     },
-    /// Where the value so far decides, the operand is not evaluated.
+    /// If the value so far decides the result, the operand is not evaluated.
     Test {
         operator: LogicalOperator,
         operand: Expr,
     },
-    /// The left operand is a pointer, or `NULL`.
+    /// An operator whose left operand is a pointer or `NULL`.
     Pointer {
         operator: PointerOperator,
         operand: Expr,
     },
-    /// The left operand is a peek of this local, which must stay as it is while the right one is evaluated.
+    /// An operator whose left operand is a peek of this local, which must not change while the right operand is evaluated.
     PointerPeek {
         number: usize,
         operator: PointerOperator,
@@ -324,17 +322,17 @@ pub enum Side {
     Cell { place: Box<Dereference> },
 }
 
-/// A statement whose names and types are settled.
+/// A statement with resolved names and types.
 #[cycle(statement)]
 #[derive(Drop)]
 pub enum Stmt {
-    /// A block, labelled or not, with the number of its region in its function.
+    /// A block, with or without a label, with the number of its region in its function.
     Block {
         region: usize,
         items: Vec<Item>,
     },
     Empty,
-    /// With the place of its first token, as a swap has it.
+    /// An expression statement, with the place of its first token; a swap has such a place too.
     Evaluate {
         span: Span,
         value: Expr,
@@ -344,33 +342,33 @@ pub enum Stmt {
         left: Side,
         right: Side,
     },
-    /// Where no `else` is written, the other statement is empty. With the place of `if`.
+    /// A conditional, with the place of `if`. If no `else` is written, the other statement is empty.
     If {
         span: Span,
         condition: Expr,
         then: Box<Stmt>,
         otherwise: Box<Stmt>,
     },
-    /// With the place of `while`.
+    /// A loop, with the place of `while`.
     While {
         span: Span,
         condition: Expr,
         body: Box<Stmt>,
     },
-    /// With the place of `return`.
+    /// A return, with the place of `return`.
     Return {
         span: Span,
         value: Option<Converted>,
     },
     Break,
     Continue,
-    /// An exception by its number, with its int if it has one, and with the place of `throw`.
+    /// Throws the exception of this number, with its int if it has one. The place is that of `throw`.
     Throw {
         span: Span,
         tag: usize,
         value: Option<Expr>,
     },
-    /// The clauses of a catch, and the default clause behind them, if there is one. With the place of `try`.
+    /// The clauses of a catch, followed by the default clause, if there is one. The place is that of `try`.
     Try {
         span: Span,
         body: Box<Stmt>,
@@ -387,7 +385,7 @@ pub struct Body {
     pub items: Vec<Item>,
 }
 
-/// A clause for the exception of this number, and the local that gets its int, if one does.
+/// A clause for the exception of this number, with the local that receives its int, if any.
 #[cycle(statement)]
 #[derive(Drop)]
 pub struct Clause {
@@ -397,7 +395,7 @@ pub struct Clause {
     pub items: Vec<Item>,
 }
 
-/// A part of a block: a statement, or what a declaration makes.
+/// A part of a block: a statement or a declaration.
 #[cycle(statement)]
 #[derive(Drop)]
 pub enum Item {
@@ -411,21 +409,21 @@ pub enum Item {
         of_type: Ty,
         value: Option<Converted>,
     },
-    /// A lexical region to the end of the block, by its number in its function, with the place of its name; the local of this number is
-    /// its handle.
+    /// A lexical region to the end of the block, by its number in its function, with the place of its name. The local of this number is its
+    /// handle.
     Region {
         span: Span,
         region: usize,
         number: usize,
     },
-    /// The same of the region that a local is the key of, with the place of the key's name.
+    /// The region of a key, opened to the end of the block, with the place of the key's name. The local of this number is its handle.
     Open {
         region: usize,
         number: usize,
         span: Span,
         key: usize,
     },
-    /// A local that shares the unique object of another to the end of the block, with the place of the other's name.
+    /// A local that shares the unique object of another local to the end of the block, with the place of the other's name.
     Alias {
         region: usize,
         number: usize,
@@ -448,7 +446,7 @@ pub enum Constant {
     Null,
 }
 
-/// A global, with what it holds at the start.
+/// A global, with its initial value.
 #[derive(Drop)]
 pub struct Global {
     pub name: Name,
@@ -456,7 +454,7 @@ pub struct Global {
     pub value: Constant,
 }
 
-/// A struct: what its values are made of.
+/// A struct: its region parameters and its fields.
 #[derive(Drop)]
 pub struct StructType {
     /// The number of its region parameters.
@@ -465,37 +463,38 @@ pub struct StructType {
     pub fields: Vec<Ty>,
 }
 
-/// A function with its body. Its locals are numbered from 0: first its parameters, then what its body declares, in order. So are its
-/// regions: first its own, then those that its parameters name, then those that its body declares, in order.
+/// A function with its body. A function's locals are numbered from 0: first its parameters, then the declarations of its body, in order. A
+/// function's regions are numbered as its locals are: first the function's own region, then those that its parameters name, then those that
+/// its body declares.
 #[derive(Drop)]
 pub struct Function {
     pub name: Name,
     pub span: Span,
     pub parameters: Vec<Ty>,
-    /// A `void` function has none.
+    /// The result type; a `void` function has none.
     pub result: Option<Ty>,
-    /// How many regions its parameters name.
+    /// The number of regions that the parameters name.
     pub variables: usize,
-    /// The regions that must be live where it is called.
+    /// The regions that must be live at a call.
     pub effect: SmallVec<Region, 4>,
     /// Pairs of regions of which the first outlives the second.
     pub constraints: SmallVec<(Region, Region), 4>,
-    /// The types of what the body declares.
+    /// The types of the locals that the body declares.
     pub locals: Vec<Ty>,
-    /// The number of its own region, in which its parameters and the body's own variables live.
+    /// The number of the function's own region, which contains its parameters and the outermost variables of its body.
     pub region: usize,
-    /// The number of its regions.
+    /// The number of regions of the function.
     pub regions: usize,
     pub body: Vec<Item>,
-    /// The place of its last brace.
+    /// The place of the function's last brace.
     pub end: Span,
 }
 
-/// A program in which all names are resolved and all types agree. Structs, globals and functions have the numbers of their places here.
+/// A program in which all names are resolved and all types agree. Structs, globals and functions are numbered by their positions.
 #[derive(Drop)]
 pub struct TypedTree {
     pub structs: Vec<StructType>,
-    /// Of each exception that is declared, whether it has an int.
+    /// For each declared exception, true if it has an int.
     pub exceptions: Vec<bool>,
     pub globals: Vec<Global>,
     pub functions: Vec<Function>,

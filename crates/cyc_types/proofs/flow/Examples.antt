@@ -1,5 +1,5 @@
--- Worked examples of the flow rules, by computation. Each text stands above its typed tree and its verdict, and the rule is kept in one
--- and broken in another.
+-- Examples of the flow rules, by computation. Each program text has its typed tree and its verdict below it; of each pair of examples, one
+-- satisfies a rule and one breaks it.
 use Rattle.std.specs.Prelude.{◌≡◌, ℕ, zero, suc, List, [], ◌∷◌, Option, Some, None, Ok, Err, refl}
 use Rattle.cyc_words.specs.declared.fault.Code.{Code}
 use Rattle.cyc_words.specs.declared.fault.Code.TheVariants as faults
@@ -19,12 +19,12 @@ use Rattle.cyc_types.specs.TypedTrees.{Block, Empty, Evaluate, Swap, If, While, 
 use Rattle.cyc_types.specs.Rules.{Checked, fault_at, run}
 use Rattle.cyc_types.specs.flow.Programs.{rule_functions}
 
--- ---- trees, whose types and kinds no flow rule looks at
+-- ---- trees; their types and kinds do not matter to the flow rules
 
 abbrev at : ℕ → ℕ → Place
 at l k = record { line = l; column = k }
 
--- the local of this number, whose name stands at this line and column
+-- a read of the local of this number, whose name is at this line and column
 abbrev copy : ℕ → ℕ → ℕ → Expression
 copy l k n = Copy (Local (at l k) n) Int
 
@@ -67,7 +67,7 @@ abbrev ints : ℕ → List Ty
 ints zero = []
 ints (suc n) = Int ∷ ints n
 
--- with so many parameters and so many other locals, and its last brace at this line and column
+-- a function with this many parameters and other locals, and its last brace at this line and column
 abbrev routine : Option Ty → (parameters locals : ℕ) → List Item → ℕ → ℕ → Function
 routine t n m js l k = record {
   name = 0;
@@ -97,11 +97,11 @@ abbrev refusal : Checked (Unit {0}) → Option Fault
 refusal (Ok u) = None
 refusal (Err x) = Some x
 
--- the fault of these functions, if they have one
+-- the fault of these functions, if any
 abbrev verdict : List Function → Option Fault
 verdict hs = refusal (run (rule_functions hs))
 
--- ---- values that are there, and that are not
+-- ---- full and empty locals
 
 -- int main(){ int a; return a; }
 empty_local_is_used : verdict (function 0 1 (Declare 0 Int None ∷ Execute (Return (Some (put (copy 1 27 0)))) ∷ []) 1 30 ∷ []) ≡ fault faults.EmptyVariable 1 27
@@ -112,8 +112,8 @@ assigned_local_is_used : verdict (function 0 1 (Declare 0 Int None ∷ Execute (
 assigned_local_is_used = refl
 
 -- int main(){ int a; a = a + 1; return a; }
-assignment_comes_behind_its_value : verdict (function 0 1 (Declare 0 Int None ∷ Execute (Evaluate (Assign (Local (at 1 20) 0) (put (Binary (copy 1 24 0) (ThenCompute operators.Add (Number 1) NoOperations) Int)) (Value Int))) ∷ Execute (Return (Some (put (copy 1 38 0)))) ∷ []) 1 41 ∷ []) ≡ fault faults.EmptyVariable 1 24
-assignment_comes_behind_its_value = refl
+assignment_comes_after_its_value : verdict (function 0 1 (Declare 0 Int None ∷ Execute (Evaluate (Assign (Local (at 1 20) 0) (put (Binary (copy 1 24 0) (ThenCompute operators.Add (Number 1) NoOperations) Int)) (Value Int))) ∷ Execute (Return (Some (put (copy 1 38 0)))) ∷ []) 1 41 ∷ []) ≡ fault faults.EmptyVariable 1 24
+assignment_comes_after_its_value = refl
 
 -- int main(){ int a; int *`main p = &a; return 0; }
 address_uses : verdict (function 0 2 (Declare 0 Int None ∷ Declare 1 Int (Some (put (AddressOf (Local (at 1 36) 0) Int))) ∷ Execute (Return (Some (put (Number 0)))) ∷ []) 1 49 ∷ []) ≡ fault faults.EmptyVariable 1 36
@@ -166,10 +166,10 @@ peeks_leave_it : verdict (function 0 1 (Declare 0 Int (Some (put NullPointer)) �
 peeks_leave_it = refl
 
 -- int eat(int *`U p){ ufree(p); return 1; } int main(){ int *`U u = NULL; 1 && eat(u); return *u; }
-moved_behind_and : verdict (function 1 0 (Execute (Evaluate (FreeUnique (move 1 27 0))) ∷ Execute (Return (Some (put (Number 1)))) ∷ []) 1 41 ∷ function 0 1 (Declare 0 Int (Some (put NullPointer)) ∷ Execute (Evaluate (Binary (Number 1) (ThenTest logical.AndThen (call (callees.Function 0) ((move 1 82 0) ∷ [])) NoOperations) Int)) ∷ Execute (Return (Some (put (Load (target (peek 1 94 0)))))) ∷ []) 1 97 ∷ []) ≡ fault faults.EmptyVariable 1 94
-moved_behind_and = refl
+moved_after_and : verdict (function 1 0 (Execute (Evaluate (FreeUnique (move 1 27 0))) ∷ Execute (Return (Some (put (Number 1)))) ∷ []) 1 41 ∷ function 0 1 (Declare 0 Int (Some (put NullPointer)) ∷ Execute (Evaluate (Binary (Number 1) (ThenTest logical.AndThen (call (callees.Function 0) ((move 1 82 0) ∷ [])) NoOperations) Int)) ∷ Execute (Return (Some (put (Load (target (peek 1 94 0)))))) ∷ []) 1 97 ∷ []) ≡ fault faults.EmptyVariable 1 94
+moved_after_and = refl
 
--- ---- while a peek waits
+-- ---- pending peeks
 
 -- int eat(int ?`U p){ ufree(p); return 1; } int main(){ int ?`U u = rnew(unique_region) {for i < 2 : i}; return u[eat(u)]; }
 index_consumes : verdict (function 1 0 (Execute (Evaluate (FreeUnique (move 1 27 0))) ∷ Execute (Return (Some (put (Number 1)))) ∷ []) 1 41 ∷ function 0 1 (Declare 0 Int (Some (put (New AsUnique (Array (at 1 88) 0 (Number 2) kinds.Int (Counter 0)) Int))) ∷ Execute (Return (Some (put (Load (element (peek 1 111 0) (call (callees.Function 0) ((move 1 117 0) ∷ []))))))) ∷ []) 1 122 ∷ []) ≡ fault faults.LockedVariable 1 117
@@ -210,8 +210,8 @@ swap_of_an_empty_local : verdict (function 0 2 (Declare 0 Int None ∷ Declare 1
 swap_of_an_empty_local = refl
 
 -- int @`U @eat(int @`U u, int @`U @`H q){ ufree(u); return q; } int main(){ int @`U u = rnew(unique_region) 1; int @`U @q = new rnew(unique_region) 2; u :=: *eat(u, q); return 0; }
-swap_uses_behind_both_places : verdict (function 2 0 (Execute (Evaluate (FreeUnique (move 1 47 0))) ∷ Execute (Return (Some (put (copy 1 58 1)))) ∷ []) 1 61 ∷ function 0 2 (Declare 0 Int (Some (put (New AsUnique (Plain kinds.Int (Number 1)) Int))) ∷ Declare 1 Int (Some (put (New OnHeap (Plain kinds.Int (New AsUnique (Plain kinds.Int (Number 2)) Int)) Int))) ∷ Execute (Swap (VariableSide (Local (at 1 150) 0) Int) (CellSide (target (call (callees.Function 0) ((move 1 161 0) ∷ (copy 1 164 1) ∷ []))))) ∷ Execute (Return (Some (put (Number 0)))) ∷ []) 1 178 ∷ []) ≡ fault faults.EmptyVariable 1 150
-swap_uses_behind_both_places = refl
+swap_uses_after_both_places : verdict (function 2 0 (Execute (Evaluate (FreeUnique (move 1 47 0))) ∷ Execute (Return (Some (put (copy 1 58 1)))) ∷ []) 1 61 ∷ function 0 2 (Declare 0 Int (Some (put (New AsUnique (Plain kinds.Int (Number 1)) Int))) ∷ Declare 1 Int (Some (put (New OnHeap (Plain kinds.Int (New AsUnique (Plain kinds.Int (Number 2)) Int)) Int))) ∷ Execute (Swap (VariableSide (Local (at 1 150) 0) Int) (CellSide (target (call (callees.Function 0) ((move 1 161 0) ∷ (copy 1 164 1) ∷ []))))) ∷ Execute (Return (Some (put (Number 0)))) ∷ []) 1 178 ∷ []) ≡ fault faults.EmptyVariable 1 150
+swap_uses_after_both_places = refl
 
 -- struct S { struct S *`U n; }; int main(){ struct S *`U u = NULL; u :=: u->n; return 0; }
 swap_with_its_own_field : verdict (function 0 1 (Declare 0 Int (Some (put NullPointer)) ∷ Execute (Swap (VariableSide (Local (at 1 66) 0) Int) (CellSide (member (peek 1 72 0) 0))) ∷ Execute (Return (Some (put (Number 0)))) ∷ []) 1 88 ∷ []) ≡ None
@@ -225,7 +225,7 @@ swap_of_its_own_field = refl
 lowest_code_of_a_swap : verdict (function 0 3 (Declare 0 Int (Some (put NullPointer)) ∷ DeclareAlias 1 1 Int (at 1 58) 0 ∷ Declare 2 Int None ∷ Execute (Swap (VariableSide (Local (at 1 72) 0) Int) (VariableSide (Local (at 1 78) 2) Int)) ∷ Execute (Return (Some (put (Number 0)))) ∷ []) 1 91 ∷ []) ≡ fault faults.EmptyVariable 1 78
 lowest_code_of_a_swap = refl
 
--- ---- what is lent
+-- ---- lent values
 
 -- int main(){ int *`U u = NULL; let alias <`a> int *`a x = u; ufree(u); return *x; }
 aliased_and_given_back : verdict (function 0 2 (Declare 0 Int (Some (put NullPointer)) ∷ DeclareAlias 1 1 Int (at 1 58) 0 ∷ Execute (Evaluate (FreeUnique (move 1 67 0))) ∷ Execute (Return (Some (put (Load (target (copy 1 79 1)))))) ∷ []) 1 82 ∷ []) ≡ fault faults.LockedVariable 1 67
@@ -240,8 +240,8 @@ aliased_and_assigned : verdict (function 0 2 (Declare 0 Int (Some (put NullPoint
 aliased_and_assigned = refl
 
 -- int main(){ int *`U u = NULL; { let alias <`a> int *`a x = u; *x = 1; } return *u; }
-full_again_behind_its_block : verdict (function 0 2 (Declare 0 Int (Some (put NullPointer)) ∷ Execute (block (DeclareAlias 1 1 Int (at 1 60) 0 ∷ Execute (Evaluate (Store (target (copy 1 64 1)) (put (Number 1)) (Value Int))) ∷ [])) ∷ Execute (Return (Some (put (Load (target (peek 1 81 0)))))) ∷ []) 1 84 ∷ []) ≡ None
-full_again_behind_its_block = refl
+full_again_after_its_block : verdict (function 0 2 (Declare 0 Int (Some (put NullPointer)) ∷ Execute (block (DeclareAlias 1 1 Int (at 1 60) 0 ∷ Execute (Evaluate (Store (target (copy 1 64 1)) (put (Number 1)) (Value Int))) ∷ [])) ∷ Execute (Return (Some (put (Load (target (peek 1 81 0)))))) ∷ []) 1 84 ∷ []) ≡ None
+full_again_after_its_block = refl
 
 -- int main(){ let NewDynamicRegion{<`k> k} = new_ukey(); region<`k> h = open(k); free_ukey(k); return 0; }
 opened_and_given_back : verdict (function 0 2 (DeclareKey 1 0 ∷ OpenRegion 1 1 (at 1 76) 0 ∷ Execute (Evaluate (FreeKey (move 1 90 0))) ∷ Execute (Return (Some (put (Number 0)))) ∷ []) 1 104 ∷ []) ≡ fault faults.LockedVariable 1 90
@@ -305,7 +305,7 @@ length_consumes = refl
 array_may_be_empty : verdict (function 0 2 (Declare 0 Int None ∷ Declare 1 Int (Some (put (New OnHeap (Array (at 1 34) 0 (Number 2) kinds.Int (Assign (Local (at 1 47) 0) (put (Counter 0)) (Value Int))) Int))) ∷ Execute (Return (Some (put (copy 1 63 0)))) ∷ []) 1 66 ∷ []) ≡ fault faults.EmptyVariable 1 63
 array_may_be_empty = refl
 
--- ---- clauses
+-- ---- catch clauses
 
 -- int main(){ int *`U u = NULL; try ufree(u); catch { default: *u; } return 0; }
 consumed_in_the_body : verdict (function 0 1 (Declare 0 Int (Some (put NullPointer)) ∷ Execute (Try (Evaluate (FreeUnique (move 1 41 0))) (Default 1 (items (Execute (Evaluate (Load (target (peek 1 63 0)))) ∷ [])))) ∷ Execute (Return (Some (put (Number 0)))) ∷ []) 1 78 ∷ []) ≡ fault faults.EmptyVariable 1 63
@@ -359,7 +359,7 @@ clauses_meet_the_body = refl
 caught_int_is_there : verdict (function 0 1 (Execute (Try Empty (Case 5 (Some 0) 1 (items (Execute (Return (Some (put (copy 1 72 0)))) ∷ [])) NoClauses)) ∷ Execute (Return (Some (put (Number 0)))) ∷ []) 1 87 ∷ []) ≡ None
 caught_int_is_there = refl
 
--- ---- code that is never run, and the ends of functions
+-- ---- unreachable code, and the ends of functions
 
 -- int main(){ int *`U u = NULL; ufree(u); return 0; *u; ufree(u); while (1) ufree(u); }
 never_run : verdict (function 0 1 (Declare 0 Int (Some (put NullPointer)) ∷ Execute (Evaluate (FreeUnique (move 1 37 0))) ∷ Execute (Return (Some (put (Number 0)))) ∷ Execute (Evaluate (Load (target (peek 1 52 0)))) ∷ Execute (Evaluate (FreeUnique (move 1 61 0))) ∷ Execute (While (at 1 65) (Number 1) (Evaluate (FreeUnique (move 1 81 0)))) ∷ []) 1 85 ∷ []) ≡ None
@@ -370,8 +370,8 @@ end_is_reached : verdict (function 0 0 (Execute (If (call callees.Getchar []) (R
 end_is_reached = refl
 
 -- int main(){ while (1) ; }
-end_behind_a_loop : verdict (function 0 0 (Execute (While (at 1 13) (Number 1) Empty) ∷ []) 1 25 ∷ []) ≡ fault faults.MissingReturn 1 25
-end_behind_a_loop = refl
+end_after_a_loop : verdict (function 0 0 (Execute (While (at 1 13) (Number 1) Empty) ∷ []) 1 25 ∷ []) ≡ fault faults.MissingReturn 1 25
+end_after_a_loop = refl
 
 -- int main(){ if (getchar()) return 1; else throw new Div_zero; }
 end_is_never_reached : verdict (function 0 0 (Execute (If (call callees.Getchar []) (Return (Some (put (Number 1)))) (Throw 4 None)) ∷ []) 1 63 ∷ []) ≡ None
@@ -385,7 +385,7 @@ end_without_a_result = refl
 first_function_counts : verdict (function 0 0 [] 1 10 ∷ function 0 1 (Declare 0 Int None ∷ Execute (Return (Some (put (copy 1 38 0)))) ∷ []) 1 41 ∷ []) ≡ fault faults.MissingReturn 1 10
 first_function_counts = refl
 
--- ---- texts of several lines
+-- ---- longer programs
 
 -- void eat(int @`U p){ ufree(p); }
 -- int main(){

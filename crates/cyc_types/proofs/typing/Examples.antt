@@ -1,4 +1,4 @@
--- Worked examples of the typing rules of the whole language, by computation. Each text stands above its verdict.
+-- Examples of the typing rules of the whole language, by computation. Each verdict is preceded by the text of its program.
 use Rattle.std.specs.Prelude.{◌≡◌, ℕ, Bool, true, false, List, [], ◌∷◌, Option, Some, None, Ok, Err, codes, refl}
 use Rattle.cyc_words.specs.declared.fault.Code.{Code}
 use Rattle.cyc_words.specs.declared.fault.Code.TheVariants as faults
@@ -22,7 +22,7 @@ use Rattle.cyc_types.specs.typing.Programs.{check_of}
 abbrev at : ℕ → ℕ → Place
 at l c = record { line = l; column = c }
 
--- the names, with their numbers
+-- the names of the examples, in the order of their numbers
 abbrev texts : List (List ℕ)
 texts = codes "main" ∷ codes "S" ∷ codes "p" ∷ codes "x" ∷ codes "y" ∷ codes "f" ∷ codes "a" ∷ codes "q" ∷ codes "L" ∷ codes "r" ∷ codes "g" ∷ codes "h" ∷ codes "H" ∷ codes "Div_zero" ∷ codes "A" ∷ codes "v" ∷ codes "n" ∷ codes "b" ∷ codes "s" ∷ codes "k" ∷ codes "U" ∷ codes "P" ∷ codes "i" ∷ codes "u" ∷ codes "id" ∷ codes "d" ∷ codes "keep" ∷ codes "B" ∷ codes "get" ∷ codes "is" ∷ []
 
@@ -144,7 +144,7 @@ abbrev refusal : Checked typed.Program → Option Fault
 refusal (Ok p) = None
 refusal (Err f) = Some f
 
--- the fault of a program, if it has one
+-- the fault of a program, if any
 abbrev verdict : List Declaration → Option Fault
 verdict tree = refusal (check_of texts tree)
 

@@ -1,4 +1,4 @@
--- What the rules of expressions and of places derive is well typed.
+-- The rules of expressions and of places derive well-typed trees.
 use Rattle.std.proofs.Common.{◌≡◌, ◌≢◌, ◌⊎◌, ℕ, zero, suc, ◌+◌, ◌<◌, ◌≤◌, Bool, true, false, cond, not, nat_eq, ◌&&◌, ◌||◌, List, [], ◌∷◌, ◌++◌, Option, Some, None, map, length, slice_get, inl, inr, refl, sym, ap, subst, ◌∙◌, arith}
 use Rattle.std.specs.Prelude.{Contains, is_some, unwrap_or}
 use Rattle.std.specs.List.{list_any}
@@ -52,7 +52,7 @@ use Rattle.cyc_types.proofs.typing.TestLemmas.{kept_append, ty_eq-true, int_of, 
 
 -- ---- lists
 
--- there are as many expressions as typed ones
+-- the two lists have equal lengths
 abbrev pub Aligned : Expressions → List typed.Expression → Type 0
 Aligned NoExpressions [] = Unit {0}
 Aligned (MoreExpressions e es) (a ∷ as') = Aligned es as'
@@ -62,7 +62,7 @@ pub aligned : (g : Scope) (es : Expressions) (as' : List typed.Expression) → D
 aligned g NoExpressions as' (u, eq) = subst (Aligned NoExpressions) (sym eq) tt
 aligned g (MoreExpressions e es) as' (a, h, (bs, hs, (u, eq))) = subst (Aligned (MoreExpressions e es)) (sym eq) (aligned g es bs hs)
 
--- a field by its name is there by its number
+-- a field found by its name is found by its number
 field_there : (fs : List Field) (x : ℕ) (t : Ty) → field_among fs x ≡ Some t → slice_get (map (λ (f : Field). f.of_type) fs) (field_number fs x) ≡ Some t
 field_there [] x t h = absurd (cc)
 field_there (f ∷ fs) x t h = go (nat_eq f.name x) h (field_there fs x t)
@@ -82,7 +82,7 @@ abbrev pub in_scope : List LocalVariable → List LocalInScope
 in_scope [] = []
 in_scope (v ∷ vs) = in_scope_of v.sort v (in_scope vs)
 
--- a key, if it is one, is that of a region variable
+-- if the type is a key, its region is a region variable
 abbrev pub IsKeyOfVariable : Ty → Type 0
 IsKeyOfVariable (Key (regions.Variable n)) = Unit {0}
 IsKeyOfVariable (Key r) = ⊥
@@ -95,7 +95,7 @@ module _ (p : typed.Program) (h : typed.Function) where
   abbrev pub all_globals : List Ty
   all_globals = map (λ (g : typed.GlobalVariable). g.of_type) p.globals
 
-  -- what is known where a tree stands, in this scope
+  -- the context of a tree in this scope
   abbrev pub at : Scope → Context
   at g = record {
     structs = p.structs;
@@ -121,7 +121,7 @@ module _ (p : typed.Program) (h : typed.Function) where
   IsMeantCallee callees.Getchar s = s ≡ signature_of_ints []
   IsMeantCallee (callees.Function n) s = slice_get (map signature_of p.functions) n ≡ Some s
 
-  -- where these locals are in scope, and so many `for` stand around
+  -- the meaning of a name is correct in the scope of these locals and this many enclosing `for`s
   abbrev pub IsMeant : List LocalInScope → ℕ → Meaning → Type 0
   IsMeant vs n Unknown = Unit {0}
   IsMeant vs n (scopes.Variable (typed.Local q m) t home) = ((r : ℕ) × HasPlace vs m t r × (home ≡ regions.Variable r)) × (slice_get all_variables m ≡ Some t) × IsKeyOfVariable t
@@ -131,7 +131,7 @@ module _ (p : typed.Program) (h : typed.Function) where
   IsMeant vs n (Counter l) = l < n
   IsMeant vs n (Routine f s) = IsMeantCallee f s
 
-  -- a function or a global
+  -- the meaning is a function or a global
   abbrev pub IsMeantDeclared : Meaning → Type 0
   IsMeantDeclared Unknown = Unit {0}
   IsMeantDeclared (scopes.Variable (typed.Local q m) t home) = ⊥
@@ -149,7 +149,7 @@ module _ (p : typed.Program) (h : typed.Function) where
   AreKnown n [] = Unit {0}
   AreKnown n (v ∷ vs) = IsKnownLocal n v.sort v × AreKnown n vs
 
-  -- an exception of the language, or one that the program declares
+  -- the exception is a built-in one or one that the program declares
   abbrev pub IsExceptionOf : ℕ → Bool → Type 0
   IsExceptionOf n has = ((1 ≤ n) × (n < 5) × (has ≡ false)) ⊎ ((m : ℕ) × (n ≡ 5 + m) × (slice_get p.exceptions m ≡ Some has))
 
@@ -178,18 +178,18 @@ module _ (p : typed.Program) (h : typed.Function) where
   by_cond vs n true m k i j = i
   by_cond vs n false m k i j = j
 
-  behind_one : (w : LocalInScope) (vs : List LocalInScope) (n : ℕ) (m : Meaning) → IsMeant vs n m → IsMeant (w ∷ vs) n m
-  behind_one w vs n Unknown k = tt
-  behind_one w vs n (scopes.Variable (typed.Local q m) t home) ((r, there, e), known, key) = ((r, inr there, e), known, key)
-  behind_one w vs n (scopes.Variable (typed.Global m) t home) k = k
-  behind_one w vs n (Fixed (typed.Local q m) t) ((r, there), known, moved) = ((r, inr there), known, moved)
-  behind_one w vs n (Fixed (typed.Global m) t) k = k
-  behind_one w vs n (Counter l) k = k
-  behind_one w vs n (Routine f s) k = k
+  after_one : (w : LocalInScope) (vs : List LocalInScope) (n : ℕ) (m : Meaning) → IsMeant vs n m → IsMeant (w ∷ vs) n m
+  after_one w vs n Unknown k = tt
+  after_one w vs n (scopes.Variable (typed.Local q m) t home) ((r, there, e), known, key) = ((r, inr there, e), known, key)
+  after_one w vs n (scopes.Variable (typed.Global m) t home) k = k
+  after_one w vs n (Fixed (typed.Local q m) t) ((r, there), known, moved) = ((r, inr there), known, moved)
+  after_one w vs n (Fixed (typed.Global m) t) k = k
+  after_one w vs n (Counter l) k = k
+  after_one w vs n (Routine f s) k = k
 
   further : (s : Sort) (v : LocalVariable) (vs : List LocalInScope) (n : ℕ) (m : Meaning) → IsMeant vs n m → IsMeant (in_scope_of s v vs) n m
-  further Ordinary v vs n m k = behind_one _ vs n m k
-  further OfRegion v vs n m k = behind_one _ vs n m k
+  further Ordinary v vs n m k = after_one _ vs n m k
+  further OfRegion v vs n m k = after_one _ vs n m k
   further OfLoop v vs n m k = k
 
   newest : (s : Sort) (v : LocalVariable) (q : Place) (vs : List LocalInScope) (n : ℕ) → IsKnownLocal n s v → IsMeant (in_scope_of s v vs) n (local_meaning s v q)
@@ -254,7 +254,7 @@ module _ (p : typed.Program) (h : typed.Function) where
     abbrev pub IsWell : typed.Expression → Type 0
     IsWell a = WellTyped here a (type_of a)
 
-    -- in a place where a value is only looked at
+    -- a well-typed expression or a peek, as a value that is only looked at
     abbrev pub IsSeen : typed.Expression → ValueType → Type 0
     IsSeen a v = WellTyped here a v ⊎ IsPeek here a v
 
@@ -269,7 +269,7 @@ module _ (p : typed.Program) (h : typed.Function) where
     pub int_well : (a : typed.Expression) → IsWell a → is_int (type_of a) ≡ true → WellTyped here a (Value Int)
     int_well a w i = subst (WellTyped here a) (int_of (type_of a) i) w
 
-    -- ---- a char that serves as an int
+    -- ---- a char used as an int
 
     by_char : (a : typed.Expression) (b : Bool) → is_char (type_of a) ≡ b → IsWell a → IsWell (cond b (typed.Unary unary.Widen a) a)
     by_char a true e w = (Value Char, (subst (WellTyped here a) (char_of (type_of a) e) w, refl), refl)
@@ -278,7 +278,7 @@ module _ (p : typed.Program) (h : typed.Function) where
     pub int_served : (a : typed.Expression) → IsWell a → IsWell (as_int a)
     int_served a w = by_char a (is_char (type_of a)) refl w
 
-    -- a peek is that of a unique pointer, and stays as it is
+    -- a peek of a unique pointer is not converted
     peek_served : (q : Place) (n : ℕ) (t : Ty) → IsVariable here (typed.Local q n) t → is_unique t ≡ true → IsSeen (as_int (typed.Peek q n t)) (type_of (as_int (typed.Peek q n t)))
     peek_served q n (Pointer k t r) v u = inr (v, u, refl)
     peek_served q n t v u = absurd (cc)
@@ -357,7 +357,7 @@ module _ (p : typed.Program) (h : typed.Function) where
     seen_well (Bracketed q e) walked a w d = seen_well e walked a w d
     seen_well e walked a w d = inl (w a d)
 
-    -- what is looked at and is no unique pointer, is well typed as it stands
+    -- an expression that is only looked at and is not a unique pointer is well-typed as it is
     plain_of : (a : typed.Expression) (v : ValueType) → IsSeen a v → is_value is_unique v ≡ false → WellTyped here a v
     plain_of a v (inl w) n = w
     plain_of (typed.Peek q m t) v (inr (k, u, e)) n = absurd (true≢false (sym u ∙ ap (is_value is_unique) (sym e) ∙ n))
@@ -379,7 +379,7 @@ module _ (p : typed.Program) (h : typed.Function) where
     place_well (Counter n) q o x k d = absurd d
     place_well (Routine f s) q o x k d = absurd d
 
-    -- a cell is one where what it asks is kept
+    -- a cell is well-typed if its demands are satisfied
     abbrev IsReached : Reached → Type 0
     IsReached w = AllKept w.asked → IsCell here w.cell (type_of_place w.cell) w.region
 
@@ -403,7 +403,7 @@ module _ (p : typed.Program) (h : typed.Function) where
     indexed_well : (q o : Place) (a b : typed.Expression) → IsSeen a (type_of a) → IsWell b → IsReached (indexed g q a o b)
     indexed_well q o a b s w (i, (j, (l, u))) = indexed_by a b (type_of a) s i (int_well b w j) (live_of (region_of (value_of (type_of a))) l)
 
-    -- what has a field by this name has it among its types
+    -- the type of a field found by its name is among the struct's field types
     member_there : (n x : ℕ) (o : Option (List Field)) → slice_get g.fields n ≡ o → is_some (field_among (unwrap_or o []) x) ≡ true
         → (s : typed.StructType) × (v : Ty) × (slice_get p.structs n ≡ Some s) × (slice_get s.fields (field_number (unwrap_or o []) x) ≡ Some v) × (field_among (unwrap_or o []) x ≡ Some v)
     member_there n x None e k = absurd (cc)
@@ -466,7 +466,7 @@ module _ (p : typed.Program) (h : typed.Function) where
     operand_served true a w = seen_served a w
     operand_served false a w = int_served a w
 
-    -- what an operation puts in front of a chain goes on from a left operand of this type
+    -- an operation put before a chain continues from a left operand of this type
     abbrev IsJoined : ValueType → Joined → Type 0
     IsJoined left j = (os : typed.Operations) (u : Ty) → IsChain here (Value j.1) os u → IsChain here left (j.0 os) u
 
@@ -584,7 +584,7 @@ module _ (p : typed.Program) (h : typed.Function) where
       joined_well operators.Divide j w d = ints_well binary.Divide j w d
       joined_well operators.Remainder j w d = ints_well binary.Remainder j w d
 
-    -- the first operand of a chain, in front of its first operator
+    -- the first operand of a chain, before its first operator
     module _ (q o : Place) (a b : typed.Expression) where
       abbrev IsFirst : Joined → Type 0
       IsFirst j = (os : typed.Operations) → IsLeft (IsWell a) here a (type_of a) (j.0 os)

@@ -1,4 +1,4 @@
--- What the typing rules derive declares no type with a region that is not there yet.
+-- The typing rules derive no declaration of a type with an unknown region.
 use Rattle.std.proofs.Common.{◌≡◌, ℕ, zero, suc, ◌+◌, ◌<◌, ◌≤◌, Bool, true, false, cond, nat_eq, List, [], ◌∷◌, ◌++◌, Option, Some, None, map, length, slice_get, inl, inr, refl, sym, ap, subst, ◌∙◌, arith}
 use Rattle.std.specs.Prelude.{unwrap_or, codes}
 use Rattle.std.proofs.lemmas.Bool.{true≢false, not-true}
@@ -19,13 +19,13 @@ use Rattle.cyc_types.specs.TypedTrees.{Converted, Signature, type_of}
 use Rattle.cyc_types.specs.TypedTrees as typed
 use Rattle.cyc_types.specs.Rules.{AllKept, Derives}
 use Rattle.cyc_types.specs.typing.Scopes.{signature_of_ints, RegionName, StructName, Field, Sort, Ordinary, OfRegion, Meaning, Unknown, Fixed, Counter, Routine, LocalVariable, Scope}
-use Rattle.cyc_types.specs.typing.Scopes.{region_among, meaning_in, meaning_of, behind, in_block, with_name, in_labelled, in_body, with_local, with_opened, with_region, with_key_opened}
+use Rattle.cyc_types.specs.typing.Scopes.{region_among, meaning_in, meaning_of, following, in_block, with_name, in_labelled, in_body, with_local, with_opened, with_region, with_key_opened}
 use Rattle.cyc_types.specs.typing.Scopes as scopes
 use Rattle.cyc_types.specs.typing.Tests.{is_key, region_of}
 use Rattle.cyc_types.specs.typing.Formation.{Naming, left_out_at, region_or, base_written, pointers_written, type_for, after_type, types_for, base_for, after_base, pointers_for, after_mark, mark_for, after_region, regions_for, is_key_base, base_demanded, type_demanded}
 use Rattle.cyc_types.specs.typing.Formation as formation
-use Rattle.cyc_types.specs.typing.Statements.{exception_among, left_out_of, rule_initial, opened, alias_type, aliased, with_caught, behind_clause, behind_item, rule_statement, rule_body, rule_items, rule_clauses}
-use Rattle.cyc_types.specs.typing.Heads.{Known, structs_of, parameter_names, fields_written, fields_of, members_of, parameter_naming, signature_of, declared_from, rule_fields, rule_parameters, rule_function_head, Before, after_head, rule_heads}
+use Rattle.cyc_types.specs.typing.Statements.{exception_among, left_out_of, rule_initial, opened, alias_type, aliased, with_caught, after_clause, following_item, rule_statement, rule_body, rule_items, rule_clauses}
+use Rattle.cyc_types.specs.typing.DeclarationRules.{Known, structs_of, parameter_names, fields_written, fields_of, members_of, parameter_naming, signature_of, declared_from, rule_fields, rule_parameters, rule_function_head, Before, after_head, rule_declarations}
 use Rattle.cyc_types.specs.typing.Programs.{declared_before, known_of, before_all, Program, program_known, parameter_locals, body_scope, rule_functions, globals_of, struct_types, IsTypedProgram}
 use Rattle.cyc_types.specs.inside.typing.Formed.{AllOf, AllIn, IsKnown, IsFormedStatement, AreFormedItems, AreFormedClauses, AreFormedFunctions, AreFormedGlobals, AreFormedFields, AreFormedStructs, IsFormedProgram}
 use Rattle.cyc_types.proofs.typing.TestLemmas.{kept_append}
@@ -35,9 +35,9 @@ use Rattle.cyc_types.proofs.typing.CountLemmas.{statement_counted, items_counted
 use Rattle.cyc_types.specs.typing.WellTyped.{IsNamed, AreNamed, IsNamedIn, AreNamedIn}
 use Rattle.cyc_types.proofs.typing.FormedLemmas.{known_more, IsCounted, IsFormed, formed_more, IsFormedValue, region_formed, name_known, arguments_counted, written_formed, AreFormedLocals, locals_more, IsFormedMeaning, IsFormedResult, AreFormedFieldTypes, IsFormedScope, meant_formed, formed_well}
 
--- ---- a scope is formed further on
+-- ---- well-formedness of later scopes
 
--- where regions were declared meanwhile
+-- a scope stays well-formed when regions are declared in between
 going_on : (g : Scope) (n m : ℕ) (taken : List ℕ) → g.next_region ≤ m → IsFormedScope g → IsFormedScope (record g { next_local = n; next_region = m; taken = taken })
 going_on g n m taken l formed = record {
   names = λ x r e. known_more g.next_region m r l (formed.names x r e);
@@ -56,7 +56,7 @@ entering g formed = record {
   fields = formed.fields;
 }
 
--- the next region has a name, and is there
+-- a scope stays well-formed when the next region is declared with a name
 named : (g : Scope) (r : Named) → IsFormedScope g → (x : ℕ) (s : RegionCode) → region_among (with_name r g).names x ≡ Some s → IsKnown (suc g.next_region) s
 named g r formed x s e = go (nat_eq r.name x) e
   where
@@ -73,7 +73,7 @@ labelled g r formed = record {
   fields = formed.fields;
 }
 
--- a region is declared in a block
+-- a scope stays well-formed when a region is declared in a block
 declaring_region : (g : Scope) (r : Named) → IsFormedScope g → IsFormedScope (with_region r g)
 declaring_region g r formed = record {
   names = named g r formed;
@@ -83,7 +83,7 @@ declaring_region g r formed = record {
   fields = formed.fields;
 }
 
--- what is live makes no difference
+-- well-formedness of a scope does not depend on which regions are live
 opening : (g h : Scope) → IsFormedScope g → h.names ≡ g.names → h.next_region ≡ g.next_region → h.locals ≡ g.locals → h.region ≡ g.region → h.structs ≡ g.structs → h.program ≡ g.program → h.fields ≡ g.fields → IsFormedScope h
 opening g h formed e1 e2 e3 e4 e5 e6 e7 = record {
   names = λ x r e. subst (λ n. IsKnown n r) (sym e2) (formed.names x r (ap (λ ns. region_among ns x) (sym e1) ∙ e));
@@ -126,7 +126,7 @@ initial_formed g formed w x (Some e) c kept (a, ka, (k, eq)) =
     subst (λ (z : Ty × Option Converted). IsFormed g.structs g.next_region z.0) (sym eq)
     (written_formed g.structs g.names g.next_region formed.names None (left_out_of (type_of a)) w (left_out_known g.structs g.next_region (type_of a) (formed_well g formed e a ka)) kept)
 
--- the region of a key is the one of the name
+-- opening a key gives the region that is named
 opened_formed : (g : Scope) (formed : IsFormedScope g) (r h : Named) (m : Meaning) (q : Place) (j : typed.Item) → Derives (opened g r h m q) j → (n k : ℕ) × (j ≡ typed.OpenRegion n g.next_local q k)
 opened_formed g formed r h Unknown q j d = absurd d
 opened_formed g formed r h (scopes.Variable l t home) q j (kept, eq) = (_, _, eq)
@@ -134,7 +134,7 @@ opened_formed g formed r h (Fixed l t) q j (kept, eq) = (_, _, eq)
 opened_formed g formed r h (Counter n) q j (kept, eq) = (_, _, eq)
 opened_formed g formed r h (Routine f s) q j d = absurd d
 
--- a type that is written behind the new region, for what a name means
+-- the type of an alias, which is written after its new region
 aliased_formed : (g : Scope) (formed : IsFormedScope g) (r x : Named) (w : WrittenType) (m : Meaning) (q : Place) (j : typed.Item) → IsFormedMeaning g.structs g.next_region m
     → AllKept (type_demanded g.structs (with_name r g).names None w) → Derives (aliased g r x w m q) j → (t : Ty) × (k : ℕ) × (j ≡ typed.DeclareAlias g.next_region g.next_local t q k) × IsFormed g.structs (suc g.next_region) t
 aliased_formed g formed r x w Unknown q j k kept d = absurd d
@@ -161,7 +161,7 @@ mutual
   statement_formed g formed (IfElse q e s v) t (a, d, (b, ds, (c, es, (u, eq)))) =
       subst (IsFormedStatement g.next_region) (sym eq) (
         statement_formed g formed s b ds,
-        subst (λ n. IsFormedStatement (g.next_region + n) c) (sym (statement_counted g s b ds).1) (statement_formed (behind g s) (going_on g _ _ _ (omega arith) formed) v c es),
+        subst (λ n. IsFormedStatement (g.next_region + n) c) (sym (statement_counted g s b ds).1) (statement_formed (following g s) (going_on g _ _ _ (omega arith) formed) v c es),
       )
   statement_formed g formed (While q e s) t (a, d, (b, ds, (u, eq))) = subst (IsFormedStatement g.next_region) (sym eq) (statement_formed (in_body g) (looping g formed) s b ds)
   statement_formed g formed (Return q v) t (c, d, (u, eq)) = subst (IsFormedStatement g.next_region) (sym eq) tt
@@ -171,7 +171,7 @@ mutual
   statement_formed g formed (Try q s cs) t (b, ds, (es, ks, (u, eq))) =
       subst (IsFormedStatement g.next_region) (sym eq) (
         statement_formed g formed s b ds,
-        subst (λ n. AreFormedClauses (g.next_region + n) es) (sym (statement_counted g s b ds).1) (clauses_formed (behind g s) (going_on g _ _ _ (omega arith) formed) [] cs es ks),
+        subst (λ n. AreFormedClauses (g.next_region + n) es) (sym (statement_counted g s b ds).1) (clauses_formed (following g s) (going_on g _ _ _ (omega arith) formed) [] cs es ks),
       )
 
   body_formed : (g : Scope) → IsFormedScope g → (c : Body) (js : typed.Items) → Derives (rule_body g c) js → AreFormedItems g.next_region js
@@ -182,30 +182,30 @@ mutual
   items_formed g formed (MoreItems (Execute s) is) js (j, (t, d, (u, is_j)), (ks, ds, (v, eq))) =
       subst (AreFormedItems g.next_region) (sym (eq ∙ ap (λ i. typed.MoreItems i ks) is_j)) (
         statement_formed g formed s t d,
-        subst (λ n. AreFormedItems (g.next_region + n) ks) (sym (statement_counted g s t d).1) (items_formed (behind g s) (going_on g _ _ _ (omega arith) formed) is ks ds),
+        subst (λ n. AreFormedItems (g.next_region + n) ks) (sym (statement_counted g s t d).1) (items_formed (following g s) (going_on g _ _ _ (omega arith) formed) is ks ds),
       )
   items_formed g formed (MoreItems (Local w x v) is) js (j, (u, (kept, y), (c, d, (z, is_j))), (ks, ds, (q, eq))) =
       let f = initial_formed g formed w x v c kept d in
       subst (AreFormedItems g.next_region) (sym (eq ∙ ap (λ i. typed.MoreItems i ks) is_j)) (
         f.0,
-        items_formed (with_local Ordinary x c.0 g) (declaring g Ordinary x c.0 f formed) is ks (subst (λ i. Derives (rule_items (behind_item g (Local w x v) i) is) ks) is_j ds),
+        items_formed (with_local Ordinary x c.0 g) (declaring g Ordinary x c.0 f formed) is ks (subst (λ i. Derives (rule_items (following_item g (Local w x v) i) is) ks) is_j ds),
       )
   items_formed g formed (MoreItems (Region r x None) is) js (j, (kept, is_j), (ks, ds, (z, eq))) =
       subst (AreFormedItems g.next_region) (sym (eq ∙ ap (λ i. typed.MoreItems i ks) is_j))
-      (items_formed (behind_item g (Region r x None) j) (declaring (with_opened _ r g) OfRegion x (Handle (regions.Variable g.next_region)) ((let l : g.next_region < suc g.next_region = omega arith in l), tt) (opened_in g _ r formed)) is ks ds)
+      (items_formed (following_item g (Region r x None) j) (declaring (with_opened _ r g) OfRegion x (Handle (regions.Variable g.next_region)) ((let l : g.next_region < suc g.next_region = omega arith in l), tt) (opened_in g _ r formed)) is ks ds)
   items_formed g formed (MoreItems (Region r x (Some y)) is) js (j, (u, ku, d), (ks, ds, (z, eq))) =
       let (m, o, is_j) = opened_formed g formed r x (meaning_of g y) y.place j d in
       subst (AreFormedItems g.next_region) (sym (eq ∙ ap (λ i. typed.MoreItems i ks) is_j))
-      (items_formed (behind_item g (Region r x (Some y)) j)
+      (items_formed (following_item g (Region r x (Some y)) j)
       (declaring (with_key_opened (formation.region_of g.names r) g) OfRegion x (Handle (formation.region_of g.names r)) (name_known g.structs g.names g.next_region formed.names r, tt) (key_opened_in g (formation.region_of g.names r) formed)) is ks ds)
   items_formed g formed (MoreItems (Alias r w x y) is) js (j, (u, ku, (v, (kept, kv), d)), (ks, ds, (z, eq))) =
       let (t, o, is_j, f) = aliased_formed g formed r x w (meaning_of g y) y.place j (meant_formed g formed y) kept d in
       subst (AreFormedItems g.next_region) (sym (eq ∙ ap (λ i. typed.MoreItems i ks) is_j))
       (items_formed (with_local Ordinary x t (with_opened _ r g)) (declaring (with_opened _ r g) Ordinary x t f (opened_in g _ r formed)) is ks
-      (subst (λ i. Derives (rule_items (behind_item g (Alias r w x y) i) is) ks) is_j ds))
+      (subst (λ i. Derives (rule_items (following_item g (Alias r w x y) i) is) ks) is_j ds))
   items_formed g formed (MoreItems (DynamicRegion r x) is) js (j, (kept, is_j), (ks, ds, (z, eq))) =
       subst (AreFormedItems g.next_region) (sym (eq ∙ ap (λ i. typed.MoreItems i ks) is_j))
-      (items_formed (behind_item g (DynamicRegion r x) j) (declaring (with_region r g) Ordinary x (Key (regions.Variable g.next_region)) ((let l : g.next_region < suc g.next_region = omega arith in l), tt) (declaring_region g r formed)) is ks ds)
+      (items_formed (following_item g (DynamicRegion r x) j) (declaring (with_region r g) Ordinary x (Key (regions.Variable g.next_region)) ((let l : g.next_region < suc g.next_region = omega arith in l), tt) (declaring_region g r formed)) is ks ds)
 
   clauses_formed : (g : Scope) → IsFormedScope g → (before : List ℕ) (cs : Clauses) (ds : typed.Clauses) → Derives (rule_clauses g before cs) ds → AreFormedClauses g.next_region ds
   clauses_formed g formed before NoClauses ds (u, eq) = subst (AreFormedClauses g.next_region) (sym eq) tt
@@ -214,19 +214,19 @@ mutual
       let counts = items_counted (with_caught v (in_block g)) is js d in
       subst (AreFormedClauses g.next_region) (sym eq) (
         subst (λ m. AreFormedItems m js) (caught_same g v) (items_formed (with_caught v (in_block g)) (caught_in (in_block g) v (entering g formed)) is js d),
-        subst (λ m. AreFormedClauses (g.next_region + suc m) es) (sym counts.1) (clauses_formed (behind_clause g _ is) (going_on g _ _ _ (omega arith) formed) (x.name ∷ before) cs es ks),
+        subst (λ m. AreFormedClauses (g.next_region + suc m) es) (sym counts.1) (clauses_formed (after_clause g _ is) (going_on g _ _ _ (omega arith) formed) (x.name ∷ before) cs es ks),
       )
 
--- ---- heads
+-- ---- signatures
 
--- the names that are there before a text are those of no variable
+-- the built-in region names denote no variables
 base_known : (names : List RegionName) → IsBase names → (x : ℕ) (r : RegionCode) → region_among names x ≡ Some r → IsKnown 0 r
 base_known names base x r e = elim (base x) [ inl none ↦ absurd (none-some r (sym none ∙ e)) | inr (inl heap) ↦ subst (IsKnown 0) (from_some regions.Heap r (sym heap ∙ e)) tt | inr (inr unique) ↦ subst (IsKnown 0) (from_some regions.Unique r (sym unique ∙ e)) tt ]
   where
     from_some : (a b : RegionCode) → Some a ≡ Some b → a ≡ b
     from_some a b f = ap (λ (o : Option RegionCode). unwrap_or o a) f
 
--- the parameters of a struct, from this number on
+-- the region parameters of a struct, from this number on
 pub parameter_regions_known : (rs : List Named) (n : ℕ) (names : List RegionName) → ((x : ℕ) (r : RegionCode) → region_among names x ≡ Some r → IsKnown 0 r)
     → (x : ℕ) (r : RegionCode) → region_among (parameter_names rs n names) x ≡ Some r → IsKnown (n + length rs) r
 parameter_regions_known [] n names known x r e = known_more 0 (n + 0) r (omega arith) (known x r e)
@@ -237,10 +237,10 @@ parameter_regions_known (q ∷ rs) n names known x r e = go (nat_eq q.name x) e 
     go true f rest = subst (λ (o : Option RegionCode). IsKnown (n + suc (length rs)) (unwrap_or o regions.Heap)) f (let l : n < n + suc (length rs) = omega arith in l)
     go false f rest = rest f
 
--- no type with a mark is a key
-no_key_behind : (names : List RegionName) (d : RegionCode) (t : Ty) (m : Mark) (ms : List Mark) → is_key (pointers_written names d t (m ∷ ms)) ≡ false
-no_key_behind names d t m [] = refl
-no_key_behind names d t m (n ∷ ms) = no_key_behind names d (types.Pointer m.kind t (region_or names (left_out_at d (n ∷ ms)) m.region)) n ms
+-- a type with a mark is not a key
+no_key_after : (names : List RegionName) (d : RegionCode) (t : Ty) (m : Mark) (ms : List Mark) → is_key (pointers_written names d t (m ∷ ms)) ≡ false
+no_key_after names d t m [] = refl
+no_key_after names d t m (n ∷ ms) = no_key_after names d (types.Pointer m.kind t (region_or names (left_out_at d (n ∷ ms)) m.region)) n ms
 
 no_key_written : (structs : List StructName) (names : List RegionName) (d : RegionCode) (b : BaseType) (ms : List Mark) → is_key_base b ≡ false → is_key (pointers_written names d (base_written structs names b) ms) ≡ false
 no_key_written structs names d written.Int [] k = refl
@@ -248,7 +248,7 @@ no_key_written structs names d written.Char [] k = refl
 no_key_written structs names d (written.Struct s rs) [] k = refl
 no_key_written structs names d (written.Handle r) [] k = refl
 no_key_written structs names d (written.Key r) [] k = absurd (true≢false k)
-no_key_written structs names d b (m ∷ ms) k = no_key_behind names d (base_written structs names b) m ms
+no_key_written structs names d b (m ∷ ms) k = no_key_after names d (base_written structs names b) m ms
 
 -- ---- parameters
 
@@ -327,13 +327,13 @@ module _ (k : Known) (base : IsBase k.regions) where
       let rest = fields_formed names n (m.name.name ∷ before) ms u known d in
       ((one, rest.0), (one.0, no_key_written k.structs names regions.Heap m.of_type.base m.of_type.marks (not-true (is_key_base m.of_type.base) no_key), rest.1))
 
-  heads_formed : (b : Before) (tree : List Declaration) → Derives (rule_heads k b tree) tt
+  declarations_formed : (b : Before) (tree : List Declaration) → Derives (rule_declarations k b tree) tt
       → ((n : ℕ) (fs : List Field) → slice_get (fields_of k tree) n ≡ Some fs → (s : StructName) × (slice_get (structs_of tree) n ≡ Some s) × AreFormedFieldTypes k.structs s.parameters fs)
       × AreFormedStructs (struct_types (structs_of tree) (fields_of k tree)) × AreFormedGlobals (globals_of k tree)
       × ((n m x : ℕ) → IsFormedMeaning k.structs 0 (meaning_in (declared_from k n m tree) x))
-  heads_formed b [] d = ((λ n fs e. absurd (cc)), tt, tt, (λ n m x. tt))
-  heads_formed b (StructType s rs ms ∷ ds) (u, (v, new, (w, distinct, fields)), d) =
-      let (types, structs, globals, meanings) = heads_formed (after_head b (StructType s rs ms)) ds d in
+  declarations_formed b [] d = ((λ n fs e. absurd (cc)), tt, tt, (λ n m x. tt))
+  declarations_formed b (StructType s rs ms ∷ ds) (u, (v, new, (w, distinct, fields)), d) =
+      let (types, structs, globals, meanings) = declarations_formed (after_head b (StructType s rs ms)) ds d in
       let (one, two) = fields_formed (parameter_names rs 0 k.regions) (length rs) [] ms u (λ x r e. known_more (0 + length rs) (length rs) r (omega arith) (parameter_regions_known rs 0 k.regions (base_known k.regions base) x r e)) fields in
       ((λ n fs e. there n fs one types e), (two, structs), globals, meanings)
     where
@@ -342,17 +342,17 @@ module _ (k : Known) (base : IsBase k.regions) where
           → slice_get (fields_of k (StructType s rs ms ∷ ds)) n ≡ Some fs → (t : StructName) × (slice_get (structs_of (StructType s rs ms ∷ ds)) n ≡ Some t) × AreFormedFieldTypes k.structs t.parameters fs
       there zero fs one rest e = (_, refl, subst (λ (o : Option (List Field)). AreFormedFieldTypes k.structs (length rs) (unwrap_or o [])) e one)
       there (suc n) fs one rest e = rest n fs e
-  heads_formed b (Exceptions cs ∷ ds) (u, hd, d) = heads_formed (after_head b (Exceptions cs)) ds d
-  heads_formed b (Global w x v ∷ ds) (u, (o, (kept, e), more), d) =
-      let (types, structs, globals, meanings) = heads_formed (after_head b (Global w x v)) ds d in
+  declarations_formed b (Exceptions cs ∷ ds) (u, hd, d) = declarations_formed (after_head b (Exceptions cs)) ds d
+  declarations_formed b (Global w x v ∷ ds) (u, (o, (kept, e), more), d) =
+      let (types, structs, globals, meanings) = declarations_formed (after_head b (Global w x v)) ds d in
       let one = written_formed k.structs k.regions 0 (base_known k.regions base) None regions.Heap w tt (kept_append (type_demanded k.structs k.regions None w) _ kept).0 in
       (types, structs, (one.0, globals), (λ n m y. by_cond (nat_eq x.name y) _ _ (one, tt) (meanings (suc n) m y)))
     where
       by_cond : (c : Bool) (m n : Meaning) → IsFormedMeaning k.structs 0 m → IsFormedMeaning k.structs 0 n → IsFormedMeaning k.structs 0 (cond c m n)
       by_cond true m n i j = i
       by_cond false m n i j = j
-  heads_formed b (Function r x ps c ∷ ds) (u, hd, d) =
-      let (types, structs, globals, meanings) = heads_formed (after_head b (Function r x ps c)) ds d in
+  declarations_formed b (Function r x ps c ∷ ds) (u, hd, d) =
+      let (types, structs, globals, meanings) = declarations_formed (after_head b (Function r x ps c)) ds d in
       (types, structs, globals, (λ n m y. by_cond (nat_eq x.name y) _ _ (result_formed b.names r x ps hd) (meanings n (suc m) y)))
     where
       by_cond : (c : Bool) (m n : Meaning) → IsFormedMeaning k.structs 0 m → IsFormedMeaning k.structs 0 n → IsFormedMeaning k.structs 0 (cond c m n)
@@ -386,7 +386,7 @@ module _ (k : Known) (base : IsBase k.regions) where
           go false f = known y t f
 
   functions_formed : (q : Program) → q.known ≡ k → (fields : (n : ℕ) (fs : List Field) → slice_get q.fields n ≡ Some fs → (s : StructName) × (slice_get k.structs n ≡ Some s) × AreFormedFieldTypes k.structs s.parameters fs)
-      → ((x : ℕ) → IsFormedMeaning k.structs 0 (meaning_in q.declared x)) → (b : Before) (tree : List Declaration) (hs : List typed.Function) → Derives (rule_heads k b tree) tt → Derives (rule_functions q tree) hs → AreFormedFunctions hs
+      → ((x : ℕ) → IsFormedMeaning k.structs 0 (meaning_in q.declared x)) → (b : Before) (tree : List Declaration) (hs : List typed.Function) → Derives (rule_declarations k b tree) tt → Derives (rule_functions q tree) hs → AreFormedFunctions hs
   functions_formed q same fields meanings b [] hs heads (u, eq) = subst AreFormedFunctions (sym eq) tt
   functions_formed q same fields meanings b (StructType s rs ms ∷ tree) hs (u, hd, heads) d = functions_formed q same fields meanings (after_head b (StructType s rs ms)) tree hs heads d
   functions_formed q same fields meanings b (Exceptions cs ∷ tree) hs (u, hd, heads) d = functions_formed q same fields meanings (after_head b (Exceptions cs)) tree hs heads d
@@ -399,7 +399,7 @@ pub program_formed : (texts : List (List ℕ)) (tree : List Declaration) (p : ty
 program_formed texts tree p (u, heads, (v, main, (fs, functions, (w, eq)))) =
     let k : Known = known_of texts tree in
     let base : IsBase k.regions = base_before texts in
-    let (fields, structs, globals, meanings) = heads_formed k base (before_all texts) tree heads in
+    let (fields, structs, globals, meanings) = declarations_formed k base (before_all texts) tree heads in
     subst IsFormedProgram (sym eq) (record {
       functions = functions_formed k base (program_known texts tree) refl fields (λ x. language k x (meanings 0 0 x)) (before_all texts) tree fs heads functions;
       globals = globals;

@@ -1,4 +1,4 @@
--- What a function's head names: the regions of its types are those that its parameters declare, the heap's, or that of unique pointers.
+-- The regions of a signature: those that its parameters declare, the heap, and the unique region.
 use Rattle.std.proofs.Common.{◌≡◌, ◌≢◌, ◌⊎◌, ℕ, zero, suc, ◌+◌, ◌<◌, ◌≤◌, Bool, true, false, cond, not, nat_eq, ◌&&◌, ◌||◌, List, [], ◌∷◌, Option, Some, None, map, replicate, inl, inr, refl, sym, ap, subst, ◌∙◌, arith}
 use Rattle.std.specs.Prelude.{is_some, unwrap_or}
 use Rattle.std.proofs.lemmas.Bool.{and_parts, and_from, or_left, eqb-true, true≢false, not-true}
@@ -15,18 +15,18 @@ use Rattle.cyc_types.specs.Rules.{AllKept, Derives}
 use Rattle.cyc_types.specs.typing.Scopes.{RegionName, StructName, region_among}
 use Rattle.cyc_types.specs.typing.Formation.{region_of, region_or, base_written, left_out_at, pointers_written, Naming, region_for, after_known, after_region, mark_for, after_mark, regions_for, after_regions}
 use Rattle.cyc_types.specs.typing.Formation.{base_for, after_base, pointers_for, after_marks, type_for, after_type, types_for, after_members, is_known, is_name_of, base_demanded, type_demanded, is_key_of}
-use Rattle.cyc_types.specs.typing.Heads.{Known, result_written, has_key, and_result, without_keys, effect_of, constraints_of, rule_parameters, effect_demanded, rule_effect, constraints_demanded}
+use Rattle.cyc_types.specs.typing.DeclarationRules.{Known, result_written, has_key, and_result, without_keys, effect_of, constraints_of, rule_parameters, effect_demanded, rule_effect, constraints_demanded}
 use Rattle.cyc_types.specs.typing.WellTyped.{IsNamed, AreNamed, IsNamedIn, AreNamedIn, IsNamedResult, AreConstraints, IsKeyless, AreKeyless}
 use Rattle.cyc_types.proofs.RegionLemmas.{region_eq-refl}
 use Rattle.cyc_types.proofs.ClosureLemmas.{not_unique}
 use Rattle.cyc_types.proofs.typing.TestLemmas.{kept_append}
 use Rattle.cyc_types.proofs.typing.ExpressionLemmas.{IsKeyOfVariable}
 
--- names that are there already stand for the heap or for unique pointers
+-- the built-in names denote the heap or the unique region
 abbrev pub IsBase : List RegionName → Type 0
 IsBase names = (x : ℕ) → (region_among names x ≡ None) ⊎ ((region_among names x ≡ Some Heap) ⊎ (region_among names x ≡ Some Unique))
 
--- a name stands for what it stood for before, or for a variable below this one
+-- a name denotes what it denoted before, or a variable below this number
 abbrev IsOld : ℕ → (before now : Option Region) → Type 0
 IsOld next before now = (now ≡ before) ⊎ ((m : ℕ) × (now ≡ Some (Variable m)) × (1 ≤ m) × (m < next) × (before ≡ None))
 
@@ -34,7 +34,7 @@ old_weaker : (n m : ℕ) (before now : Option Region) → n ≤ m → IsOld n be
 old_weaker n m before now l (inl e) = inl e
 old_weaker n m before now l (inr (k, is, one, below, none)) = inr (k, is, one, (omega arith), none)
 
--- a region that a name stands for is one of the first k variables, or no variable
+-- the region of a name is one of the first k variables, or no variable
 named_of : (k n : ℕ) (before : Option Region) (now : Option Region) → (before ≡ None) ⊎ ((before ≡ Some Heap) ⊎ (before ≡ Some Unique)) → IsOld n before now → n ≤ suc k → (r : Region) → now ≡ Some r → IsNamed k r
 named_of k n before now (inl e) (inl same) l r is = absurd (none-some r (sym e ∙ (sym same ∙ is)))
 named_of k n before now (inr (inl e)) (inl same) l Heap is = tt
@@ -51,7 +51,7 @@ module _ (base : List RegionName) (is_base : IsBase base) where
     pub one : 1 ≤ n.next
     pub old : (x : ℕ) → IsOld n.next (region_among base x) (region_among n.names x)
 
-  -- ---- names are numbered on
+  -- ---- names keep consecutive numbers
 
   after_region_numbered : (n : Naming) (r : Named) → IsNumbered n → IsNumbered (after_region n r)
   after_region_numbered n r i = go (region_among n.names r.name) refl
@@ -97,7 +97,7 @@ module _ (base : List RegionName) (is_base : IsBase base) where
   after_members_numbered n [] i = i
   after_members_numbered n (m ∷ ms) i = after_members_numbered (after_type n m.of_type) ms (after_type_numbered n m.of_type i)
 
-  -- ---- numbers only grow
+  -- ---- the next number only grows
 
   region_grows : (n : Naming) (r : Named) → n.next ≤ (after_region n r).next
   region_grows n r = go (region_among n.names r.name)
@@ -179,7 +179,7 @@ module _ (base : List RegionName) (is_base : IsBase base) where
         types_named structs k (after_type n m.of_type) ms (after_type_numbered n m.of_type i) l,
       )
 
-  -- ---- types and regions that name what the parameters declare
+  -- ---- types and regions mention only what the parameters declare
 
   known_named : (k : ℕ) (n : Naming) (r : Named) → IsNumbered n → n.next ≤ suc k → IsNamed k (region_of n.names r)
   known_named k n r i l = go (region_among n.names r.name) refl
@@ -242,7 +242,7 @@ no_key_keyless r (t ∷ ts) e = (one, no_key_keyless r ts (rest (is_key_of r t) 
     one : t ≢ Key r
     one is = absurd (true≢false (sym (or_left (is_key_of r t) (has_key ts r) (subst (λ z. is_key_of r z ≡ true) (sym is) (region_eq-refl r))) ∙ e))
 
--- the types of the parameters are among those with the result
+-- the parameter types are among the types with the result
 without_result : (r : Region) (ts : List Ty) (o : Option Ty) → has_key (and_result ts o) r ≡ false → has_key ts r ≡ false
 without_result r ts None e = e
 without_result r ts (Some t) e = rest (is_key_of r t) e
@@ -262,7 +262,7 @@ variables_keyless ts o (suc m) n = go (has_key (and_result ts o) (Variable n)) r
     go true e rest = rest
     go false e rest = ((variable_not_unique n, no_key_keyless (Variable n) ts (without_result (Variable n) ts o e)), rest)
 
--- a name that is known, and is not that of unique pointers
+-- a known name that does not denote the unique region
 pub other_than_unique : (names : List RegionName) (r : Named) → is_known names r ≡ true → not (is_name_of names Unique r) ≡ true → region_of names r ≢ Unique
 other_than_unique names r k u = go (region_among names r.name) k u
   where

@@ -1,4 +1,4 @@
--- A program that the typing rules derive is well typed.
+-- A program with a typed tree by the typing rules is well-typed.
 use Rattle.std.proofs.Common.{◌≡◌, ◌⊎◌, ℕ, zero, suc, ◌+◌, ◌^◌, ◌%◌, ◌-◌, ◌<◌, ◌≤◌, Bool, true, false, cond, if◌then◌else◌, not, nat_eq, ◌&&◌, ◌||◌, List, [], ◌∷◌, ◌++◌, Option, Some, None, map, length, slice_get, inl, inr, refl, sym, ap, subst, ◌∙◌, arith}
 use Rattle.std.specs.Prelude.{codes as bytes}
 use Rattle.std.proofs.lemmas.Bool.{and_parts, true≢false, not-true}
@@ -6,7 +6,7 @@ use Rattle.cyc_words.proofs.Booleans.{or_right_without_left}
 use Rattle.cyc_words.proofs.Numbers.{at_most_suc_pred}
 use Rattle.cyc_words.proofs.Options.{false_from_some_false}
 use Rattle.cyc_words.proofs.Members.{Contains-head}
-use Rattle.cyc_words.proofs.Items.{slice_get_front, slice_get_behind}
+use Rattle.cyc_words.proofs.Items.{slice_get_front, slice_get_after}
 use Rattle.cyc_syntax.specs.Names.{number_of}
 use Rattle.cyc_syntax.specs.Symbols.{Place}
 use Rattle.cyc_syntax.specs.Trees.{Named, Pointer, BaseType, Struct, WrittenType, Braces, Items, Member, GlobalValue, Positive, Negative, Byte, NullPointer, Constraint, Listed, Parameters, Declaration, StructType, Exceptions, Global, Function}
@@ -26,7 +26,7 @@ use Rattle.cyc_types.specs.typing.Scopes as scopes
 use Rattle.cyc_types.specs.typing.Tests.{is_empty, is_left_out, is_key, is_number, is_pointer, is_non_null}
 use Rattle.cyc_types.specs.typing.Formation.{Naming, region_or, left_out_at, base_written, pointers_written, type_written, types_for, after_type, parameters_among, struct_number, type_demanded, is_global_shape, global_demanded}
 use Rattle.cyc_types.specs.typing.Statements.{exception_number, exception_among, rule_items}
-use Rattle.cyc_types.specs.typing.Heads.{Known, members_of, structs_of, fields_of, exceptions_of, parameter_naming, and_result, signature_of, declared_from, value_demanded, is_int_written, is_main_head, rule_function_head, Before, after_head, rule_heads, declares}
+use Rattle.cyc_types.specs.typing.DeclarationRules.{Known, members_of, structs_of, fields_of, exceptions_of, parameter_naming, and_result, signature_of, declared_from, value_demanded, is_int_written, is_main_head, rule_function_head, Before, after_head, rule_declarations, declares}
 use Rattle.cyc_types.specs.typing.Programs.{regions_before, exceptions_before, declared_before, known_of, before_all, Program, program_known, parameter_locals, body_scope, function_of, rule_functions, word_of, global_of, globals_of, struct_types, function_number, program_of, IsTypedProgram}
 use Rattle.cyc_types.specs.typing.WellTyped.{WellTypedItems, parameters_in_scope, body_context, IsWellTypedFunction, AreWellTypedFunctions, IsWellTypedGlobal, AreWellTypedGlobals, IsWellTypedProgram}
 use Rattle.cyc_types.specs.typing.WellTyped as judgement
@@ -121,7 +121,7 @@ global_formed k w kept = go w.base w.marks ((kept_append (type_demanded k.struct
     go (written.Key r) [] e = absurd (cc)
     go b (m ∷ ms) e = inr (inr (pointer_written k.regions regions.Heap (base_written k.structs k.regions b) m ms))
 
--- a char keeps the low byte of what is written
+-- the constant of a char global is a byte
 byte_kept : (t : Ty) (n : ℕ) → t ≡ Char → word_of t n < 256
 byte_kept t n e = subst (λ s. word_of s n < 256) (sym e) (let l : n % 256 < 256 = omega arith in l)
 
@@ -142,7 +142,7 @@ global_well t q x (Some (Negative o n)) (inr (inr (k, u, r, e))) (i, z) = absurd
 global_well t q x (Some (Byte o n)) (inr (inr (k, u, r, e))) (i, z) = absurd (true≢false (sym i ∙ ap is_number e))
 global_well t q x (Some (NullPointer o)) (inr (inr (k, u, r, e))) (i, (n, z)) = inr (inr (k, u, r, e, not-true (is_non_null t) n, refl))
 
-globals_well : (k : Known) (b : Before) (tree : List Declaration) → Derives (rule_heads k b tree) tt → AreWellTypedGlobals (globals_of k tree)
+globals_well : (k : Known) (b : Before) (tree : List Declaration) → Derives (rule_declarations k b tree) tt → AreWellTypedGlobals (globals_of k tree)
 globals_well k b [] d = tt
 globals_well k b (StructType s rs ms ∷ ds) (u, hd, d) = globals_well k (after_head b (StructType s rs ms)) ds d
 globals_well k b (Exceptions cs ∷ ds) (u, hd, d) = globals_well k (after_head b (Exceptions cs)) ds d
@@ -155,7 +155,7 @@ global_no_key g (inl (e, v)) = ap is_key e
 global_no_key g (inr (inl (e, v))) = ap is_key e
 global_no_key g (inr (inr (k, u, r, e, n, v))) = ap is_key e
 
--- ---- what the heads declare
+-- ---- the entities that signatures declare
 
 abbrev pub signatures : Known → List Declaration → List Signature
 signatures k [] = []
@@ -219,7 +219,7 @@ parameters_known p h (m ∷ ms) [] n vs same i keys known = absurd (omega arith)
 parameters_known p h (m ∷ ms) (t ∷ ts) n vs same i (key, keys) known =
     parameters_known p h ms ts (suc n) _ (omega arith) (λ a b u e at_a. i (suc a) b u (omega arith) at_a) keys ((i 0 n t (omega arith) refl, key), known)
 
--- what a program's bodies know agrees with the program
+-- the program as known in the function bodies agrees with the typed program
 record Agrees (p : typed.Program) (q : Program) : Type 0 where
   pub base : IsBase q.known.regions
   pub program : (h : typed.Function) (x : ℕ) → IsMeantDeclared p h (meaning_in q.declared x)
@@ -261,7 +261,7 @@ module _ (p : typed.Program) (q : Program) (agrees : Agrees p q) where
       let counts = items_counted scope is js d in
       record {
         body = subst (λ c. WellTypedItems c js) same
-            (items_well p h scope fits is js (λ i j t e at_i. slice_get_behind s.parameters (item_types js) i j t (omega arith) at_i) (omega arith) d);
+            (items_well p h scope fits is js (λ i j t e at_i. slice_get_after s.parameters (item_types js) i j t (omega arith) at_i) (omega arith) d);
         own = refl;
         locals = refl;
         regions = ap (λ m. suc s.variables + m) (sym counts.1);
@@ -272,7 +272,7 @@ module _ (p : typed.Program) (q : Program) (agrees : Agrees p q) where
         constraints = written.0;
       }
 
-  functions_well : (b : Before) (tree : List Declaration) (fs : List typed.Function) → Derives (rule_heads q.known b tree) tt → Derives (rule_functions q tree) fs → AreWellTypedFunctions p fs
+  functions_well : (b : Before) (tree : List Declaration) (fs : List typed.Function) → Derives (rule_declarations q.known b tree) tt → Derives (rule_functions q tree) fs → AreWellTypedFunctions p fs
   functions_well b [] fs heads (u, eq) = subst (AreWellTypedFunctions p) (sym eq) tt
   functions_well b (StructType s rs ms ∷ tree) fs (u, hd, heads) d = functions_well (after_head b (StructType s rs ms)) tree fs heads d
   functions_well b (Exceptions cs ∷ tree) fs (u, hd, heads) d = functions_well (after_head b (Exceptions cs)) tree fs heads d
@@ -282,7 +282,7 @@ module _ (p : typed.Program) (q : Program) (agrees : Agrees p q) where
 
 -- ---- main
 
--- a signature by the parts of the parameters
+-- a signature, given the parts of its parameters
 abbrev of_parts : Known → Option WrittenType → List Member → Option (List Named) → List Constraint → Signature
 of_parts k r ms e cs = signature_of k r (record { list = Listed ms; effect = e; constraints = cs })
 
@@ -318,7 +318,7 @@ main_type k r ps e =
     ap (λ ms. of_parts k r ms ps.effect ps.constraints) (nothing_in (members_of ps.list) none)
     ∙ (ap (λ o. of_parts k r [] o ps.constraints) (left_out_is_none ps.effect effect) ∙ (ap (λ cs. of_parts k r [] None cs) (nothing_in ps.constraints constraints) ∙ int_written k r result))
 
-main_well : (k : Known) (b : Before) (tree : List Declaration) → Derives (rule_heads k b tree) tt → declares k.main tree ≡ true → slice_get (signatures k tree) (function_number k.main tree) ≡ Some (signature_of_ints [])
+main_well : (k : Known) (b : Before) (tree : List Declaration) → Derives (rule_declarations k b tree) tt → declares k.main tree ≡ true → slice_get (signatures k tree) (function_number k.main tree) ≡ Some (signature_of_ints [])
 main_well k b [] heads d = absurd (cc)
 main_well k b (StructType s rs ms ∷ ds) (u, hd, heads) d = main_well k (after_head b (StructType s rs ms)) ds heads d
 main_well k b (Exceptions cs ∷ ds) (u, hd, heads) d = main_well k (after_head b (Exceptions cs)) ds heads d
@@ -341,7 +341,7 @@ base_before texts x = go (nat_eq (number_of texts (bytes "H")) x) (nat_eq (numbe
     go false true = inr (inr refl)
     go false false = inl refl
 
-derived_well : (texts : List (List ℕ)) (tree : List Declaration) (fs : List typed.Function) → Derives (rule_heads (known_of texts tree) (before_all texts) tree) tt → declares (known_of texts tree).main tree ≡ true
+derived_well : (texts : List (List ℕ)) (tree : List Declaration) (fs : List typed.Function) → Derives (rule_declarations (known_of texts tree) (before_all texts) tree) tt → declares (known_of texts tree).main tree ≡ true
     → Derives (rule_functions (program_known texts tree) tree) fs → IsWellTypedProgram (program_of (program_known texts tree) tree fs)
 derived_well texts tree fs heads main functions =
     let q : Program = program_known texts tree in

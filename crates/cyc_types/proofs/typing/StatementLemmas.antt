@@ -1,9 +1,9 @@
--- What the rules of statements and of items derive is well typed.
+-- The rules of statements and of items derive well-typed trees.
 use Rattle.std.proofs.Common.{◌≡◌, ℕ, suc, ◌+◌, ◌≤◌, Bool, true, false, not, ◌&&◌, ◌||◌, List, [], ◌∷◌, ◌++◌, Option, Some, None, length, slice_get, refl, sym, ap, subst, ◌∙◌, arith}
 use Rattle.std.specs.Prelude.{is_some, unwrap_or, option_map}
 use Rattle.std.proofs.lemmas.Bool.{and_parts, or_left, or_right, true≢false, not-true}
 use Rattle.cyc_words.proofs.Members.{Contains-head, Contains-tail}
-use Rattle.cyc_words.proofs.Items.{slice_get_front, slice_get_behind}
+use Rattle.cyc_words.proofs.Items.{slice_get_front, slice_get_after}
 use Rattle.cyc_syntax.specs.Symbols.{Place}
 use Rattle.cyc_syntax.specs.Trees.{Named, Pointer, BaseType, Struct, WrittenType, Expression, Statement, Block, Labelled, Empty, Evaluate, Swap, If, IfElse, While, Return, Break, Continue}
 use Rattle.cyc_syntax.specs.Trees.{Throw, Try, Body, Braces, Items, NoItems, MoreItems, Item, Execute, Local, Region, Alias, DynamicRegion, Clauses, NoClauses, Default, Case, place_of}
@@ -20,14 +20,14 @@ use Rattle.cyc_types.specs.TypedTrees.{Side, VariableSide, CellSide, Converted, 
 use Rattle.cyc_types.specs.TypedTrees as typed
 use Rattle.cyc_types.specs.Rules.{AllKept, Derives}
 use Rattle.cyc_types.specs.typing.Scopes.{RegionName, StructName, Ordinary, OfRegion, Meaning, Unknown, Fixed, Counter, Routine, Scope, region_among, meaning_of, counted, locals_in, item_locals, regions_in}
-use Rattle.cyc_types.specs.typing.Scopes.{body_regions, item_regions, clause_regions, behind, with_scope, in_block, with_name, in_labelled, in_body, with_local, with_opened, with_region, with_key_opened}
+use Rattle.cyc_types.specs.typing.Scopes.{body_regions, item_regions, clause_regions, following, with_scope, in_block, with_name, in_labelled, in_body, with_local, with_opened, with_region, with_key_opened}
 use Rattle.cyc_types.specs.typing.Scopes as scopes
 use Rattle.cyc_types.specs.typing.Tests.{is_left_out, ty_eq, is_unique, is_key, is_struct, region_of}
 use Rattle.cyc_types.specs.typing.Formation.{left_out_at, region_or, pointers_written, base_written, type_written, is_known, is_name_of, base_demanded, type_demanded}
 use Rattle.cyc_types.specs.typing.Formation as formation
 use Rattle.cyc_types.specs.typing.Expressions.{as_int, Found, type_of_side, rule, rule_place}
-use Rattle.cyc_types.specs.typing.Statements.{rule_condition, returned, rule_returned, swapped, exception_among, rule_thrown, thrown_demanded, is_given, thrown, caught, behind_clause, local_type}
-use Rattle.cyc_types.specs.typing.Statements.{rule_initial, number_of_region, opened, with_region_of, alias_type, aliased, behind_item, rule_statement, rule_body, rule_items, rule_clauses}
+use Rattle.cyc_types.specs.typing.Statements.{rule_condition, returned, rule_returned, swapped, exception_among, rule_thrown, thrown_demanded, is_given, thrown, caught, after_clause, local_type}
+use Rattle.cyc_types.specs.typing.Statements.{rule_initial, number_of_region, opened, with_region_of, alias_type, aliased, following_item, rule_statement, rule_body, rule_items, rule_clauses}
 use Rattle.cyc_types.specs.typing.WellTyped.{Context, IsVariable, WellTyped, IsCell, IsCondition, IsInitial, IsReturned, IsSide, IsException, IsThrown, WellTypedStatement, WellTypedItems, WellTypedClauses}
 use Rattle.cyc_types.specs.typing.WellTyped as judgement
 use Rattle.cyc_types.proofs.RegionLemmas.{region_eq-true}
@@ -36,9 +36,9 @@ use Rattle.cyc_types.proofs.typing.TestLemmas.{kept_append, ty_eq-true}
 use Rattle.cyc_types.proofs.typing.ExpressionLemmas.{IsKeyOfVariable, in_scope, all_variables, at, IsMeant, Fits, meant, converted_well, int_well, int_served, seen_served, place_of_variable, variable_of_place, seen_well, IsFoundIn, well, found_well}
 use Rattle.cyc_types.proofs.typing.CountLemmas.{AreCounted, statement_counted, items_counted}
 
--- ---- keys in types as they are written
+-- ---- keys in written types
 
--- a name that is known and is neither that of the heap nor that of unique pointers
+-- a known name that denotes neither the heap nor the unique region
 variable_named : (names : List RegionName) (r : Named) → is_known names r ≡ true → not (is_name_of names regions.Unique r) ≡ true → not (is_name_of names regions.Heap r) ≡ true
     → IsKeyOfVariable (Key (formation.region_of names r))
 variable_named names r k u e = go (region_among names r.name) k u e
@@ -69,7 +69,7 @@ formed_key structs names d w kept = go w.base w.marks (kept_append (base_demande
     go b (m ∷ ms) k = pointers_no_key names d (base_written structs names b) m ms
 
 module _ (p : typed.Program) (h : typed.Function) where
-  -- ---- a scope still fits
+  -- ---- scopes still agree with the program
 
   abbrev fitting : Scope → Type 0
   fitting g = Fits p h g
@@ -130,7 +130,7 @@ module _ (p : typed.Program) (h : typed.Function) where
     live = Contains-head (regions.Variable g.next_region) (live_regions g.regions.live g.regions.opened);
   }
 
-  -- a scope of a region variable opens within a block
+  -- opening a scope of a region variable inside a block
   opening : (g : Scope) (k : Kind) (n m : ℕ) → Fits p h g → Fits p h (record g { next_region = m; regions = with_scope k (regions.Variable n) g.regions })
   opening g k n m fits = record {
     locals = fits.locals;
@@ -173,12 +173,12 @@ module _ (p : typed.Program) (h : typed.Function) where
     live = fits.live;
   }
 
-  -- what is behind the locals that something declares
-  behind_locals : (n m : ℕ) (ts us : List Ty) → length ts ≡ m → Holds (all_variables p h) n (ts ++ us) → Holds (all_variables p h) (n + m) us
-  behind_locals n m ts us same k i j t e at_i = k (length ts + i) j t (omega arith) (slice_get_behind ts us i (length ts + i) t refl at_i)
+  -- the list of locals after the locals that a construct declares
+  after_locals : (n m : ℕ) (ts us : List Ty) → length ts ≡ m → Holds (all_variables p h) n (ts ++ us) → Holds (all_variables p h) (n + m) us
+  after_locals n m ts us same k i j t e at_i = k (length ts + i) j t (omega arith) (slice_get_after ts us i (length ts + i) t refl at_i)
 
-  behind_same : (g : Scope) (s : Statement) (t : typed.Statement) → Derives (rule_statement g s) t → at p h (behind g s) ≡ judgement.behind (at p h g) t
-  behind_same g s t d =
+  after_same : (g : Scope) (s : Statement) (t : typed.Statement) → Derives (rule_statement g s) t → at p h (following g s) ≡ judgement.following (at p h g) t
+  after_same g s t d =
       let (l, r) = statement_counted g s t d in
       ap (λ n. at p h (record g { next_local = g.next_local + n; next_region = g.next_region + regions_in s })) (sym l)
       ∙ ap (λ n. at p h (record g { next_local = g.next_local + length (declared_types t); next_region = g.next_region + n })) (sym r)
@@ -243,7 +243,7 @@ module _ (p : typed.Program) (h : typed.Function) where
       subst (λ (z : Ty × Option Converted). IsInitial (at p h g) z.1 z.0 × IsKeyOfVariable z.0) (sym eq)
       (converted_well p h g fits a (local_type g (type_of a) w) (place_of e) (well p h g fits e a ka) kept, formed_key g.structs g.names _ w formed)
 
-  -- an opened region is that of the key
+  -- the opened region is that of the key
   abbrev IsOpened : Scope → Named → typed.Item → Place → Type 0
   IsOpened g r j q = (n k : ℕ) × (j ≡ typed.OpenRegion n g.next_local q k) × IsVariable (at p h g) (typed.Local q k) (Key (regions.Variable n)) × (formation.region_of g.names r ≡ regions.Variable n)
 
@@ -264,7 +264,7 @@ module _ (p : typed.Program) (h : typed.Function) where
   opened_well g fits r x (Counter n) k q j ((new, (same, (is, u))), eq) = absurd (cc)
   opened_well g fits r x (Routine f s) k q j d = absurd d
 
-  -- an alias has the type of the unique pointer that it shares, but for its region
+  -- an alias has the type of the unique pointer that it shares, except for its region
   abbrev IsAliased : Scope → typed.Item → Place → Type 0
   IsAliased g j q = (t u : Ty) × (k : ℕ) × (j ≡ typed.DeclareAlias g.next_region g.next_local t q k) × IsVariable (at p h g) (typed.Local q k) u × (is_unique u ≡ true)
       × (t ≡ with_region_of (regions.Variable g.next_region) u)
@@ -289,12 +289,12 @@ module _ (p : typed.Program) (h : typed.Function) where
   aliased_well g fits r x w (Counter n) k q j ((new, (same, (shared, (is, u)))), eq) = absurd (cc)
   aliased_well g fits r x w (Routine f s) k q j d = absurd d
 
-  -- a pointer is no key
+  -- a pointer is not a key
   alias_no_key : (r : RegionCode) (u : Ty) → is_unique u ≡ true → IsKeyOfVariable (with_region_of r u)
   alias_no_key r (types.Pointer k t s) is = tt
   alias_no_key r u is = absurd (cc)
 
-  -- an exception that a clause is for, with an int or without
+  -- a clause's exception is declared, with or without an int
   abbrev IsFor : Scope → Option Named → ℕ → Type 0
   IsFor g v n = (has : Bool) × IsException (at p h g) n has × (has ≡ is_some v)
 
@@ -308,7 +308,7 @@ module _ (p : typed.Program) (h : typed.Function) where
   caught_well g fits before x v None e n d = absurd d
   caught_well g fits before x v (Some has) e n ((new, (given, u)), eq) = subst (IsFor g v) (sym eq) (has, fits.exceptions x.name has e, given_same has (is_some v) given)
 
-  clause_same : (g : Scope) (v : Option Named) (is : Items) (js : typed.Items) → AreCounted is js → at p h (behind_clause g (counted v) is) ≡ judgement.behind_clause (at p h g) (option_map (λ (y : Named). g.next_local) v) js
+  clause_same : (g : Scope) (v : Option Named) (is : Items) (js : typed.Items) → AreCounted is js → at p h (after_clause g (counted v) is) ≡ judgement.after_clause (at p h g) (option_map (λ (y : Named). g.next_local) v) js
   clause_same g None is js (l, r) =
       ap (λ n. at p h (record g { next_local = g.next_local + (0 + n); next_region = g.next_region + suc (item_regions is) })) (sym l)
       ∙ ap (λ n. at p h (record g { next_local = g.next_local + (0 + length (item_types js)); next_region = g.next_region + suc n })) (sym r)
@@ -340,8 +340,8 @@ module _ (p : typed.Program) (h : typed.Function) where
         subst (WellTypedStatement (at p h g)) (sym eq) (
           condition_well g fits e a d,
           statement_well g fits s b (λ i j x same at_i. inside i j x same (slice_get_front (declared_types b) (declared_types c) i x at_i)) (omega arith) ds,
-          subst (λ z. WellTypedStatement z c) (behind_same g s b ds)
-              (statement_well (behind g s) (going_on g _ _ _ fits) v c (behind_locals g.next_local (locals_in s) (declared_types b) (declared_types c) counts.0 inside) (omega arith) es),
+          subst (λ z. WellTypedStatement z c) (after_same g s b ds)
+              (statement_well (following g s) (going_on g _ _ _ fits) v c (after_locals g.next_local (locals_in s) (declared_types b) (declared_types c) counts.0 inside) (omega arith) es),
         )
     statement_well g fits (While q e s) t k l (a, d, (b, ds, (u, eq))) =
         subst (WellTypedStatement (at p h g)) (sym eq)
@@ -355,8 +355,8 @@ module _ (p : typed.Program) (h : typed.Function) where
         let counts = statement_counted g s b ds in
         subst (WellTypedStatement (at p h g)) (sym eq) (
           statement_well g fits s b (λ i j x same at_i. inside i j x same (slice_get_front (declared_types b) (clause_types es) i x at_i)) (omega arith) ds,
-          subst (λ z. WellTypedClauses z es) (behind_same g s b ds)
-              (clauses_well (behind g s) (going_on g _ _ _ fits) [] cs es (behind_locals g.next_local (locals_in s) (declared_types b) (clause_types es) counts.0 inside) (omega arith) ks),
+          subst (λ z. WellTypedClauses z es) (after_same g s b ds)
+              (clauses_well (following g s) (going_on g _ _ _ fits) [] cs es (after_locals g.next_local (locals_in s) (declared_types b) (clause_types es) counts.0 inside) (omega arith) ks),
         )
 
     body_well : (g : Scope) → Fits p h g → (c : Body) (js : typed.Items) → Holds (all_variables p h) g.next_local (item_types js) → g.next_region + body_regions c ≤ h.regions
@@ -372,8 +372,8 @@ module _ (p : typed.Program) (h : typed.Function) where
         let counts = statement_counted g s t d in
         subst (WellTypedItems (at p h g)) (sym whole) (
           statement_well g fits s t (λ i n x same at_i. inside i n x same (slice_get_front (declared_types t) (item_types ks) i x at_i)) (omega arith) d,
-          subst (λ z. WellTypedItems z ks) (behind_same g s t d)
-              (items_well (behind g s) (going_on g _ _ _ fits) is ks (behind_locals g.next_local (locals_in s) (declared_types t) (item_types ks) counts.0 inside) (omega arith) ds),
+          subst (λ z. WellTypedItems z ks) (after_same g s t d)
+              (items_well (following g s) (going_on g _ _ _ fits) is ks (after_locals g.next_local (locals_in s) (declared_types t) (item_types ks) counts.0 inside) (omega arith) ds),
         )
     items_well g fits (MoreItems (Local w x v) is) js k l (j, (u, formed, (c, d, (y, is_j))), (ks, ds, (z, eq))) =
         let whole : js ≡ typed.MoreItems (typed.Declare g.next_local c.0 c.1) ks = eq ∙ ap (λ i. typed.MoreItems i ks) is_j in
@@ -384,7 +384,7 @@ module _ (p : typed.Program) (h : typed.Function) where
           (refl, known, fits.live),
           initial.0,
           items_well (with_local Ordinary x c.0 g) (declaring g x c.0 fits known initial.1) is ks (λ i n z same at_i. inside (suc i) n z (omega arith) at_i) (omega arith)
-              (subst (λ z. Derives (rule_items (behind_item g (Local w x v) z) is) ks) is_j ds),
+              (subst (λ z. Derives (rule_items (following_item g (Local w x v) z) is) ks) is_j ds),
         )
     items_well g fits (MoreItems (Region r x None) is) js k l (j, (kept, is_j), (ks, ds, (z, eq))) =
         let whole : js ≡ typed.MoreItems (typed.DeclareRegion g.next_region g.next_local) ks = eq ∙ ap (λ i. typed.MoreItems i ks) is_j in
@@ -425,7 +425,7 @@ module _ (p : typed.Program) (h : typed.Function) where
               (declaring (with_opened kinds.Alias r g) x t (opening (with_name r g) kinds.Alias g.next_region (suc g.next_region) (naming g r fits)) known
               (subst IsKeyOfVariable (sym same) (alias_no_key (regions.Variable g.next_region) shared unique)))
               is ks (λ i n z same at_i. inside (suc i) n z (omega arith) at_i) (omega arith)
-              (subst (λ z. Derives (rule_items (behind_item g (Alias r w x y) z) is) ks) is_j ds),
+              (subst (λ z. Derives (rule_items (following_item g (Alias r w x y) z) is) ks) is_j ds),
         )
     items_well g fits (MoreItems (DynamicRegion r x) is) js k l (j, (kept, is_j), (ks, ds, (z, eq))) =
         let whole : js ≡ typed.MoreItems (typed.DeclareKey g.next_region g.next_local) ks = eq ∙ ap (λ i. typed.MoreItems i ks) is_j in
@@ -456,9 +456,9 @@ module _ (p : typed.Program) (h : typed.Function) where
           (refl, omega arith),
           items_well (in_block g) (entering g fits) is js (λ i j z same at_i. inside i j z same (slice_get_front (item_types js) (clause_types es) i z at_i)) (omega arith) d,
           subst (λ z. WellTypedClauses z es) (clause_same g None is js counts)
-              (clauses_well (behind_clause g 0 is) (going_on g _ _ _ fits) (x.name ∷ before) cs es
+              (clauses_well (after_clause g 0 is) (going_on g _ _ _ fits) (x.name ∷ before) cs es
               (subst (λ m. Holds (all_variables p h) m (clause_types es)) (let e : g.next_local + item_locals is ≡ g.next_local + (0 + item_locals is) = omega arith in e)
-              (behind_locals g.next_local (item_locals is) (item_types js) (clause_types es) counts.0 inside)) (omega arith) ks),
+              (after_locals g.next_local (item_locals is) (item_types js) (clause_types es) counts.0 inside)) (omega arith) ks),
         )
     clauses_well g fits before (Case x (Some y) is cs) ds k l (n, kn, (js, d, (es, ks, (u, eq)))) =
         let inside : Holds (all_variables p h) g.next_local (Int ∷ (item_types js ++ clause_types es)) = subst (λ z. Holds (all_variables p h) g.next_local (clause_types z)) eq k in
@@ -474,7 +474,7 @@ module _ (p : typed.Program) (h : typed.Function) where
           items_well (with_local Ordinary y Int (in_block g)) (declaring (in_block g) y Int (entering g fits) known tt) is js
               (λ i j z same at_i. further i j z same (slice_get_front (item_types js) (clause_types es) i z at_i)) (omega arith) d,
           subst (λ z. WellTypedClauses z es) (clause_same g (Some y) is js counts)
-              (clauses_well (behind_clause g 1 is) (going_on g _ _ _ fits) (x.name ∷ before) cs es
+              (clauses_well (after_clause g 1 is) (going_on g _ _ _ fits) (x.name ∷ before) cs es
               (subst (λ m. Holds (all_variables p h) m (clause_types es)) (let e : suc g.next_local + item_locals is ≡ g.next_local + (1 + item_locals is) = omega arith in e)
-              (behind_locals (suc g.next_local) (item_locals is) (item_types js) (clause_types es) counts.0 further)) (omega arith) ks),
+              (after_locals (suc g.next_local) (item_locals is) (item_types js) (clause_types es) counts.0 further)) (omega arith) ks),
         )

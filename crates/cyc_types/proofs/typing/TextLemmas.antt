@@ -1,5 +1,5 @@
--- The typed program of a text has what such programs have (`specs/Texts`), and its constants are words: so it is by the typing rules, where
--- the tree keeps to the grammar and to the limits.
+-- The typed program of a text satisfies the demands of `specs/Texts`, and its constants are words. A typed program satisfies them by the
+-- typing rules if its tree satisfies the grammar and the limits.
 use Rattle.std.proofs.Common.{◌≡◌, ℕ, zero, suc, ◌+◌, ◌≤◌, ◌<◌, Bool, true, false, not, nat_eq, ◌&&◌, ◌||◌, cond, List, [], ◌∷◌, ◌++◌, map, Option, Some, None, length, slice_get, refl, sym, ap, subst, ◌∙◌, arith, length-append}
 use Rattle.std.specs.Prelude.{◌^◌, unwrap_or, if◌then◌else◌}
 use Rattle.std.specs.List.{AllByRecursion}
@@ -31,7 +31,7 @@ use Rattle.cyc_types.specs.TypedTrees.{Lvalue, Side, VariableSide, CellSide, Con
 use Rattle.cyc_types.specs.TypedTrees as typed
 use Rattle.cyc_types.specs.Numbered.{argument_count}
 use Rattle.cyc_types.specs.Rules.{Rule, Derives, AllKept}
-use Rattle.cyc_types.specs.typing.Scopes.{Field, Exception, Meaning, Unknown, Fixed, Counter, Routine, Scope, meaning_of, counted, behind, in_block, in_labelled, in_body, with_counter}
+use Rattle.cyc_types.specs.typing.Scopes.{Field, Exception, Meaning, Unknown, Fixed, Counter, Routine, Scope, meaning_of, counted, following, in_block, in_labelled, in_body, with_counter}
 use Rattle.cyc_types.specs.typing.Scopes as scopes
 use Rattle.cyc_types.specs.typing.Tests.{is_unique, is_moved, is_thin_mark, is_int, is_char, is_value, value_of}
 use Rattle.cyc_types.specs.typing.Formation.{struct_demanded}
@@ -39,8 +39,8 @@ use Rattle.cyc_types.specs.typing.Expressions.{passed, passed_demanded, as_int, 
 use Rattle.cyc_types.specs.typing.Expressions.{is_looking_first, operand, Joined, peeked_local, then_pointer, is_movable, then_added, ints_joined, tests_joined, sums_joined, null_test, then_compared, equality_joined, joined, instance_of, instantiated, called}
 use Rattle.cyc_types.specs.typing.Expressions.{key_freed, Placed, Made, on_heap, rule_placement, field_types, arguments_written, fields_known, fields_made, plain_made, array_made, created, rule, rule_all, rule_chain, rule_place, rule_postfixed, rule_further}
 use Rattle.cyc_types.specs.typing.Expressions.{rule_made}
-use Rattle.cyc_types.specs.typing.Statements.{rule_condition, returned, rule_returned, exception_number, exception_among, thrown, caught, rule_initial, behind_item, rule_statement, rule_body, rule_items, rule_thrown, rule_clauses, with_caught, behind_clause}
-use Rattle.cyc_types.specs.typing.Heads.{Known, fields_of, exceptions_of, signature_of}
+use Rattle.cyc_types.specs.typing.Statements.{rule_condition, returned, rule_returned, exception_number, exception_among, thrown, caught, rule_initial, following_item, rule_statement, rule_body, rule_items, rule_thrown, rule_clauses, with_caught, after_clause}
+use Rattle.cyc_types.specs.typing.DeclarationRules.{Known, fields_of, exceptions_of, signature_of}
 use Rattle.cyc_types.specs.typing.Programs.{Program, exceptions_before, program_known, body_scope, rule_functions, IsTypedProgram}
 use Rattle.cyc_types.proofs.typing.TestLemmas.{kept_append}
 use Rattle.cyc_types.proofs.typing.CountLemmas.{opened_shape, aliased_shape}
@@ -49,9 +49,9 @@ use Rattle.cyc_types.specs.Texts.{is_comparison, are_sums, stands_alone, text_de
 use Rattle.cyc_types.proofs.typing.TreeConstants.{AreOfWordsSymbols, IsOfWordsWritten, IsOfWordsMadeOf, AreOfWordsWritten, AreOfWordsPostfixes, AreOfWordsChain, IsOfWordsValue, IsOfWordsWrittenStatement, AreOfWordsWrittenClauses, IsOfWordsBody, AreOfWordsWrittenItems, IsOfWordsTree, tree_constants}
 use Rattle.cyc_types.proofs.typing.DemandLemmas.{functions_meet}
 
--- ---- what is demanded
+-- ---- the demands
 
--- All that the trees of texts bring: what such programs have, and that constants are words.
+-- All demands that the trees of texts satisfy: those of `specs/Texts`, and that constants are words.
 abbrev pub tree_demands : Demands
 tree_demands = record {
   number = IsWord;
@@ -60,7 +60,7 @@ tree_demands = record {
   exception = IsWord;
 }
 
--- ---- what is known of the program in a scope
+-- ---- facts about the program in a scope
 
 abbrev AreFewFields : List (List Field) → Type 0
 AreFewFields fss = AllByRecursion (λ (fs : List Field). length fs ≤ max_items) fss
@@ -87,7 +87,7 @@ tag_word g x few = omega (arith, number_few g.exceptions x, few.1)
 
 -- ---- from the rules: names and places
 
--- all that a rule derives is of a text
+-- each expression that the rule derives satisfies the demands
 abbrev GivesText : Rule typed.Expression → Type 0
 GivesText r = (a : typed.Expression) → Derives r a → Meets tree_demands a
 
@@ -178,7 +178,7 @@ key_text (Routine f s) p a d = absurd d
 
 -- ---- sums
 
--- A sum that does not begin with an int works on a pointer, and its value is that pointer's type.
+-- A sum whose first operand is not an int works on a pointer, and has that pointer's type.
 sum_put : (left : ValueType) (o : Operator) (fat : PointerOperator) (a : typed.Expression) (os : typed.Operations) → is_int left ≡ false → (is_int left || is_value is_movable left) ≡ true
     → (then_added left o fat a os ≡ typed.ThenPointer fat a os) × (is_int (Value (value_of left)) ≡ false)
 sum_put Void o fat a os other kept = absurd (cc)
@@ -187,7 +187,7 @@ sum_put (Value Int) o fat a os other kept = absurd (cc)
 sum_put (Value t) o fat a os other kept = (refl, other)
 
 module _ (g : Scope) (p : Place) (k : Option ℕ) (left : ValueType) (q : Place) (a : typed.Expression) (other : is_int left ≡ false) where
-  -- so it is of the sums that stand behind one, and what it puts in front of sums makes sums
+  -- an operation of a pointer sum, put before a pointer sum, gives a pointer sum
   sum_of_pointer : (o : Operator) (fat : PointerOperator) (j : Joined) → is_comparison fat ≡ false → Derives (sums_joined p left o fat q a) j
       → (is_int (Value j.1) ≡ false) × ((os : typed.Operations) → are_sums os ≡ true → are_sums (j.0 os) ≡ true)
   sum_of_pointer o fat j sum ((kept, more), eq) =
@@ -202,7 +202,7 @@ module _ (g : Scope) (p : Place) (k : Option ℕ) (left : ValueType) (q : Place)
   level_of_sums operators.Subtract j two d = sum_of_pointer _ pointers.SubtractFat j refl d
   level_of_sums o j two d = absurd (cc)
 
--- a chain of sums that does not begin with an int
+-- a chain of sums whose first operand is not an int
 sums_chain : (g : Scope) (p : Place) (k : Option ℕ) (left : ValueType) (os : Operations) → AreOperations 1 os → is_int left ≡ false → (bs : typed.Operations × Ty) → Derives (rule_chain g p k left os) bs
     → are_sums bs.0 ≡ true
 sums_chain g p k left NoOperations w other bs (kept, eq) = ap (λ (z : typed.Operations × Ty). are_sums z.0) eq
@@ -210,23 +210,23 @@ sums_chain g p k left (ThenOperation o q e os) (two, w, ws) other bs (put, (b, k
     let (next, sums) = level_of_sums g p k left (place_of e) (as_int b) other o put two d in
     ap (λ (z : typed.Operations × Ty). are_sums z.0) eq ∙ sums cs.0 (sums_chain g p None (Value put.1) os ws next cs ks)
 
--- what stands behind an operator on the left operand, if it may be arithmetic on a pointer
-abbrev IsAloneBehind : BinaryOperator → ValueType → typed.Operations → Type 0
-IsAloneBehind operators.Add left os = is_int left ≡ false → are_sums os ≡ true
-IsAloneBehind operators.Subtract left os = is_int left ≡ false → are_sums os ≡ true
-IsAloneBehind o left os = Unit {0}
+-- the operations after an operator, if the left operand may be a pointer under arithmetic
+abbrev IsAloneAfter : BinaryOperator → ValueType → typed.Operations → Type 0
+IsAloneAfter operators.Add left os = is_int left ≡ false → are_sums os ≡ true
+IsAloneAfter operators.Subtract left os = is_int left ≡ false → are_sums os ≡ true
+IsAloneAfter o left os = Unit {0}
 
-alone_behind : (g : Scope) (p : Place) (k : Option ℕ) (left : ValueType) (q : Place) (a : typed.Expression) (below : ℕ) (o : BinaryOperator) (os : Operations) (put : Joined) (cs : typed.Operations × Ty) → level o ≡ suc below
-    → AreOperations below os → Derives (joined g p k left o q a) put → Derives (rule_chain g p None (Value put.1) os) cs → IsAloneBehind o left cs.0
-alone_behind g p k left q a below operators.Add os put cs two w d h =
+alone_after : (g : Scope) (p : Place) (k : Option ℕ) (left : ValueType) (q : Place) (a : typed.Expression) (below : ℕ) (o : BinaryOperator) (os : Operations) (put : Joined) (cs : typed.Operations × Ty) → level o ≡ suc below
+    → AreOperations below os → Derives (joined g p k left o q a) put → Derives (rule_chain g p None (Value put.1) os) cs → IsAloneAfter o left cs.0
+alone_after g p k left q a below operators.Add os put cs two w d h =
     λ other. sums_chain g p None (Value put.1) os (subst (λ n. AreOperations n os) (omega (arith, two)) w) (level_of_sums g p k left q a other operators.Add put refl d).0 cs h
-alone_behind g p k left q a below operators.Subtract os put cs two w d h =
+alone_after g p k left q a below operators.Subtract os put cs two w d h =
     λ other. sums_chain g p None (Value put.1) os (subst (λ n. AreOperations n os) (omega (arith, two)) w) (level_of_sums g p k left q a other operators.Subtract put refl d).0 cs h
-alone_behind g p k left q a below o os put cs two w d h = tt
+alone_after g p k left q a below o os put cs two w d h = tt
 
 -- ---- operators
 
--- what an operation puts in front of its chain is of a text where its operand and the chain are
+-- an operation put before a chain satisfies the demands if its operand and the chain do
 abbrev IsTextBefore : typed.Expression → Joined → Type 0
 IsTextBefore a j = (os : typed.Operations) → Meets tree_demands a → OperationsMeet tree_demands os → OperationsMeet tree_demands (j.0 os)
 
@@ -268,7 +268,7 @@ module _ (g : Scope) (p : Place) (k : Option ℕ) (left : ValueType) (q : Place)
       → OperationsMeet tree_demands os → OperationsMeet tree_demands (j.0 os)
   sums_text o fat j os alone (kept, eq) w ws = subst (λ (z : Joined). OperationsMeet tree_demands (z.0 os)) (sym eq) (sum_text left o fat a os alone w ws)
 
-  joined_text : (o : BinaryOperator) (j : Joined) (os : typed.Operations) → IsAloneBehind o left os → Derives (joined g p k left o q a) j → Meets tree_demands a → OperationsMeet tree_demands os → OperationsMeet tree_demands (j.0 os)
+  joined_text : (o : BinaryOperator) (j : Joined) (os : typed.Operations) → IsAloneAfter o left os → Derives (joined g p k left o q a) j → Meets tree_demands a → OperationsMeet tree_demands os → OperationsMeet tree_demands (j.0 os)
   joined_text operators.OrElse j os alone d w ws = tests_text _ j d os w ws
   joined_text operators.AndThen j os alone d w ws = tests_text _ j d os w ws
   joined_text operators.Equal j os alone d w ws = equality_text false j d os w ws
@@ -295,7 +295,7 @@ placement_text g p (UniqueRegion q) walked w h d = subst (λ (z : Placed). Place
 placement_text g p (Bracketed q e) walked w h d = placement_text g p e walked w h d
 placement_text g p e walked w h (a, ka, (u, eq)) = subst (λ (z : Placed). PlacementMeets tree_demands z.placement) (sym eq) (h a ka)
 
--- what is asked of the initial value of an object that is made
+-- the initial contents of an object satisfy the demands
 abbrev IsTextObject : Made → Type 0
 IsTextObject m = AllKept m.asked → ObjectMeets tree_demands m.initial
 
@@ -307,7 +307,7 @@ passed_count [] ts e = refl
 passed_count (a ∷ as') [] e = absurd (omega (arith, e))
 passed_count (a ∷ as') (t ∷ ts) e = ap suc (passed_count as' ts (omega (arith, e)))
 
--- as many values as the struct has fields, and one at least
+-- a struct initializer has as many values as the struct has fields, and at least one
 fields_text : (g : Scope) (s : Named) (rs : List Named) (es : Expressions) (as' : List typed.Expression) → KnowsFew g → 1 ≤ length as' → AreOfText as' → IsTextObject (fields_made g s rs es as')
 fields_text g s rs es as' few some w kept =
     let ts : List Ty = field_types (arguments_written g s rs) (fields_known g s) in
@@ -365,7 +365,7 @@ mutual
   chain_text g few below p k left NoOperations w words bs (kept, eq) = subst (λ (z : typed.Operations × Ty). OperationsMeet tree_demands z.0) (sym eq) tt
   chain_text g few below p k left (ThenOperation o q e os) (same, w, ws) (words, more) bs (put, (b, kb, d), (cs, ks, (u, eq))) =
       subst (λ (z : typed.Operations × Ty). OperationsMeet tree_demands z.0) (sym eq)
-      (joined_text g p k left (place_of e) (as_int b) o put cs.0 (alone_behind g p k left (place_of e) (as_int b) below o os put cs same ws d ks) d
+      (joined_text g p k left (place_of e) (as_int b) o put cs.0 (alone_after g p k left (place_of e) (as_int b) below o os put cs same ws d ks) d
       (served_text b (operand_text g (is_looking o) e (λ c h. expression_text g few below e w words c h) b kb))
       (chain_text g few below p None (Value put.1) os ws more cs ks))
 
@@ -454,13 +454,13 @@ mutual
       subst (StatementMeets tree_demands) (sym eq) (found_text g few unary_level (place_of a) a w words x kx, found_text g few unary_level (place_of b) b ws more y ky)
   statement_text g few (If p e u) (w, ws) (words, more) t (a, h, (c, k, (v, eq))) = subst (StatementMeets tree_demands) (sym eq) (condition_text g few e w words a h, statement_text g few u ws more c k, tt)
   statement_text g few (IfElse p e u v) (w, x, nearest, y) (words, first, second) t (a, h, (c, k, (d, m, (z, eq)))) =
-      subst (StatementMeets tree_demands) (sym eq) (condition_text g few e w words a h, statement_text g few u x first c k, statement_text (behind g u) few v y second d m)
+      subst (StatementMeets tree_demands) (sym eq) (condition_text g few e w words a h, statement_text g few u x first c k, statement_text (following g u) few v y second d m)
   statement_text g few (While p e u) (w, ws) (words, more) t (a, h, (c, k, (v, eq))) = subst (StatementMeets tree_demands) (sym eq) (condition_text g few e w words a h, statement_text (in_body g) few u ws more c k)
   statement_text g few (Return p v) w words t (c, h, (u, eq)) = subst (StatementMeets tree_demands) (sym eq) (returned_text g few p v c w words h)
   statement_text g few (Break p) w words t (k, eq) = subst (StatementMeets tree_demands) (sym eq) tt
   statement_text g few (Continue p) w words t (k, eq) = subst (StatementMeets tree_demands) (sym eq) tt
   statement_text g few (Throw p x v) w words t (a, ka, d) = thrown_text g few (exception_among g.exceptions x.name) x v a t (given_text g few v a w words ka) d
-  statement_text g few (Try p s cs) (w, some, ws) (words, more) t (b, kb, (ds, ks, (u, eq))) = subst (StatementMeets tree_demands) (sym eq) (statement_text g few s w words b kb, clauses_text (behind g s) few [] cs ws more ds ks)
+  statement_text g few (Try p s cs) (w, some, ws) (words, more) t (b, kb, (ds, ks, (u, eq))) = subst (StatementMeets tree_demands) (sym eq) (statement_text g few s w words b kb, clauses_text (following g s) few [] cs ws more ds ks)
 
   clauses_text : (g : Scope) → KnowsFew g → (before : List ℕ) (cs : Clauses) → AreClauses cs → AreOfWordsWrittenClauses cs → (ds : typed.Clauses) → Derives (rule_clauses g before cs) ds → ClausesMeet tree_demands ds
   clauses_text g few before NoClauses w words ds (u, eq) = subst (ClausesMeet tree_demands) (sym eq) tt
@@ -469,7 +469,7 @@ mutual
       subst (ClausesMeet tree_demands) (sym eq) (
         caught_text g few (exception_among g.exceptions x.name) before x v n kn,
         items_text (with_caught v (in_block g)) (caught_few v (in_block g) few) is w words js h,
-        clauses_text (behind_clause g (counted v) is) few (x.name ∷ before) cs ws more es hs,
+        clauses_text (after_clause g (counted v) is) few (x.name ∷ before) cs ws more es hs,
       )
 
   body_text : (g : Scope) → KnowsFew g → (b : Body) → IsBody b → IsOfWordsBody b → (js : typed.Items) → Derives (rule_body g b) js → ItemsMeet tree_demands js
@@ -478,23 +478,23 @@ mutual
   items_text : (g : Scope) → KnowsFew g → (is : Items) → AreItems is → AreOfWordsWrittenItems is → (js : typed.Items) → Derives (rule_items g is) js → ItemsMeet tree_demands js
   items_text g few NoItems w words js (u, eq) = subst (ItemsMeet tree_demands) (sym eq) tt
   items_text g few (MoreItems (Execute s) is) (w, ws) (words, more) js (j, (t, h, (u, is_j)), (ks, hs, (v, eq))) =
-      subst (ItemsMeet tree_demands) (sym (eq ∙ ap (λ k. typed.MoreItems k ks) is_j)) (statement_text g few s w words t h, items_text (behind g s) few is ws more ks hs)
+      subst (ItemsMeet tree_demands) (sym (eq ∙ ap (λ k. typed.MoreItems k ks) is_j)) (statement_text g few s w words t h, items_text (following g s) few is ws more ks hs)
   items_text g few (MoreItems (Local t x v) is) (w, ws) (words, more) js (j, (u, ku, (c, kc, (y, is_j))), (ks, hs, (z, eq))) =
-      subst (ItemsMeet tree_demands) (sym (eq ∙ ap (λ k. typed.MoreItems k ks) is_j)) (initial_text g few t x v c w words kc, items_text (behind_item g (Local t x v) j) few is ws more ks hs)
+      subst (ItemsMeet tree_demands) (sym (eq ∙ ap (λ k. typed.MoreItems k ks) is_j)) (initial_text g few t x v c w words kc, items_text (following_item g (Local t x v) j) few is ws more ks hs)
   items_text g few (MoreItems (Region r h None) is) (w, ws) (none, more) js (j, (k, is_j), (ks, hs, (z, eq))) =
-      subst (ItemsMeet tree_demands) (sym (eq ∙ ap (λ k. typed.MoreItems k ks) is_j)) (items_text (behind_item g (Region r h None) j) few is ws more ks hs)
+      subst (ItemsMeet tree_demands) (sym (eq ∙ ap (λ k. typed.MoreItems k ks) is_j)) (items_text (following_item g (Region r h None) j) few is ws more ks hs)
   items_text g few (MoreItems (Region r h (Some k)) is) (w, ws) (none, more) js (j, (u, ku, d), (ks, hs, (z, eq))) =
       let (o, l, is_j) = opened_shape g r h (meaning_of g k) k.place j d in
-      subst (ItemsMeet tree_demands) (sym (eq ∙ ap (λ k. typed.MoreItems k ks) is_j)) (items_text (behind_item g (Region r h (Some k)) j) few is ws more ks hs)
+      subst (ItemsMeet tree_demands) (sym (eq ∙ ap (λ k. typed.MoreItems k ks) is_j)) (items_text (following_item g (Region r h (Some k)) j) few is ws more ks hs)
   items_text g few (MoreItems (Alias r t x y) is) (w, ws) (none, more) js (j, (u, ku, (v, kv, d)), (ks, hs, (z, eq))) =
       let (of_type, l, is_j) = aliased_shape g r x t (meaning_of g y) y.place j d in
-      subst (ItemsMeet tree_demands) (sym (eq ∙ ap (λ k. typed.MoreItems k ks) is_j)) (items_text (behind_item g (Alias r t x y) j) few is ws more ks hs)
+      subst (ItemsMeet tree_demands) (sym (eq ∙ ap (λ k. typed.MoreItems k ks) is_j)) (items_text (following_item g (Alias r t x y) j) few is ws more ks hs)
   items_text g few (MoreItems (DynamicRegion r k) is) (w, ws) (none, more) js (j, (kept, is_j), (ks, hs, (z, eq))) =
-      subst (ItemsMeet tree_demands) (sym (eq ∙ ap (λ k. typed.MoreItems k ks) is_j)) (items_text (behind_item g (DynamicRegion r k) j) few is ws more ks hs)
+      subst (ItemsMeet tree_demands) (sym (eq ∙ ap (λ k. typed.MoreItems k ks) is_j)) (items_text (following_item g (DynamicRegion r k) j) few is ws more ks hs)
 
 -- ---- programs
 
--- what is known in all bodies
+-- what is known in all bodies satisfies the bounds
 abbrev ProgramKnowsFew : Program → Type 0
 ProgramKnowsFew p = AreFewFields p.fields × (suc (length p.exceptions) < 2 ^ 32)
 
@@ -506,13 +506,13 @@ functions_text p few (Global t x v ∷ tree) (w, ws) (words, more) fs h = functi
 functions_text p few (Function r x ps (Braces o is q) ∷ tree) (w, ws) (words, more) fs (f, (js, h, (u, is_f)), (gs, hs, (v, eq))) =
     subst (FunctionsMeet tree_demands) (sym (eq ∙ ap (λ k. k ∷ gs) is_f)) (items_text (body_scope p (signature_of p.known r ps) x ps) few is w words js h, functions_text p few tree ws more gs hs)
 
--- ---- limits
+-- ---- limits of the grammar
 
 within_append : (xs ys : Yield) → AllByRecursion IsWithin (xs ++ ys) → AllByRecursion IsWithin xs × AllByRecursion IsWithin ys
 within_append [] ys h = (tt, h)
 within_append (x ∷ xs) ys (w, h) = let (l, r) = within_append xs ys h in ((w, l), r)
 
--- the item begins with a leaf that has its number
+-- an item begins with a leaf that carries its number
 item_few : (i : ℕ) (leaves more : Yield) → 1 ≤ length leaves → AllByRecursion IsWithin (yields.item_number i leaves ++ more) → i ≤ max_items
 item_few i [] more some w = absurd (omega (arith, some))
 item_few i (leaf ∷ leaves) more some (w, ws) = w.item
@@ -529,8 +529,8 @@ members_few d i (m ∷ ms) w few =
 
 declared_few : (k : Known) (s : Named) (rs : List Named) (ms : List Member) → AllByRecursion IsWithin (yields.declaration 0 (StructType s rs ms)) → length ms ≤ max_items
 declared_few k s rs ms (w, (x, ws)) =
-    let behind = (within_append (yields.region_list 0 rs) _ ws).1.1 in
-    let fields = (within_append (yields.each (yields.field 1) 1 ms) _ behind).0 in
+    let following = (within_append (yields.region_list 0 rs) _ ws).1.1 in
+    let fields = (within_append (yields.each (yields.field 1) 1 ms) _ following).0 in
     let most : length ms + 1 ≤ suc max_items = members_few 1 1 ms fields (omega arith) in
     omega (arith, most)
 
@@ -557,7 +557,7 @@ exceptions_few (Exceptions cs ∷ tree) =
 exceptions_few (Global t x v ∷ tree) = omega (arith, exceptions_few tree)
 exceptions_few (Function r x ps b ∷ tree) = omega (arith, exceptions_few tree)
 
--- A tree of so few symbols, within the limits, with words for its constants: what the rules derive from it meets all that was said.
+-- The typed tree of a short enough text within the limits, whose constants are words, satisfies all demands.
 pub program_meets : (texts : List (List ℕ)) (symbols : List Symbol) (tree : List Declaration) (p : typed.Program)
     → HasTree symbols tree → IsWithinLimits tree → AreOfWordsSymbols symbols → length symbols ≤ max_tokens → IsTypedProgram texts tree p → FunctionsMeet tree_demands p.functions
 program_meets texts symbols tree p has within words short (u, heads, (v, main, (fs, functions, (w, eq)))) =
@@ -567,6 +567,6 @@ program_meets texts symbols tree p has within words short (u, heads, (v, main, (
     let few : ProgramKnowsFew known = (fields_few known.known tree within, omega (arith, many, exceptions_few tree, weight, short)) in
     subst (λ (z : typed.Program). FunctionsMeet tree_demands z.functions) (sym eq) (functions_text known few tree has.formed (tree_constants symbols tree has words) fs functions)
 
--- so it is of a text
+-- such a program satisfies the demands of `specs/Texts`
 pub of_text : (p : typed.Program) → FunctionsMeet tree_demands p.functions → IsOfTextProgram p
 of_text p = functions_meet tree_demands text_demands (record { number = λ n w. tt; fields = λ cs w. w; pointer = λ o os w. w; exception = λ n w. w }) p.functions

@@ -1,4 +1,4 @@
--- A typed tree weighs no more than the tree that it is of.
+-- A typed tree weighs at most as much as its syntax tree.
 use Rattle.std.proofs.Common.{◌≡◌, ℕ, zero, suc, ◌+◌, ◌*◌, ◌≤◌, Bool, true, false, cond, List, [], ◌∷◌, ◌++◌, Option, Some, None, sym, ap, subst, ◌∙◌, arith, length, slice_get, length-append}
 use Rattle.std.proofs.lemmas.Option.{same_Some, none-some}
 use Rattle.std.specs.Prelude.{option_map}
@@ -22,15 +22,15 @@ use Rattle.cyc_types.specs.Types as types
 use Rattle.cyc_types.specs.TypedTrees.{Lvalue, Side, VariableSide, CellSide, Converted, type_of}
 use Rattle.cyc_types.specs.TypedTrees as typed
 use Rattle.cyc_types.specs.Rules.{Rule, Derives}
-use Rattle.cyc_types.specs.typing.Scopes.{Meaning, Unknown, Fixed, Counter, Routine, Scope, meaning_of, counted, behind, in_block, in_labelled, in_body, with_counter}
+use Rattle.cyc_types.specs.typing.Scopes.{Meaning, Unknown, Fixed, Counter, Routine, Scope, meaning_of, counted, following, in_block, in_labelled, in_body, with_counter}
 use Rattle.cyc_types.specs.typing.Scopes as scopes
 use Rattle.cyc_types.specs.typing.Tests.{is_unique, is_moved, is_char}
 use Rattle.cyc_types.specs.typing.Formation.{Naming, type_written, types_for, after_type}
 use Rattle.cyc_types.specs.typing.Expressions.{passed, as_int, variable_read, variable_looked, read, looked, rule_looked, Found, place_meant, Reached, pointed, indexed, selected, loaded, reached, address_of, addressed, place_inside, assignment}
 use Rattle.cyc_types.specs.typing.Expressions.{is_looking, is_looking_first, operand, Joined, peeked_local, then_pointer, then_added, ints_joined, tests_joined, sums_joined, then_compared, equality_joined, joined, instance_of, instantiated}
 use Rattle.cyc_types.specs.typing.Expressions.{called, key_freed, Placed, Made, on_heap, rule_placement, field_types, arguments_written, fields_known, created, rule, rule_all, rule_chain, rule_place, rule_postfixed, rule_further, rule_made}
-use Rattle.cyc_types.specs.typing.Statements.{rule_condition, returned, rule_returned, exception_among, rule_thrown, with_caught, behind_clause, rule_initial, behind_item, rule_statement, rule_body, rule_items, rule_clauses}
-use Rattle.cyc_types.specs.typing.Heads.{members_of, parameter_types, signature_of}
+use Rattle.cyc_types.specs.typing.Statements.{rule_condition, returned, rule_returned, exception_among, rule_thrown, with_caught, after_clause, rule_initial, following_item, rule_statement, rule_body, rule_items, rule_clauses}
+use Rattle.cyc_types.specs.typing.DeclarationRules.{members_of, parameter_types, signature_of}
 use Rattle.cyc_types.specs.typing.Programs.{Program, program_known, body_scope, rule_functions, constant_of, globals_of, IsTypedProgram}
 use Rattle.cyc_types.specs.Weight.{expression_weight, dereference_weight, placement_weight, initial_weight, converted_weight, arguments_weight, more_arguments_weight, operations_weight}
 use Rattle.cyc_types.specs.Weight.{side_weight, thrown_weight, caught_weight, statement_weight, items_weight, clauses_weight, constant_weight, global_weight, function_weight, program_weight}
@@ -41,7 +41,7 @@ use Rattle.cyc_types.proofs.typing.CountLemmas.{thrown_shape, opened_shape, alia
 
 -- ---- expressions
 
--- all that a rule derives weighs so much at most
+-- each expression that the rule derives weighs at most this much
 abbrev IsLight : Rule typed.Expression → ℕ → Type 0
 IsLight r n = (a : typed.Expression) → Derives r a → expression_weight a ≤ n
 
@@ -57,7 +57,7 @@ looked_token : (l : Lvalue) (t : Ty) → expression_weight (variable_looked l t)
 looked_token (typed.Local p n) t = either_token (is_unique t) (typed.Peek p n t) (variable_read (typed.Local p n) t) (omega arith) (variable_token (typed.Local p n) t)
 looked_token (typed.Global n) t = omega arith
 
--- a name is a token
+-- reading a name weighs at most one token
 read_lighter : (m : Meaning) (p : Place) → IsLight (read m p) 1
 read_lighter Unknown p a d = absurd d
 read_lighter (scopes.Variable l t home) p a (k, eq) = subst (λ z. expression_weight z ≤ 1) (sym eq) (variable_token l t)
@@ -77,7 +77,7 @@ seen_lighter g n (Variable x) walked few w a d = omega (arith, few, looked_light
 seen_lighter g n (Bracketed p e) walked few w a d = seen_lighter g n e walked (omega (arith, few)) w a d
 seen_lighter g n e walked few w a d = w a d
 
--- a char that serves as an int is no heavier
+-- converting a char to an int adds no weight
 either_served : (b : Bool) (a : typed.Expression) → expression_weight (cond b (typed.Unary unary.Widen a) a) ≤ expression_weight a
 either_served true a = omega arith
 either_served false a = omega arith
@@ -141,7 +141,7 @@ assignment_weight (CellSide c) b = omega arith
 
 -- ---- operators
 
--- what an operation puts in front of its chain adds its sign and its operand
+-- an operation put before a chain adds its sign and its operand
 abbrev IsAdded : typed.Expression → Joined → Type 0
 IsAdded a j = (os : typed.Operations) → operations_weight (j.0 os) ≤ 1 + expression_weight a + operations_weight os
 
@@ -298,7 +298,7 @@ mutual
 
 -- ---- statements
 
--- the value of a local with its `=`
+-- the initial value of a local, with its `=`
 initial_lighter : (g : Scope) (w : WrittenType) (x : Named) (v : Option Expression) (c : Ty × Option Converted) → Derives (rule_initial g w x v) c
     → optional_weight (λ d. 1 + converted_weight d) c.1 ≤ optional_weight (λ e. 1 + written.expression_weight e) v
 initial_lighter g w x None c (k, eq) = subst (λ (z : Ty × Option Converted). optional_weight (λ d. 1 + converted_weight d) z.1 ≤ 0) (sym eq) (omega arith)
@@ -339,7 +339,7 @@ mutual
       subst (λ z. statement_weight z ≤ written.statement_weight (If p e u)) (sym eq) (omega (arith, condition_lighter g e a h, statement_lighter g u c k))
   statement_lighter g (IfElse p e u v) t (a, h, (c, k, (d, m, (w, eq)))) =
       subst (λ z. statement_weight z ≤ written.statement_weight (IfElse p e u v)) (sym eq)
-      (omega (arith, condition_lighter g e a h, statement_lighter g u c k, statement_lighter (behind g u) v d m, else_lighter d (statement_weight d)))
+      (omega (arith, condition_lighter g e a h, statement_lighter g u c k, statement_lighter (following g u) v d m, else_lighter d (statement_weight d)))
   statement_lighter g (While p e u) t (a, h, (c, k, (w, eq))) =
       subst (λ z. statement_weight z ≤ written.statement_weight (While p e u)) (sym eq) (omega (arith, condition_lighter g e a h, statement_lighter (in_body g) u c k))
   statement_lighter g (Return p v) t (c, h, (u, eq)) =
@@ -350,7 +350,7 @@ mutual
       let (n, eq) = thrown_shape g (exception_among g.exceptions x.name) x v a t d in
       subst (λ z. statement_weight z ≤ written.statement_weight (Throw p x v)) (sym eq) (omega (arith, thrown_lighter g v a ka))
   statement_lighter g (Try p s cs) t (b, kb, (ds, ks, (u, eq))) =
-      subst (λ z. statement_weight z ≤ written.statement_weight (Try p s cs)) (sym eq) (omega (arith, statement_lighter g s b kb, clauses_lighter (behind g s) [] cs ds ks))
+      subst (λ z. statement_weight z ≤ written.statement_weight (Try p s cs)) (sym eq) (omega (arith, statement_lighter g s b kb, clauses_lighter (following g s) [] cs ds ks))
 
   body_lighter : (g : Scope) (c : Body) (js : typed.Items) → Derives (rule_body g c) js → 2 + items_weight js ≤ written.body_weight c
   body_lighter g (Braces p is q) js h = omega (arith, items_lighter g is js h)
@@ -359,24 +359,24 @@ mutual
   items_lighter g NoItems js (u, eq) = subst (λ z. items_weight z ≤ 0) (sym eq) (omega arith)
   items_lighter g (MoreItems (Execute s) is) js (j, (t, h, (u, is_j)), (ks, hs, (w, eq))) =
       subst (λ z. items_weight z ≤ written.items_weight (MoreItems (Execute s) is)) (sym (eq ∙ ap (λ i. typed.MoreItems i ks) is_j))
-      (omega (arith, statement_lighter g s t h, items_lighter (behind g s) is ks hs))
+      (omega (arith, statement_lighter g s t h, items_lighter (following g s) is ks hs))
   items_lighter g (MoreItems (Local w x v) is) js (j, (u, ku, (c, kc, (y, is_j))), (ks, hs, (z, eq))) =
-      let rest : items_weight ks ≤ written.items_weight is = items_lighter (behind_item g (Local w x v) j) is ks hs in
+      let rest : items_weight ks ≤ written.items_weight is = items_lighter (following_item g (Local w x v) j) is ks hs in
       subst (λ z. items_weight z ≤ written.items_weight (MoreItems (Local w x v) is)) (sym (eq ∙ ap (λ i. typed.MoreItems i ks) is_j))
       (omega (arith, type_token w, initial_lighter g w x v c kc, rest))
   items_lighter g (MoreItems (Region r h None) is) js (j, (kept, is_j), (ks, hs, (z, eq))) =
-      let rest : items_weight ks ≤ written.items_weight is = items_lighter (behind_item g (Region r h None) j) is ks hs in
+      let rest : items_weight ks ≤ written.items_weight is = items_lighter (following_item g (Region r h None) j) is ks hs in
       subst (λ z. items_weight z ≤ written.items_weight (MoreItems (Region r h None) is)) (sym (eq ∙ ap (λ i. typed.MoreItems i ks) is_j)) (omega (arith, rest))
   items_lighter g (MoreItems (Region r h (Some k)) is) js (j, (u, ku, d), (ks, hs, (z, eq))) =
-      let rest : items_weight ks ≤ written.items_weight is = items_lighter (behind_item g (Region r h (Some k)) j) is ks hs in
+      let rest : items_weight ks ≤ written.items_weight is = items_lighter (following_item g (Region r h (Some k)) j) is ks hs in
       let (o, l, is_j) = opened_shape g r h (meaning_of g k) k.place j d in
       subst (λ z. items_weight z ≤ written.items_weight (MoreItems (Region r h (Some k)) is)) (sym (eq ∙ ap (λ i. typed.MoreItems i ks) is_j)) (omega (arith, rest))
   items_lighter g (MoreItems (Alias r w x y) is) js (j, (u, ku, (v, kv, d)), (ks, hs, (z, eq))) =
-      let rest : items_weight ks ≤ written.items_weight is = items_lighter (behind_item g (Alias r w x y) j) is ks hs in
+      let rest : items_weight ks ≤ written.items_weight is = items_lighter (following_item g (Alias r w x y) j) is ks hs in
       let (t, l, is_j) = aliased_shape g r x w (meaning_of g y) y.place j d in
       subst (λ z. items_weight z ≤ written.items_weight (MoreItems (Alias r w x y) is)) (sym (eq ∙ ap (λ i. typed.MoreItems i ks) is_j)) (omega (arith, type_token w, rest))
   items_lighter g (MoreItems (DynamicRegion r k) is) js (j, (kept, is_j), (ks, hs, (z, eq))) =
-      let rest : items_weight ks ≤ written.items_weight is = items_lighter (behind_item g (DynamicRegion r k) j) is ks hs in
+      let rest : items_weight ks ≤ written.items_weight is = items_lighter (following_item g (DynamicRegion r k) j) is ks hs in
       subst (λ z. items_weight z ≤ written.items_weight (MoreItems (DynamicRegion r k) is)) (sym (eq ∙ ap (λ i. typed.MoreItems i ks) is_j)) (omega (arith, rest))
 
   clauses_lighter : (g : Scope) (before : List ℕ) (cs : Clauses) (ds : typed.Clauses) → Derives (rule_clauses g before cs) ds → clauses_weight ds ≤ written.clauses_weight cs
@@ -384,7 +384,7 @@ mutual
   clauses_lighter g before (Default is) ds (js, h, (u, eq)) = subst (λ z. clauses_weight z ≤ written.clauses_weight (Default is)) (sym eq) (omega (arith, items_lighter (in_block g) is js h))
   clauses_lighter g before (Case x v is cs) ds (n, kn, (js, h, (es, k, (u, eq)))) =
       subst (λ z. clauses_weight z ≤ written.clauses_weight (Case x v is cs)) (sym eq)
-      (omega (arith, caught_lighter v g.next_local, items_lighter (with_caught v (in_block g)) is js h, clauses_lighter (behind_clause g (counted v) is) (x.name ∷ before) cs es k))
+      (omega (arith, caught_lighter v g.next_local, items_lighter (with_caught v (in_block g)) is js h, clauses_lighter (after_clause g (counted v) is) (x.name ∷ before) cs es k))
 
 -- ---- declarations
 
@@ -428,7 +428,7 @@ pub program_lighter : (texts : List (List ℕ)) (tree : List Declaration) (p : t
 program_lighter texts tree p (u, heads, (v, main, (fs, functions, (w, eq)))) =
     subst (λ z. program_weight z ≤ tree_weight tree) (sym eq) (declarations_lighter (program_known texts tree) tree fs functions)
 
--- ---- what a function has no more of than tokens
+-- ---- counts bounded by the number of a function's tokens
 
 caught_declares : (n : Option ℕ) → 3 * length (caught_types n) ≤ caught_weight n
 caught_declares None = omega arith
@@ -457,7 +457,7 @@ mutual
   clauses_declare (typed.Case e n r js cs) =
       omega (arith, length-append (caught_types n) (item_types js ++ clause_types cs), length-append (item_types js) (clause_types cs), caught_declares n, items_declare js, clauses_declare cs)
 
--- of a function: all its regions but those that its parameters name are its own or declared
+-- the function's regions, except those that its parameters name, are its own region or declared in its body
 abbrev Outweighs : typed.Function → Type 0
 Outweighs h = (h.variables + 1 ≤ h.regions) × (2 * length h.parameters + 3 * length h.locals + 2 * h.regions + 4 ≤ function_weight h + 2 * h.variables)
 

@@ -1,8 +1,8 @@
--- THE FLOW RULES of the whole language, each a value (`Rules`): what is known of each local behind a typed tree, and else which rule fails
--- first, with its code and place. This file has expressions. A rule takes what is known before, and the locals of which a peek waits: its
--- value has been looked at, and what is looked at must stay as it is while the rest is evaluated. (That a variable is used only where it
--- holds a value, and that a unique pointer is consumed by its use, are Cyclone's, Grossman et al. 2002; locks, peeks, codes and places are
--- this project's own choice.)
+-- THE FLOW RULES of the whole language, each a value (`Rules`): the state of each local after a typed tree, or the first rule that fails,
+-- with its code and place. This file covers expressions. A rule takes the state before, and the locals with a pending peek. The value of a
+-- local with a pending peek was read, and must not change while the remaining operands are evaluated. (Two rules are Cyclone's, Grossman et
+-- al. 2002: a variable is used only while it holds a value, and a use consumes a unique pointer. Locks, peeks, codes and places are this
+-- project's own choice.)
 use Rattle.std.specs.Prelude.{ℕ, Bool, true, not, nat_eq, ◌&&◌, List, [], ◌∷◌, ◌++◌, Option, Some, None}
 use Rattle.std.specs.List.{list_any}
 use Rattle.cyc_words.specs.declared.fault.Code.TheVariants as codes
@@ -14,58 +14,58 @@ use Rattle.cyc_types.specs.flow.States.{State, Unreached, Reached, Vacant, Full,
 
 -- ---- variables
 
--- a local that is used at this place holds a value, which is not lent out
+-- the demands on a local used at this place: it holds a value, which is not lent out
 abbrev pub full_demanded : Place → ℕ → State → List Demand
 full_demanded p n f = demand codes.EmptyVariable p (not (is_vacant (fullness f n))) ∷ demand codes.LockedVariable p (not (is_locked (fullness f n))) ∷ []
 
--- no peek of this local waits
+-- true if no peek of this local is pending
 abbrev pub is_free : (waiting : List ℕ) → ℕ → State → Bool
 is_free q n Unreached = true
 is_free q n (Reached as') = not (list_any (λ m. nat_eq m n) q)
 
--- it is used other than by a peek
+-- the demands on a use of the local that is not a peek
 abbrev pub use_demanded : (waiting : List ℕ) → Place → ℕ → State → List Demand
 use_demanded q p n f = full_demanded p n f ++ demand codes.LockedVariable p (is_free q n f) ∷ []
 
--- a local that is assigned at this place is not lent out
+-- the demands on a local assigned at this place: it is not lent out and no peek of it is pending
 abbrev pub store_demanded : (waiting : List ℕ) → Place → ℕ → State → List Demand
 store_demanded q p n f = demand codes.LockedVariable p (not (is_locked (fullness f n)) && is_free q n f) ∷ []
 
--- the value of a local is looked at, and stays there
+-- the rule for a peek of a local, which keeps its value
 abbrev pub looked : Place → ℕ → State → Rule State
 looked p n f = Own (full_demanded p n f) f
 
--- the value of a local is used, which leaves the local empty
+-- the rule for a use of a local that leaves it empty
 abbrev pub moved : (waiting : List ℕ) → Place → ℕ → State → Rule State
 moved q p n f = Own (use_demanded q p n f) (with_fullness Vacant f n)
 
--- a variable is used, and holds its value still: globals are not tracked
+-- the rule for a use of a variable that keeps its value; globals are not tracked
 abbrev pub used : (waiting : List ℕ) → Lvalue → State → Rule State
 used q (Local p n) f = Own (use_demanded q p n f) f
 used q (Global n) f = gives f
 
--- a value is put into a variable
+-- the rule for storing a value into a variable
 abbrev pub stored : (waiting : List ℕ) → Lvalue → State → Rule State
 stored q (Local p n) f = Own (store_demanded q p n f) (with_fullness Full f n)
 stored q (Global n) f = gives f
 
--- the locals of which a peek waits, and this one, if it is one
+-- the pending peeks, extended by this local if there is one
 abbrev pub and_peeked : Option ℕ → List ℕ → List ℕ
 and_peeked None q = q
 and_peeked (Some n) q = q ++ (n ∷ [])
 
--- the local that an operand is a peek of
+-- the local that an operand peeks at, if any
 abbrev pub peek_of : Expression → Option ℕ
 peek_of (Peek p n t) = Some n
 peek_of a = None
 
--- the local that a place is reached through by a peek
-abbrev pub peek_behind : Dereference → Option ℕ
-peek_behind (Target k a t) = peek_of a
-peek_behind (Member k a s m t) = peek_of a
-peek_behind (Element a i t) = peek_of a
+-- the local whose peek a place is reached through, if any
+abbrev pub peek_after : Dereference → Option ℕ
+peek_after (Target k a t) = peek_of a
+peek_after (Member k a s m t) = peek_of a
+peek_after (Element a i t) = peek_of a
 
--- Back at the head of a loop nothing is emptier than it was. The loop's keyword is at this place.
+-- Demands that no local is emptier at the end of a loop's body than at the loop's head. The place is that of the loop's keyword.
 abbrev pub head_demanded : Place → (now head : State) → List Demand
 head_demanded p f head = demand codes.LoopEmptiesVariable p (is_at_least f head) ∷ []
 
@@ -90,10 +90,10 @@ abbrev mutual
   rule q (Unary o a) f = rule q a f
   rule q (Binary a os t) f = Part (rule q a f) (λ g. rule_operations q os g)
   rule q (Assign l c t) f = Part (rule_converted q c f) (λ g. stored q l g)
-  rule q (Store d c t) f = Part (rule_place q d f) (λ g. rule_converted (and_peeked (peek_behind d) q) c g)
+  rule q (Store d c t) f = Part (rule_place q d f) (λ g. rule_converted (and_peeked (peek_after d) q) c g)
   rule q (New w i t) f = Part (rule_placement q w f) (λ g. rule_initial q i g)
 
-  -- a place that a pointer leads to
+  -- the rule for a place that a pointer leads to
   pub rule_place : (waiting : List ℕ) → Dereference → State → Rule State
   rule_place q (Target k a t) f = rule q a f
   rule_place q (Member k a s m t) f = rule q a f
@@ -104,7 +104,7 @@ abbrev mutual
   rule_placement q AsUnique f = gives f
   rule_placement q (ByHandle a) f = rule q a f
 
-  -- The elements of an array are evaluated in a loop, whose head stands behind the length. It may have none.
+  -- The elements of an array are evaluated in a loop that starts after the length. The loop may run zero times.
   pub rule_initial : (waiting : List ℕ) → Initial → State → Rule State
   rule_initial q (Plain k a) f = rule q a f
   rule_initial q (Fields as') f = rule_arguments q as' f
@@ -117,7 +117,7 @@ abbrev mutual
   rule_arguments q NoArguments f = gives f
   rule_arguments q (MoreArguments c as') f = Part (rule_converted q c f) (λ g. rule_arguments q as' g)
 
-  -- `&&` and `||` may stop before their right operand
+  -- `&&` and `||` may skip their right operand
   pub rule_operations : (waiting : List ℕ) → Operations → State → Rule State
   rule_operations q NoOperations f = gives f
   rule_operations q (ThenCompute o a os) f = Part (rule q a f) (λ g. rule_operations q os g)

@@ -1,6 +1,6 @@
--- THE FLOW RULES of functions and of a program: at the start of a function its parameters hold values, and the end of one with a result
--- is never reached. (As in `Expressions`: what a variable has to hold is Cyclone's, Grossman et al. 2002; codes and places are this
--- project's own choice.)
+-- THE FLOW RULES of functions and of a program. At the start of a function its parameters hold values. The end of a function with a result
+-- is never reached. (As in `Expressions`: the variables that must hold values are Cyclone's, Grossman et al. 2002. Codes and places are
+-- this project's own choice.)
 use Rattle.std.specs.Prelude.{not, List, [], ◌∷◌, ◌++◌, Option, Some, None}
 use Rattle.cyc_words.specs.declared.fault.Code.TheVariants as codes
 use Rattle.cyc_words.specs.declared.fault.Fault.{Fault}
@@ -18,11 +18,11 @@ each_is a (t ∷ ts) = a ∷ each_is a ts
 abbrev pub start_of : Function → State
 start_of h = Reached (each_is Full h.parameters ++ each_is Vacant h.locals)
 
--- in no loop, and with nothing locked
+-- the surroundings of a function's body: no loop, and no locks
 abbrev pub in_function : Around
 in_function = record { loop = None; locks = [] }
 
--- the function's last brace stands at this place
+-- the end of a function with a result is not reached; the place is that of its last brace
 abbrev pub end_demanded : Option Ty → Place → State → List Demand
 end_demanded None p f = []
 end_demanded (Some t) p f = demand codes.MissingReturn p (not (is_reached f)) ∷ []
@@ -37,14 +37,14 @@ rule_functions (h ∷ hs) = Part (rule_function h) (λ u. rule_functions hs)
 abbrev pub rule_program : Program → Rule (Unit {0})
 rule_program p = rule_functions p.functions
 
--- the program keeps the flow rules
+-- the program satisfies the flow rules
 abbrev pub IsAllowedProgram : Program → Type 0
 IsAllowedProgram p = Derives (rule_program p) tt
 
--- the program is refused with this fault
+-- the flow rules reject the program with this fault
 abbrev pub IsStoppedProgram : Program → Fault → Type 0
 IsStoppedProgram p x = Refuses (rule_program p) x
 
--- nothing, or the fault of the program
+-- success, or the program's first flow fault
 abbrev pub flow_of : Program → Checked (Unit {0})
 flow_of p = run (rule_program p)

@@ -1,6 +1,6 @@
--- THE FLOW RULES of statements, of items and of clauses. What is known is carried along in the order in which a program is run, with what
--- is known at the breaks that leave the loop around. (As in `Expressions`: what a variable has to hold is Cyclone's, Grossman et al.
--- 2002; locks, codes and places are this project's own choice.)
+-- THE FLOW RULES of statements, of items and of clauses. The states of the locals are propagated in execution order, together with the
+-- states at the breaks that leave the innermost loop. (As in `Expressions`: the demands on variables are Cyclone's, Grossman et al. 2002;
+-- locks, codes and places are this project's own choice.)
 use Rattle.std.specs.Prelude.{ℕ, List, [], ◌∷◌, ◌++◌, Option, Some, None}
 use Rattle.cyc_syntax.specs.Symbols.{Place}
 use Rattle.cyc_types.specs.TypedTrees.{Local, Global, Expression, Converted, Side, VariableSide, CellSide, Statement, Block, Empty, Evaluate, Swap, If, While, Return, Break, Continue}
@@ -8,19 +8,19 @@ use Rattle.cyc_types.specs.TypedTrees.{Throw, Try, Items, NoItems, MoreItems, It
 use Rattle.cyc_types.specs.Rules.{Demand, Rule, Own, Part, gives}
 use Rattle.cyc_types.specs.flow.States.{State, Unreached, Vacant, Locked, Full, meet, with_fullness, with_each, emptied}
 use Rattle.cyc_types.specs.flow.Touched.{touched_statement}
-use Rattle.cyc_types.specs.flow.Expressions.{full_demanded, use_demanded, and_peeked, peek_behind, head_demanded, rule, rule_place, rule_converted}
+use Rattle.cyc_types.specs.flow.Expressions.{full_demanded, use_demanded, and_peeked, peek_after, head_demanded, rule, rule_place, rule_converted}
 
--- a loop around: the place of its `while`, and what is known at its head
+-- the enclosing loop: the place of its `while`, and the state at its head
 pub record Loop : Type 0 where
   pub place : Place
   pub head : State
 
--- Where a statement stands: in the innermost loop, if there is one, and behind items that have locked these locals since its body began.
+-- The surroundings of a statement: the innermost enclosing loop, if any, and the locals that items have locked since the loop's body began.
 pub record Around : Type 0 where
   pub loop : Option Loop
   pub locks : List ℕ
 
--- what is known at a place, and what is known at the breaks before it that leave the loop around, met
+-- the state at a program point, and the meet of the states at the breaks before it that leave the enclosing loop
 pub record Known : Type 0 where
   pub now : State
   pub breaks : State
@@ -38,17 +38,17 @@ abbrev pub rule_thrown : Option Expression → State → Rule State
 rule_thrown None f = gives f
 rule_thrown (Some a) f = rule [] a f
 
--- a side of a swap, as a place
+-- the rule for a side of a swap, as a place
 abbrev pub rule_side : (waiting : List ℕ) → Side → State → Rule State
 rule_side q (VariableSide l t) f = gives f
 rule_side q (CellSide d) f = rule_place q d f
 
--- the local that the left side of a swap is reached through by a peek
+-- the local whose peek the left side of a swap is reached through, if any
 abbrev pub peeked_side : Side → Option ℕ
 peeked_side (VariableSide l t) = None
-peeked_side (CellSide d) = peek_behind d
+peeked_side (CellSide d) = peek_after d
 
--- a side that is a variable is used once both places are found
+-- a side that is a variable is used after both places have been evaluated
 abbrev pub side_demanded : (waiting : List ℕ) → Side → State → List Demand
 side_demanded q (VariableSide (Local p n) t) f = use_demanded q p n f
 side_demanded q (VariableSide (Global n) t) f = []
@@ -60,11 +60,11 @@ swap_demanded x y f = side_demanded [] x f ++ side_demanded (and_peeked (peeked_
 abbrev pub rule_swapped : Side → Side → State → Rule State
 rule_swapped x y f = Part (rule_side [] x f) (λ g. Part (rule_side (and_peeked (peeked_side x) []) y g) (λ h. Own (swap_demanded x y h) h))
 
--- in the body of a loop at this place, with this known at its head
+-- the surroundings in the body of a loop with this place and this state at its head
 abbrev pub in_loop : Place → State → Around
 in_loop p head = record { loop = Some (record { place = p; head = head }); locks = [] }
 
--- what the items of the loop's body have locked is full again where it is left
+-- the state after leaving the loop's body: the locals that its items have locked are full again
 abbrev pub left_loop : Around → State → State
 left_loop c f = with_each Full c.locks f
 
@@ -72,13 +72,13 @@ abbrev pub continue_demanded : Option Loop → State → List Demand
 continue_demanded None f = []
 continue_demanded (Some l) f = head_demanded l.place f l.head
 
--- behind a loop its condition has just been evaluated, or a break has left it
-abbrev pub behind_loop : Place → (head exit : State) → (breaks : State) → Known → Rule Known
-behind_loop p head exit breaks k = Own (head_demanded p k.now head) (record { now = meet exit k.breaks; breaks = breaks })
+-- the rule after a loop: either its condition was evaluated last, or a break left it
+abbrev pub after_loop : Place → (head exit : State) → (breaks : State) → Known → Rule Known
+after_loop p head exit breaks k = Own (head_demanded p k.now head) (record { now = meet exit k.breaks; breaks = breaks })
 
 -- ---- items
 
--- the local that an item locks to the end of its block
+-- the local that an item locks to the end of its block, if any
 abbrev pub locked_by : Item → List ℕ
 locked_by (Execute s) = []
 locked_by (Declare n t v) = []
@@ -91,26 +91,26 @@ abbrev pub locks_of : Items → List ℕ
 locks_of NoItems = []
 locks_of (MoreItems j js) = locked_by j ++ locks_of js
 
--- where the item behind this one stands
-abbrev pub behind_item : Item → Around → Around
-behind_item j c = record c { locks = c.locks ++ locked_by j }
+-- the surroundings of the next item
+abbrev pub following_item : Item → Around → Around
+following_item j c = record c { locks = c.locks ++ locked_by j }
 
--- a local of this number is declared, with a value or without one
+-- the rule for the declaration of a local, with or without a value
 abbrev pub rule_declared : ℕ → Option Converted → State → Rule State
 rule_declared n None f = gives (with_fullness Vacant f n)
 rule_declared n (Some c) f = Part (rule_converted [] c f) (λ g. gives (with_fullness Full g n))
 
--- a local of this number is declared, and the one that is named at this place is locked
+-- the rule for an item that declares one local and locks another, named at this place
 abbrev pub rule_locked : ℕ → Place → (locked : ℕ) → State → Rule State
 rule_locked n p m f = Own (full_demanded p m f) (with_fullness Full (with_fullness Locked f m) n)
 
--- at the end of a block what its items have locked is full again
+-- the state at the end of a block: the locals that its items have locked are full again
 abbrev pub at_end : Items → Known → Known
 at_end js k = at (with_each Full (locks_of js) k.now) k
 
 -- ---- clauses
 
--- what is known where a clause begins, of which the first is known at its `try`
+-- the state at the start of a clause, given the state at its `try`: locals that the body touches count as empty
 abbrev pub caught : State → Statement → State
 caught f s = emptied (touched_statement s []) f
 
@@ -118,7 +118,7 @@ abbrev pub with_caught : Option ℕ → State → State
 with_caught None f = f
 with_caught (Some n) f = with_fullness Full f n
 
--- behind a `try` either what is before has been run, or this clause
+-- the state after a `try` with one more clause: either the earlier part was run, or this clause
 abbrev pub or_clause : State → Items → Known → Known
 or_clause before js k = at (meet before (at_end js k).now) k
 
@@ -133,7 +133,7 @@ abbrev mutual
   rule_statement c (If a s t) k =
       Part (rule [] a k.now) (λ f. Part (rule_statement c s (at f k)) (λ l. Part (rule_statement c t (at f l)) (λ m. gives (at (meet l.now m.now) m))))
   rule_statement c (While p a s) k =
-      Part (rule [] a k.now) (λ f. Part (rule_statement (in_loop p k.now) s (record { now = f; breaks = Unreached })) (λ l. behind_loop p k.now f k.breaks l))
+      Part (rule [] a k.now) (λ f. Part (rule_statement (in_loop p k.now) s (record { now = f; breaks = Unreached })) (λ l. after_loop p k.now f k.breaks l))
   rule_statement c (Return v) k = Part (rule_value v k.now) (λ f. gives (at Unreached k))
   rule_statement c Break k = gives (record { now = Unreached; breaks = meet k.breaks (left_loop c k.now) })
   rule_statement c Continue k = Own (continue_demanded c.loop (left_loop c k.now)) (at Unreached k)
@@ -142,7 +142,7 @@ abbrev mutual
 
   pub rule_items : Around → Items → Known → Rule Known
   rule_items c NoItems k = gives k
-  rule_items c (MoreItems j js) k = Part (rule_item c j k) (λ l. rule_items (behind_item j c) js l)
+  rule_items c (MoreItems j js) k = Part (rule_item c j k) (λ l. rule_items (following_item j c) js l)
 
   pub rule_item : Around → Item → Known → Rule Known
   rule_item c (Execute s) k = rule_statement c s k
@@ -152,7 +152,7 @@ abbrev mutual
   rule_item c (DeclareAlias r n t p m) k = Part (rule_locked n p m k.now) (λ f. gives (at f k))
   rule_item c (DeclareKey r n) k = gives (at (with_fullness Full k.now n) k)
 
-  -- the clauses of a catch, of which each begins with this known
+  -- the rule for the clauses of a catch, each of which begins with this state
   pub rule_clauses : Around → State → Clauses → Known → Rule Known
   rule_clauses c start NoClauses k = gives k
   rule_clauses c start (Default r js) k = Part (rule_items c js (at start k)) (λ l. gives (or_clause k.now js l))

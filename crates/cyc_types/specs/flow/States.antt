@@ -1,14 +1,13 @@
--- What is known of each local where a typed tree stands: whether it holds a value. (The three states are this project's
--- own choice.)
+-- The state of each local at a program point of a typed tree: full, lent out or empty. (The three states are this project's own choice.)
 use Rattle.std.specs.Prelude.{ℕ, Bool, true, false, ◌&&◌, if◌then◌else◌, List, [], ◌∷◌, get_or, slice_set}
 
--- In rising order: it may hold nothing, it holds a value that is lent out, it holds a value.
+-- The fullness of a local, in rising order: it may hold no value; it holds a value that is lent out; it holds a value.
 pub data Fullness : Type 0 where
   Vacant : Fullness
   Locked : Fullness
   Full : Fullness
 
--- the code here is never run, or what is known of each local, by its number
+-- the state at a program point: unreachable code, or the fullness of each local by its number
 pub data State : Type 0 where
   Unreached : State
   Reached : List Fullness → State
@@ -25,7 +24,7 @@ lower_each [] bs = []
 lower_each (a ∷ as') [] = []
 lower_each (a ∷ as') (b ∷ bs) = lower a b ∷ lower_each as' bs
 
--- where two branches meet, the lower is known of each local
+-- the meet at the join of two branches: for each local the lower of its two states
 abbrev pub meet : State → State → State
 meet Unreached g = g
 meet (Reached as') Unreached = Reached as'
@@ -40,14 +39,14 @@ is_as_full Locked Locked = true
 is_as_full Locked Full = false
 is_as_full Full b = true
 
--- the same of each local of a function
+-- each local is at least as full in the first list as in the second
 abbrev pub are_as_full : List Fullness → List Fullness → Bool
 are_as_full [] [] = true
 are_as_full [] (b ∷ bs) = false
 are_as_full (a ∷ as') [] = false
 are_as_full (a ∷ as') (b ∷ bs) = is_as_full a b && are_as_full as' bs
 
--- nothing is emptier in the first state than in the second
+-- no local is emptier in the first state than in the second
 abbrev pub is_at_least : State → State → Bool
 is_at_least Unreached g = true
 is_at_least (Reached as') Unreached = false
@@ -57,7 +56,7 @@ abbrev pub is_reached : State → Bool
 is_reached Unreached = false
 is_reached (Reached as') = true
 
--- In code that is never run no rule is broken: each local counts as full there.
+-- The fullness of a local in a state. In unreachable code each local counts as full, so unreachable code breaks no rule.
 abbrev pub fullness : State → ℕ → Fullness
 fullness Unreached n = Full
 fullness (Reached as') n = get_or as' n Vacant
@@ -66,7 +65,7 @@ abbrev pub with_fullness : Fullness → State → ℕ → State
 with_fullness a Unreached n = Unreached
 with_fullness a (Reached as') n = Reached (slice_set as' n a)
 
--- of each of these locals
+-- the state with this fullness for each of these locals
 abbrev pub with_each : Fullness → List ℕ → State → State
 with_each a [] f = f
 with_each a (n ∷ ns) f = with_each a ns (with_fullness a f n)
@@ -79,7 +78,7 @@ abbrev pub is_locked : Fullness → Bool
 is_locked Locked = true
 is_locked a = false
 
--- each of these locals holds nothing, unless it is locked
+-- the state in which each of these locals is empty, unless the local is locked
 abbrev pub emptied : List ℕ → State → State
 emptied [] f = f
 emptied (n ∷ ns) f = emptied ns (if is_locked (fullness f n) then f else with_fullness Vacant f n)

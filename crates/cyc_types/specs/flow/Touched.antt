@@ -1,6 +1,6 @@
--- The locals that a statement consumes, assigns or locks, whether it is ever run or not, each as often as it does so: unique pointers and
--- keys, since nothing else is consumed or locked, and what else is assigned holds a value all the same. A local that is declared without
--- a value is one of them too. Each list begins with those that were touched before. (This project's own choice.)
+-- The locals that a statement consumes, assigns or locks, executed or not, with repetitions. Only unique pointers and keys matter: nothing
+-- else is consumed or locked, and an assignment to any other local leaves it with a value. A local that is declared without a value also
+-- counts. Each list begins with the locals touched before. The definition of touched locals is this project's own choice.
 use Rattle.std.specs.Prelude.{ℕ, List, [], ◌∷◌, ◌++◌, Option, Some, None}
 use Rattle.cyc_types.specs.Types.{ValueType, Void}
 use Rattle.cyc_types.specs.TypedTrees.{Lvalue, Local, Expression, Number, NullPointer, HeapRegion, Counter, Copy, Move, Peek, Load, AddressOf, AddressOfCell, NumberOfElements, FreeUnique, FreeKey, Call, Unary, Binary}
@@ -11,7 +11,7 @@ use Rattle.cyc_types.specs.TypedTrees.{Return, Break, Continue, Throw, Try, Item
 abbrev pub and_local : ℕ → List ℕ → List ℕ
 and_local n ns = ns ++ (n ∷ [])
 
--- an assignment that has no value is one of a unique pointer or of a key
+-- an assignment without a value assigns a unique pointer or a key
 abbrev pub and_assigned : Lvalue → ValueType → List ℕ → List ℕ
 and_assigned (Local p n) Void ns = and_local n ns
 and_assigned l t ns = ns
@@ -79,7 +79,7 @@ abbrev pub touched_thrown : Option Expression → List ℕ → List ℕ
 touched_thrown None ns = ns
 touched_thrown (Some a) ns = touched a ns
 
--- a declaration of a local that has this value, if it has one
+-- the local touched by a declaration with this initial value, if it has one
 abbrev pub touched_declaration : ℕ → Option Converted → List ℕ → List ℕ
 touched_declaration n None ns = and_local n ns
 touched_declaration n (Some c) ns = touched_converted c ns

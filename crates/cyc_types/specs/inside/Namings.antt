@@ -1,13 +1,13 @@
--- Names of regions as the code keeps them. (This project's own choice.)
+-- Names of regions in the code's representation. The representation of region names is this project's own choice.
 use Rattle.std.specs.Prelude.{ℕ, List, [], ◌∷◌}
 use Rattle.cyc_types.specs.declared.region.Region.TheVariants.{Heap, Unique}
 use Rattle.cyc_types.specs.typing.Scopes.{RegionName}
 use Rattle.cyc_types.specs.typing.Formation.{Naming}
 
--- what is known behind some parameters
+-- the names and the next region number after some parameters
 abbrev pub naming : List RegionName → ℕ → Naming
 naming names next = record { names = names; next = next }
 
--- the names of the regions that are there before a text
+-- the names of the built-in regions
 abbrev pub first_regions : (heap unique : ℕ) → List RegionName
 first_regions heap unique = record { name = heap; region = Heap } ∷ record { name = unique; region = Unique } ∷ []

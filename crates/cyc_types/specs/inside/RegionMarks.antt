@@ -1,5 +1,5 @@
--- Which regions are marked: the heap and the unique region each by a mark of its own, and each region variable by one at its number.
--- (This project's own choice.)
+-- Sets of regions as marks: one mark each for the heap and the unique region, and one mark for each region variable, by its number. The
+-- representation of sets of regions by marks is this project's own choice.
 use Rattle.std.specs.Prelude.{Bool, false, List, get_or}
 use Rattle.cyc_types.specs.declared.region.Region.{Region}
 use Rattle.cyc_types.specs.declared.region.Region.TheVariants.{Heap, Unique, Variable}

@@ -1,6 +1,6 @@
--- A type as it is written becomes a type by total functions, with defaults for what is left out and for what is not known. What may be
--- wrong with it is told apart from that, by demands. (That a region may be left out is Cyclone's, Grossman et al. 2002; the defaults,
--- the codes and their order are this project's own choice.)
+-- A written type is mapped to a type by total functions, with defaults for omitted parts and unknown names. The faults of a written type
+-- are demands, stated separately. (That a region may be omitted is Cyclone's, Grossman et al. 2002; the defaults, the codes and their order
+-- are this project's own choice.)
 use Rattle.std.specs.Prelude.{ℕ, suc, Bool, true, false, nat_eq, not, ◌||◌, if◌then◌else◌, List, [], ◌∷◌, ◌++◌, map, replicate, length, Option, None, Some, is_some, unwrap_or}
 use Rattle.cyc_words.specs.declared.fault.Code.TheVariants as codes
 use Rattle.cyc_syntax.specs.declared.tree.PointerKind.{PointerKind}
@@ -17,7 +17,7 @@ use Rattle.cyc_types.specs.typing.Scopes.{RegionName, StructName, region_among}
 
 -- ---- structs
 
--- the number of the struct of this name, and its region parameters: the first of that name counts
+-- the index of the struct of this name; the first struct of that name counts
 abbrev pub struct_number : List StructName → ℕ → ℕ
 struct_number [] x = 0
 struct_number (s ∷ structs) x = if nat_eq s.name x then 0 else suc (struct_number structs x)
@@ -26,18 +26,18 @@ abbrev pub parameters_among : List StructName → ℕ → Option ℕ
 parameters_among [] x = None
 parameters_among (s ∷ structs) x = if nat_eq s.name x then Some s.parameters else parameters_among structs x
 
--- ---- the type that is written where these structs and names of regions are known
+-- ---- the meaning of a written type, given the known structs and region names
 
--- a name that is not known is taken for that of the heap
+-- the region of a name; an unknown name denotes the heap
 abbrev pub region_of : List RegionName → Named → Region
 region_of names r = unwrap_or (region_among names r.name) Heap
 
--- the region of a mark, where this one stands for what is left out
+-- the region of a mark, or this default if it is omitted
 abbrev pub region_or : List RegionName → Region → Option Named → Region
 region_or names left_out None = left_out
 region_or names left_out (Some r) = region_of names r
 
--- arguments that are left out are the heap
+-- the region arguments; omitted arguments are the heap
 abbrev pub arguments_or : List RegionName → ℕ → List Named → List Region
 arguments_or names n [] = replicate n Heap
 arguments_or names n (r ∷ rs) = map (region_of names) (r ∷ rs)
@@ -52,7 +52,7 @@ base_written structs names (Struct s rs) = struct_written structs names s rs
 base_written structs names (Handle r) = types.Handle (region_of names r)
 base_written structs names (Key r) = types.Key (region_of names r)
 
--- only the outermost mark, which is the last, has this region where it is left out
+-- the default for an omitted region: this region for the outermost (last) mark, the heap for all others
 abbrev pub left_out_at : Region → List Pointer → Region
 left_out_at outermost [] = outermost
 left_out_at outermost (m ∷ ms) = Heap
@@ -61,13 +61,13 @@ abbrev pub pointers_written : List RegionName → Region → Ty → List Pointer
 pointers_written names outermost t [] = t
 pointers_written names outermost t (m ∷ ms) = pointers_written names outermost (types.Pointer m.kind t (region_or names (left_out_at outermost ms) m.region)) ms
 
--- where this region stands for that of the outermost mark if it is left out, and the heap for any other
+-- the type of a written type; an omitted region is the given one at the outermost mark, and the heap elsewhere
 abbrev pub type_written : List StructName → List RegionName → (outermost : Region) → WrittenType → Ty
 type_written structs names outermost w = pointers_written names outermost (base_written structs names w.base) w.marks
 
--- ---- the types of parameters: they declare the names of regions that stand in them, and what they leave out is a region of its own
+-- ---- the types of parameters, which declare the region names in them; each omitted region is a new one
 
--- the names known so far, and the number of the next region
+-- the region names known so far, and the number of the next region
 pub record Naming : Type 0 where
   pub names : List RegionName
   pub next : ℕ
@@ -141,9 +141,9 @@ abbrev pub after_members : Naming → List Member → Naming
 after_members n [] = n
 after_members n (m ∷ ms) = after_members (after_type n m.of_type) ms
 
--- ---- what is wrong with a type
+-- ---- the faults of a written type
 
--- the name is known to be that of this region
+-- true if the name is known and denotes this region
 abbrev pub is_name_of : List RegionName → Region → Named → Bool
 is_name_of names region r = stands_for (region_among names r.name)
   where
@@ -154,13 +154,13 @@ is_name_of names region r = stands_for (region_among names r.name)
 abbrev pub is_known : List RegionName → Named → Bool
 is_known names r = is_some (region_among names r.name)
 
--- Elsewhere than in a parameter the name of a region is a known one. A parameter of a function may declare it, so it is not the
--- function's own.
+-- The demand on a region name: outside a parameter it is known. A parameter may declare it, but not with the name of the function's own
+-- region.
 abbrev pub name_demanded : List RegionName → (own : Option ℕ) → Named → Demand
 name_demanded names None r = demand codes.UnknownName r.place (is_known names r)
 name_demanded names (Some own) r = demand codes.DeclaredTwice r.place (not (nat_eq r.name own))
 
--- the region of unique pointers stands behind a mark alone, and the heap has no key
+-- the demands that the unique region occurs only after a mark, and that the heap has no key
 abbrev pub no_unique_demanded : List RegionName → Named → Demand
 no_unique_demanded names r = demand codes.RegionOrKeyMisused r.place (not (is_name_of names Unique r))
 
@@ -171,12 +171,12 @@ abbrev pub names_demanded : List RegionName → (own : Option ℕ) → List Name
 names_demanded names own [] = []
 names_demanded names own (r ∷ rs) = name_demanded names own r ∷ no_unique_demanded names r ∷ names_demanded names own rs
 
--- no arguments, or as many as the struct has parameters
+-- true if there are no arguments, or as many as the struct has parameters
 abbrev pub is_count : Option ℕ → List Named → Bool
 is_count None rs = true
 is_count (Some n) rs = is_empty rs || nat_eq (length rs) n
 
--- a struct with its arguments, in a type that begins at this place
+-- the demands on a struct and its arguments, in a type that begins at this place
 abbrev pub struct_demanded : List StructName → List RegionName → (own : Option ℕ) → Place → Named → List Named → List Demand
 struct_demanded structs names own p s rs =
     demand codes.UnknownName s.place (is_some (parameters_among structs s.name))
@@ -203,7 +203,7 @@ is_fat_mark marks.Nullable = false
 is_fat_mark marks.NonNull = false
 is_fat_mark marks.Fat = true
 
--- a struct is the target of a pointer that is not fat, and a key is that of none
+-- true if the shape of the type is allowed: a struct only as the target of a thin pointer, and no pointer to a key
 abbrev pub is_shape : BaseType → List Pointer → Bool
 is_shape Int ms = true
 is_shape Char ms = true
@@ -220,11 +220,11 @@ abbrev pub is_key_base : BaseType → Bool
 is_key_base (Key r) = true
 is_key_base b = false
 
--- a field is no key
+-- the demands on a field, which is not a key
 abbrev pub field_demanded : List StructName → List RegionName → WrittenType → List Demand
 field_demanded structs names w = type_demanded structs names None w ++ demand codes.RegionOrKeyMisused w.place (not (is_key_base w.base)) ∷ []
 
--- a global is an int, a char or a pointer
+-- true if a global may have this type: an int, a char or a pointer
 abbrev pub is_global_shape : BaseType → List Pointer → Bool
 is_global_shape Int ms = true
 is_global_shape Char ms = true

@@ -1,5 +1,5 @@
--- The typing rules of a program: the heads of all its declarations in order, then `main`, which may be missing, then the bodies of its
--- functions in order. (What `main` is, and the order, are this project's own choice.)
+-- The typing rules of a program: first all signatures in order, then the presence of `main`, then the function bodies in order. (The form
+-- of `main` and the order are this project's own choice.)
 use Rattle.std.specs.Prelude.{ℕ, suc, ◌+◌, ◌-◌, ◌%◌, ◌^◌, false, nat_eq, if◌then◌else◌, List, [], ◌∷◌, ◌++◌, map, length, Option, Some, None, codes as bytes}
 use Rattle.cyc_words.specs.declared.fault.Code.TheVariants as codes
 use Rattle.cyc_words.specs.declared.fault.Fault.{Fault}
@@ -19,21 +19,21 @@ use Rattle.cyc_types.specs.typing.Scopes.{signature_of_ints, RegionName, StructN
 use Rattle.cyc_types.specs.typing.Tests.{is_pointer}
 use Rattle.cyc_types.specs.typing.Formation.{type_written}
 use Rattle.cyc_types.specs.typing.Statements.{rule_items}
-use Rattle.cyc_types.specs.typing.Heads.{Known, members_of, structs_of, fields_of, exceptions_of, parameter_naming, signature_of, declared_from, region_numbers, Before, rule_heads, declares}
+use Rattle.cyc_types.specs.typing.DeclarationRules.{Known, members_of, structs_of, fields_of, exceptions_of, parameter_naming, signature_of, declared_from, region_numbers, Before, rule_declarations, declares}
 
--- ---- what is there before a text, by the numbers of names in a list of texts
+-- ---- the built-in declarations, by the numbers of their names in a list of texts
 
 abbrev pub regions_before : List (List ℕ) → List RegionName
 regions_before texts =
     record { name = number_of texts (bytes "H"); region = regions.Heap } ∷ record { name = number_of texts (bytes "U"); region = regions.Unique } ∷ []
 
--- the exceptions of the language, in order of their numbers from 1; none has an int
+-- the built-in exceptions, in the order of their numbers from 1; none has an int
 abbrev pub exceptions_before : List (List ℕ) → List Exception
 exceptions_before texts =
     map (λ (x : List ℕ). record { name = number_of texts x; has_int = false })
     (bytes "Null_Exception" ∷ bytes "Array_bounds" ∷ bytes "Array_size" ∷ bytes "Div_zero" ∷ [])
 
--- `int putchar(int)` and `int getchar()`
+-- the built-in functions `int putchar(int)` and `int getchar()`
 abbrev pub declared_before : List (List ℕ) → List Declared
 declared_before texts =
     record { name = number_of texts (bytes "putchar"); meaning = Routine callees.Putchar (signature_of_ints (Int ∷ [])) }
@@ -50,9 +50,9 @@ before_all texts = record {
   names = map (λ (d : Declared). d.name) (declared_before texts);
 }
 
--- ---- bodies of functions
+-- ---- function bodies
 
--- what all bodies know
+-- what is known in all function bodies
 pub record Program : Type 0 where
   pub known : Known
   pub fields : List (List Field)
@@ -67,21 +67,21 @@ program_known texts tree = record {
   declared = declared_before texts ++ declared_from (known_of texts tree) 0 0 tree;
 }
 
--- the parameters, the newest first, in front of those before; the first of them has this number
+-- the parameters as locals, newest first, before the given ones; the first parameter has this number
 abbrev pub parameter_locals : List Member → List Ty → ℕ → List LocalVariable → List LocalVariable
 parameter_locals (m ∷ ms) (t ∷ ts) n vs = parameter_locals ms ts (suc n) (record { name = m.name.name; number = n; of_type = t; region = 0; sort = Ordinary } ∷ vs)
 parameter_locals ms ts n vs = vs
 
--- the function's own region has its name; the others are the parameters'
+-- the region names in a body: the function's own region and those of the parameters
 abbrev pub body_names : Known → Named → Parameters → List RegionName
 body_names k x ps = record { name = x.name; region = regions.Variable 0 } ∷ (parameter_naming k ps).names
 
--- The regions of a body: its own opens where what its effect names is live.
+-- The region context of a body: its own region opens while the regions of the effect are live.
 abbrev pub body_regions : Signature → RegionContext
 body_regions s =
     with_scope kinds.Block (regions.Variable 0) (record { written = s.constraints; live = regions.Heap ∷ regions.Unique ∷ s.effect; opened = [] })
 
--- the scope of a function's body, which is one with that of its parameters
+-- the scope of a function's body, which it shares with the parameters
 abbrev pub body_scope : Program → Signature → Named → Parameters → Scope
 body_scope p s x ps = record {
   structs = p.known.structs;
@@ -129,12 +129,12 @@ rule_functions p (Function r x ps b ∷ tree) =
 
 -- ---- programs
 
--- the word of a global whose value is written as this one: a char keeps its low byte
+-- the word of a global initialized by this value; a char keeps only the low byte
 abbrev pub word_of : Ty → ℕ → ℕ
 word_of Char n = n % 256
 word_of t n = n
 
--- a global without a value is 0 or null
+-- the initial value of a global; an omitted value is 0 or null
 abbrev pub constant_of : Ty → Option GlobalValue → typed.Constant
 constant_of t None = if is_pointer t then typed.Null else typed.Word 0
 constant_of t (Some (Positive p n)) = typed.Word (word_of t n)
@@ -173,30 +173,30 @@ program_of p tree fs = record {
   main = function_number p.known.main tree;
 }
 
--- where no place of the text is at fault
+-- the place of a fault that concerns no place of the text
 abbrev pub start : Place
 start = record { line = 1; column = 1 }
 
 abbrev pub rule_program_known : Program → Before → List Declaration → Rule typed.Program
 rule_program_known p b tree =
-    Part (rule_heads p.known b tree)
+    Part (rule_declarations p.known b tree)
     (λ u. Part (demands (demand codes.BadMain start (declares p.known.main tree) ∷ []))
     (λ v. Part (rule_functions p tree) (λ fs. gives (program_of p tree fs))))
 
--- a program whose names have the numbers of their texts in the list
+-- the rule for a program, whose names have the numbers of their texts in the list
 abbrev pub rule_program : List (List ℕ) → List Declaration → Rule typed.Program
 rule_program texts tree = rule_program_known (program_known texts tree) (before_all texts) tree
 
--- ---- what the rules say
+-- ---- the judgements of the rules
 
--- The program is well typed, and this is its typed tree; its names have the numbers of their texts in the list.
+-- The program is well-typed with this typed tree. The names of the program have the numbers of their texts in the list.
 abbrev pub IsTypedProgram : List (List ℕ) → List Declaration → typed.Program → Type 0
 IsTypedProgram texts tree p = Derives (rule_program texts tree) p
 
--- The program is refused with this fault.
+-- The typing rules reject the program with this fault.
 abbrev pub IsRefusedProgram : List (List ℕ) → List Declaration → Fault → Type 0
 IsRefusedProgram texts tree f = Refuses (rule_program texts tree) f
 
--- the typed tree of a program, or its fault
+-- the typed tree of a program, or its first fault
 abbrev pub check_of : List (List ℕ) → List Declaration → Checked typed.Program
 check_of texts tree = run (rule_program texts tree)

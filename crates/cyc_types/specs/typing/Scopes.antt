@@ -1,6 +1,6 @@
--- What names mean where an expression or a statement stands, and how a function's locals and regions are numbered. Identifiers and region
--- names are numbered alike; structs, exceptions, functions with globals, and regions are name spaces of their own. (Scopes of names are
--- C's; the numbers are this project's own choice.)
+-- The meaning of names at an expression or a statement, and the numbers of a function's locals and regions. Identifiers and region names
+-- share one numbering. Structs, exceptions, functions with globals, and regions are separate name spaces. (Scopes of names are C's; the
+-- numbers are this project's own choice.)
 use Rattle.std.specs.Prelude.{ℕ, suc, ◌+◌, Bool, true, false, nat_eq, ◌&&◌, ◌||◌, if◌then◌else◌, List, [], ◌∷◌, ◌++◌, Option, None, Some}
 use Rattle.std.specs.List.{list_any}
 use Rattle.cyc_syntax.specs.Symbols.{Place}
@@ -15,19 +15,19 @@ use Rattle.cyc_types.specs.Types.{Ty, Int, is_region_among}
 use Rattle.cyc_types.specs.Outlives.{RegionContext, live_regions}
 use Rattle.cyc_types.specs.TypedTrees.{Lvalue, Local, Signature}
 
--- ---- what is declared
+-- ---- declared entities
 
--- a region name, and what it stands for
+-- a region name, and the region that it denotes
 pub record RegionName : Type 0 where
   pub name : ℕ
   pub region : RegionCode
 
--- a struct by its name, and how many region parameters it has
+-- a struct's name, and the number of its region parameters
 pub record StructName : Type 0 where
   pub name : ℕ
   pub parameters : ℕ
 
--- a field of a struct, whose i-th region parameter is the region variable i in its type
+-- a field of a struct; in its type, the i-th region parameter is the region variable i
 pub record Field : Type 0 where
   pub name : ℕ
   pub of_type : Ty
@@ -36,14 +36,14 @@ pub record Exception : Type 0 where
   pub name : ℕ
   pub has_int : Bool
 
--- what a name means
+-- the meaning of a name
 pub data Meaning : Type 0 where
   Unknown : Meaning
-  -- a variable that is a place, and the region that it lives in
+  -- a variable that may be assigned, with the region that contains it
   Variable : Lvalue → Ty → (home : RegionCode) → Meaning
-  -- the variable of a `region` item, which is no place
+  -- the variable of a `region` item, which may not be assigned
   Fixed : Lvalue → Ty → Meaning
-  -- the variable of a `for`, which is no place, by how many are around that one
+  -- the variable of a `for`, by the number of enclosing `for`s; it may not be assigned
   Counter : (level : ℕ) → Meaning
   Routine : Callee → Signature → Meaning
 
@@ -52,22 +52,22 @@ pub record Declared : Type 0 where
   pub name : ℕ
   pub meaning : Meaning
 
--- the signature of a function of the language, which takes values of these types and gives an int
+-- the signature of a built-in function, which takes values of these types and returns an int
 abbrev pub signature_of_ints : List Ty → Signature
 signature_of_ints ts = record { variables = 0; parameters = ts; result = Some Int; effect = []; constraints = [] }
 
--- what declares a local
+-- the construct that declares a local
 pub data Sort : Type 0 where
   Ordinary : Sort
-  -- a `region` item
+  -- declared by a `region` item
   OfRegion : Sort
-  -- a `for`
+  -- declared by a `for`
   OfLoop : Sort
 
 -- a local or a parameter, or the variable of a `for`
 pub record LocalVariable : Type 0 where
   pub name : ℕ
-  -- its number in its function; the variable of a `for` has its level
+  -- the number of the local in its function; for the variable of a `for`, its level
   pub number : ℕ
   pub of_type : Ty
   -- the number of the region of the block that declares it
@@ -75,34 +75,34 @@ pub record LocalVariable : Type 0 where
   pub sort : Sort
 
 pub record Scope : Type 0 where
-  -- of the program, by number: its structs and their fields, and its exceptions, of which the first has the number 1
+  -- the structs and exceptions of the program by number, and the structs' fields; the first exception has the number 1
   pub structs : List StructName
   pub fields : List (List Field)
   pub exceptions : List Exception
   -- the functions and globals of the program
   pub program : List Declared
-  -- of the function
+  -- the result type of the function
   pub result : Option Ty
   -- the region names in scope, the newest first
   pub names : List RegionName
   -- the region names that the function has declared so far, in scope or not
   pub taken : List ℕ
-  -- which regions are live, and which outlives which
+  -- the live regions and the outlives constraints
   pub regions : RegionContext
   -- the locals in scope, the newest first
   pub locals : List LocalVariable
-  -- the numbers that the next local and the next region get
+  -- the numbers of the next local and of the next region
   pub next_local : ℕ
   pub next_region : ℕ
   -- the region of the innermost block
   pub region : ℕ
   pub in_loop : Bool
-  -- how many `for` stand around
+  -- the number of enclosing `for`s
   pub counters : ℕ
 
 -- ---- regions
 
--- what a region name stands for, where it is known
+-- the region that a name denotes, if it is known
 abbrev pub region_among : List RegionName → ℕ → Option RegionCode
 region_among [] x = None
 region_among (r ∷ rs) x = if nat_eq r.name x then Some r.region else region_among rs x
@@ -113,7 +113,7 @@ is_taken g x = list_any (nat_eq x.name) g.taken
 abbrev pub is_live : Scope → RegionCode → Bool
 is_live g r = is_region_among r (live_regions g.regions.live g.regions.opened)
 
--- ---- what a name means: the innermost local of that name, or else the function or global
+-- ---- the meaning of a name: the innermost local of that name, otherwise the function or global
 
 abbrev pub meaning_in : List Declared → ℕ → Meaning
 meaning_in [] x = Unknown
@@ -131,7 +131,7 @@ meaning_among (v ∷ vs) ds x = if nat_eq v.name x.name then local_meaning v.sor
 abbrev pub meaning_of : Scope → Named → Meaning
 meaning_of g x = meaning_among g.locals g.program x
 
--- the block with this region declares a local of this name
+-- true if the block with this region declares a local of this name
 abbrev pub is_declared_in : ℕ → List LocalVariable → ℕ → Bool
 is_declared_in region [] x = false
 is_declared_in region (v ∷ vs) x = (nat_eq v.name x && nat_eq v.region region) || is_declared_in region vs x
@@ -139,7 +139,7 @@ is_declared_in region (v ∷ vs) x = (nat_eq v.name x && nat_eq v.region region)
 abbrev pub is_declared : Scope → Named → Bool
 is_declared g x = is_declared_in g.region g.locals x.name
 
--- ---- numbers: how many locals and how many regions a statement declares, and the names of regions
+-- ---- counts of the locals and regions that a statement declares, and its region names
 
 abbrev pub counted : Option Named → ℕ
 counted None = 0
@@ -171,7 +171,7 @@ abbrev mutual
   clause_locals (Default is) = item_locals is
   clause_locals (Case x v is cs) = counted v + item_locals is + clause_locals cs
 
--- A block has a region, labelled or not, and so have the items of a clause. An opened region is the key's.
+-- The number of regions. Each block has one, labelled or not, and so do the items of a clause. An opened region is counted at its key.
 abbrev mutual
   pub regions_in : Statement → ℕ
   regions_in (Block b) = suc (body_regions b)
@@ -202,7 +202,7 @@ abbrev mutual
   clause_regions (Default is) = suc (item_regions is)
   clause_regions (Case x v is cs) = suc (item_regions is) + clause_regions cs
 
--- the newest first
+-- the region names that a statement declares, newest first
 abbrev mutual
   pub names_in : Statement → List ℕ
   names_in (Block b) = body_names b
@@ -235,52 +235,52 @@ abbrev mutual
 
 -- ---- scopes
 
--- behind a statement: what it declares is out of scope, its numbers are used, and its names of regions are taken
-abbrev pub behind : Scope → Statement → Scope
-behind g s = record g { next_local = g.next_local + locals_in s; next_region = g.next_region + regions_in s; taken = names_in s ++ g.taken }
+-- after a statement: what it declares is out of scope, its numbers are used, and its names of regions are taken
+abbrev pub following : Scope → Statement → Scope
+following g s = record g { next_local = g.next_local + locals_in s; next_region = g.next_region + regions_in s; taken = names_in s ++ g.taken }
 
--- with a scope of this region open
+-- the region context with one more open scope of this region
 abbrev pub with_scope : Kind → RegionCode → RegionContext → RegionContext
 with_scope k r c = record c { opened = record { region = r; kind = k } ∷ c.opened }
 
--- inside a block
+-- the scope inside a block
 abbrev pub in_block : Scope → Scope
 in_block g = record g { region = g.next_region; next_region = suc g.next_region; regions = with_scope kinds.Block (regions.Variable g.next_region) g.regions }
 
--- where the next region has a name
+-- the scope in which the next region has this name
 abbrev pub with_name : Named → Scope → Scope
 with_name r g = record g { names = record { name = r.name; region = regions.Variable g.next_region } ∷ g.names; taken = r.name ∷ g.taken }
 
--- inside a block with a label
+-- the scope inside a labelled block
 abbrev pub in_labelled : Named → Scope → Scope
 in_labelled l g = in_block (with_name l g)
 
--- inside the body of a loop
+-- the scope inside the body of a loop
 abbrev pub in_body : Scope → Scope
 in_body g = record g { in_loop = true }
 
--- behind the declaration of a local
+-- the scope after the declaration of a local
 abbrev pub with_local : Sort → Named → Ty → Scope → Scope
 with_local s x t g = record g {
   locals = record { name = x.name; number = g.next_local; of_type = t; region = g.region; sort = s } ∷ g.locals;
   next_local = suc g.next_local;
 }
 
--- inside the element of a `for` with this variable
+-- the scope inside the element of a `for` with this variable
 abbrev pub with_counter : Named → Scope → Scope
 with_counter x g = record g {
   locals = record { name = x.name; number = g.counters; of_type = Int; region = g.region; sort = OfLoop } ∷ g.locals;
   counters = suc g.counters;
 }
 
--- behind an item that declares a region of this name, and opens a scope of it
+-- the scope after an item that declares a region of this name and opens it
 abbrev pub with_opened : Kind → Named → Scope → Scope
 with_opened k r g = record (with_name r g) { next_region = suc g.next_region; regions = with_scope k (regions.Variable g.next_region) g.regions }
 
--- behind one that declares a region that is not opened
+-- the scope after an item that declares a region without opening it
 abbrev pub with_region : Named → Scope → Scope
 with_region r g = record (with_name r g) { next_region = suc g.next_region }
 
--- behind one that opens the region of a key
+-- the scope after an item that opens the region of a key
 abbrev pub with_key_opened : RegionCode → Scope → Scope
 with_key_opened r g = record g { regions = with_scope kinds.Dynamic r g.regions }

@@ -1,6 +1,6 @@
--- The typing rules of statements, of items and of clauses. Statements come in order; in an item its parts do, as they are written, but the
--- initial value of a local comes before its name. (Lexical and dynamic regions and aliases are Cyclone's, Grossman et al. 2002 and the
--- User's Manual, 1.0; codes, places and their order are this project's own choice.)
+-- The typing rules of statements, of items and of clauses. Statements are checked in order, and so are the parts of an item as written. The
+-- initial value of a local is checked before the local's name. (Lexical and dynamic regions and aliases are Cyclone's, Grossman et al. 2002
+-- and the User's Manual, 1.0. Codes, places and their order are this project's own choice.)
 use Rattle.std.specs.Prelude.{ℕ, suc, ◌+◌, Bool, true, false, not, nat_eq, ◌&&◌, ◌||◌, if◌then◌else◌, List, [], ◌∷◌, ◌++◌, Option, Some, None, is_some, option_map}
 use Rattle.std.specs.List.{list_any}
 use Rattle.cyc_words.specs.declared.fault.Code.TheVariants as codes
@@ -15,7 +15,7 @@ use Rattle.cyc_types.specs.TypedTrees.{Lvalue, Global, Converted, type_of}
 use Rattle.cyc_types.specs.TypedTrees as typed
 use Rattle.cyc_types.specs.Rules.{fault_at, Demand, demand, Rule, Refused, Own, Part, gives, demands}
 use Rattle.cyc_types.specs.typing.Scopes.{Exception, Meaning, Unknown, Fixed, Counter, Routine, Ordinary, OfRegion, Scope, is_taken, is_declared, meaning_of, counted, item_locals}
-use Rattle.cyc_types.specs.typing.Scopes.{item_regions, item_names, behind, in_block, with_name, in_labelled, in_body, with_local, with_opened, with_region, with_key_opened}
+use Rattle.cyc_types.specs.typing.Scopes.{item_regions, item_names, following, in_block, with_name, in_labelled, in_body, with_local, with_opened, with_region, with_key_opened}
 use Rattle.cyc_types.specs.typing.Scopes as scopes
 use Rattle.cyc_types.specs.typing.Tests.{is_left_out, ty_eq, is_unique, is_key, is_struct, is_int, region_of}
 use Rattle.cyc_types.specs.typing.Formation.{is_known, type_written, type_demanded}
@@ -25,7 +25,8 @@ use Rattle.cyc_types.specs.typing.Expressions.{conversion, converted, as_int, te
 abbrev pub rule_condition : Scope → Expression → Rule typed.Expression
 rule_condition g e = Part (rule_looked g e (rule g e)) (λ a. Own (test_wanted (type_of (as_int a)) (place_of e) ∷ []) (as_int a))
 
--- A value is returned by a function with a result, and by no other. `return` stands at the first place, the value at the second.
+-- The rule for a returned value: a function returns one exactly if it has a result. `return` is at the first place, the value at the
+-- second.
 abbrev pub returned : Scope → Option Ty → Place → Place → typed.Expression → Rule (Option Converted)
 returned g None p q a = Refused (fault_at codes.TypeMismatch p)
 returned g (Some t) p q a = Own (conversion g.regions (type_of a) t q) (Some (converted a t))
@@ -34,18 +35,19 @@ abbrev pub rule_returned : Scope → Place → Option Expression → Rule (Optio
 rule_returned g p None = Own (demand codes.TypeMismatch p (is_left_out g.result) ∷ []) None
 rule_returned g p (Some e) = Part (rule g e) (λ a. returned g g.result p (place_of e) a)
 
--- a statement at this place that stands in loops alone
+-- the rule for a statement that is allowed only in a loop
 abbrev pub in_loop_alone : Scope → Place → typed.Statement → Rule typed.Statement
 in_loop_alone g p s = Own (demand codes.OutsideLoop p g.in_loop ∷ []) s
 
--- Two places of one type, which is no struct's: the first of them begins at this place.
+-- The rule for a swap: both places have one type, which is not a struct. The given place of the text is where the first swapped place
+-- begins.
 abbrev pub swapped : Place → Found → Found → Rule typed.Statement
 swapped p x y =
     Own (demand codes.TypeMismatch p (ty_eq (type_of_side x.side) (type_of_side y.side) && not (is_struct (type_of_side x.side))) ∷ []) (typed.Swap x.side y.side)
 
 -- ---- exceptions
 
--- the number of the exception of this name, and whether it has an int
+-- the number of the exception of this name
 abbrev pub exception_number : List Exception → ℕ → ℕ
 exception_number [] x = 1
 exception_number (e ∷ es) x = if nat_eq e.name x then 1 else suc (exception_number es x)
@@ -54,7 +56,7 @@ abbrev pub exception_among : List Exception → ℕ → Option Bool
 exception_among [] x = None
 exception_among (e ∷ es) x = if nat_eq e.name x then Some e.has_int else exception_among es x
 
--- an int is there exactly where one is declared
+-- true if an int is given exactly if one is declared
 abbrev pub is_given : (declared given : Bool) → Bool
 is_given declared given = if declared then given else not given
 
@@ -62,7 +64,7 @@ abbrev pub rule_thrown : Scope → Option Expression → Rule (Option typed.Expr
 rule_thrown g None = gives None
 rule_thrown g (Some e) = Part (rule g e) (λ a. gives (Some (as_int a)))
 
--- an int stands in brackets where one is declared, and else nothing does
+-- the demand that a thrown exception has an int in parentheses exactly if it is declared with one
 abbrev pub thrown_demanded : (has_int : Bool) → Place → Option Expression → Option typed.Expression → List Demand
 thrown_demanded has p (Some e) (Some a) = demand codes.TypeMismatch p has ∷ demand codes.TypeMismatch (place_of e) (is_int (type_of a)) ∷ []
 thrown_demanded has p v a = demand codes.TypeMismatch p (not has) ∷ []
@@ -71,32 +73,32 @@ abbrev pub thrown : Scope → Option Bool → Named → Option Expression → Op
 thrown g None x v a = Refused (fault_at codes.UnknownName x.place)
 thrown g (Some has) x v a = Own (thrown_demanded has x.place v a) (typed.Throw (exception_number g.exceptions x.name) a)
 
--- a clause for an exception that no clause before it is for, with its int or without, as it is declared
+-- the rule for a clause: no earlier clause catches the exception, and it has an int exactly if it is declared with one
 abbrev pub caught : Scope → Option Bool → (before : List ℕ) → Named → Option Named → Rule ℕ
 caught g None before x v = Refused (fault_at codes.UnknownName x.place)
 caught g (Some has) before x v =
     Own (demand codes.DeclaredTwice x.place (not (list_any (nat_eq x.name) before)) ∷ demand codes.TypeMismatch x.place (is_given has (is_some v)) ∷ [])
     (exception_number g.exceptions x.name)
 
--- inside the items of a clause, which are a block with the local that gets the int
+-- the scope inside the items of a clause: a block with the local that receives the int
 abbrev pub with_caught : Option Named → Scope → Scope
 with_caught None g = g
 with_caught (Some v) g = with_local Ordinary v Int g
 
--- behind a clause
-abbrev pub behind_clause : Scope → (locals : ℕ) → Items → Scope
-behind_clause g n is = record g { next_local = g.next_local + (n + item_locals is); next_region = g.next_region + suc (item_regions is); taken = item_names is ++ g.taken }
+-- the scope after a clause
+abbrev pub after_clause : Scope → (locals : ℕ) → Items → Scope
+after_clause g n is = record g { next_local = g.next_local + (n + item_locals is); next_region = g.next_region + suc (item_regions is); taken = item_names is ++ g.taken }
 
 -- ---- items
 
--- the name of a local is new in its block, and that of a region in its function
+-- the demand that the name of a local is new in its block, and that of a region new in its function
 abbrev pub new_demanded : Scope → Named → Demand
 new_demanded g x = demand codes.DeclaredTwice x.place (not (is_declared g x))
 
 abbrev pub new_name_demanded : Scope → Named → Demand
 new_name_demanded g r = demand codes.DeclaredTwice r.place (not (is_taken g r))
 
--- what is left out of a local's type: the outermost region is that of its initial value, if that is a pointer
+-- the default for a local's omitted outermost region: that of its initial value, if it is a pointer
 abbrev pub left_out_of : ValueType → RegionCode
 left_out_of (Value (Pointer k t r)) = r
 left_out_of t = regions.Heap
@@ -104,11 +106,12 @@ left_out_of t = regions.Heap
 abbrev pub local_type : Scope → ValueType → WrittenType → Ty
 local_type g v w = type_written g.structs g.names (left_out_of v) w
 
--- A local of this type, whose initial value stands at this place: of its name and its conversion, the lowest code counts.
+-- The rule for a local of this type whose initial value is at this place. Of the faults of the local's name and its conversion, the lowest
+-- code is reported.
 abbrev pub initialised : Scope → Named → Place → typed.Expression → Ty → Rule (Ty × Option Converted)
 initialised g x p a t = Own (new_demanded g x ∷ conversion g.regions (type_of a) t p) (t, Some (converted a t))
 
--- the type of a local, and its initial value, where there is one
+-- the rule for the type of a local and its optional initial value
 abbrev pub rule_initial : Scope → WrittenType → Named → Option Expression → Rule (Ty × Option Converted)
 rule_initial g w x None = Own (new_demanded g x ∷ []) (type_written g.structs g.names regions.Heap w, None)
 rule_initial g w x (Some e) = Part (rule g e) (λ a. initialised g x (place_of e) a (local_type g (type_of a) w))
@@ -117,11 +120,11 @@ abbrev pub rule_local : Scope → WrittenType → Named → Option Expression �
 rule_local g w x v =
     Part (demands (type_demanded g.structs g.names None w)) (λ u. Part (rule_initial g w x v) (λ c. gives (typed.Declare g.next_local c.0 c.1)))
 
--- a lexical region, and its handle
+-- the rule for a lexical region and its handle
 abbrev pub rule_lexical : Scope → Named → Named → Rule typed.Item
 rule_lexical g r h = Own (new_name_demanded g r ∷ new_demanded g h ∷ []) (typed.DeclareRegion g.next_region g.next_local)
 
--- a dynamic region, and its key
+-- the rule for a dynamic region and its key
 abbrev pub rule_dynamic : Scope → Named → Named → Rule typed.Item
 rule_dynamic g r k = Own (new_name_demanded g r ∷ new_demanded g k ∷ []) (typed.DeclareKey g.next_region g.next_local)
 
@@ -129,13 +132,13 @@ abbrev pub number_of_region : RegionCode → ℕ
 number_of_region (regions.Variable n) = n
 number_of_region r = 0
 
--- a variable that is no local has no number that counts
+-- the number of a local; a variable that is not a local gets an arbitrary number
 abbrev pub local_number : Lvalue → ℕ
 local_number (typed.Local p n) = n
 local_number (Global n) = 0
 
--- The region r is opened by what a name at this place means: a key, and the region is the key's. Of what is no key there is no region to
--- know.
+-- The demands on opening a region r by the variable that a name denotes: it is a key, and r is the key's region. If the variable is not a
+-- key, the region is unknown.
 abbrev pub open_demanded : Scope → (r h : Named) → Place → Ty → List Demand
 open_demanded g r h p t =
     new_demanded g h
@@ -153,18 +156,18 @@ opened g r h (Routine f s) p = Refused (fault_at codes.TypeMismatch p)
 abbrev pub rule_opened : Scope → (r h k : Named) → Rule typed.Item
 rule_opened g r h k = Part (demands (demand codes.UnknownName r.place (is_known g.names r) ∷ [])) (λ u. opened g r h (meaning_of g k) k.place)
 
--- the type of a pointer with this region for its own
+-- the pointer type with its own region replaced by this one
 abbrev pub with_region_of : RegionCode → Ty → Ty
 with_region_of r (Pointer k t s) = Pointer k t r
 with_region_of r t = t
 
--- a unique pointer that is no local is in a shared place
+-- true for a local; a unique pointer in any other variable is shared
 abbrev pub is_local : Lvalue → Bool
 is_local (typed.Local p n) = true
 is_local (Global n) = false
 
--- A local of the type that is written shares what a name at this place means, which has that type but for the new region. What is left
--- out is the value's own region.
+-- The demands on an alias: a local of the written type shares a variable of that type, except for the new region. An omitted region is that
+-- of the shared value.
 abbrev pub alias_demanded : Scope → Named → WrittenType → (written : Ty) → (is_shared : Bool) → Ty → Place → List Demand
 alias_demanded g x w u shared t p =
     new_demanded g x
@@ -195,15 +198,15 @@ declared_type (typed.Declare n t v) = t
 declared_type (typed.DeclareAlias r n t p m) = t
 declared_type i = Int
 
--- Behind an item of a block, with its typed tree: a local is in scope behind its declaration, and so is a region, which is open but for
--- that of a new key.
-abbrev pub behind_item : Scope → Item → typed.Item → Scope
-behind_item g (Execute s) j = behind g s
-behind_item g (Local w x v) j = with_local Ordinary x (declared_type j) g
-behind_item g (Region r h None) j = with_local OfRegion h (Handle (regions.Variable g.next_region)) (with_opened kinds.Lexical r g)
-behind_item g (Region r h (Some k)) j = with_local OfRegion h (Handle (formation.region_of g.names r)) (with_key_opened (formation.region_of g.names r) g)
-behind_item g (Alias r w x y) j = with_local Ordinary x (declared_type j) (with_opened kinds.Alias r g)
-behind_item g (DynamicRegion r k) j = with_local Ordinary k (Key (regions.Variable g.next_region)) (with_region r g)
+-- The scope after an item of a block, given its typed tree. A declared local is in scope. A declared region is open, unless it is the
+-- region of a new key.
+abbrev pub following_item : Scope → Item → typed.Item → Scope
+following_item g (Execute s) j = following g s
+following_item g (Local w x v) j = with_local Ordinary x (declared_type j) g
+following_item g (Region r h None) j = with_local OfRegion h (Handle (regions.Variable g.next_region)) (with_opened kinds.Lexical r g)
+following_item g (Region r h (Some k)) j = with_local OfRegion h (Handle (formation.region_of g.names r)) (with_key_opened (formation.region_of g.names r) g)
+following_item g (Alias r w x y) j = with_local Ordinary x (declared_type j) (with_opened kinds.Alias r g)
+following_item g (DynamicRegion r k) j = with_local Ordinary k (Key (regions.Variable g.next_region)) (with_region r g)
 
 -- ---- all forms
 
@@ -218,20 +221,20 @@ abbrev mutual
       Part (rule_place g (place_of a) a (rule g a)) (λ x. Part (rule_place g (place_of b) b (rule g b)) (λ y. swapped (place_of a) x y))
   rule_statement g (If p e t) = Part (rule_condition g e) (λ a. Part (rule_statement g t) (λ b. gives (typed.If a b typed.Empty)))
   rule_statement g (IfElse p e t u) =
-      Part (rule_condition g e) (λ a. Part (rule_statement g t) (λ b. Part (rule_statement (behind g t) u) (λ c. gives (typed.If a b c))))
+      Part (rule_condition g e) (λ a. Part (rule_statement g t) (λ b. Part (rule_statement (following g t) u) (λ c. gives (typed.If a b c))))
   rule_statement g (While p e t) = Part (rule_condition g e) (λ a. Part (rule_statement (in_body g) t) (λ b. gives (typed.While p a b)))
   rule_statement g (Return p v) = Part (rule_returned g p v) (λ c. gives (typed.Return c))
   rule_statement g (Break p) = in_loop_alone g p typed.Break
   rule_statement g (Continue p) = in_loop_alone g p typed.Continue
   rule_statement g (Throw p x v) = Part (rule_thrown g v) (λ a. thrown g (exception_among g.exceptions x.name) x v a)
-  rule_statement g (Try p t cs) = Part (rule_statement g t) (λ b. Part (rule_clauses (behind g t) [] cs) (λ ds. gives (typed.Try b ds)))
+  rule_statement g (Try p t cs) = Part (rule_statement g t) (λ b. Part (rule_clauses (following g t) [] cs) (λ ds. gives (typed.Try b ds)))
 
   pub rule_body : Scope → Body → Rule typed.Items
   rule_body g (Braces p is q) = rule_items g is
 
   pub rule_items : Scope → Items → Rule typed.Items
   rule_items g NoItems = gives typed.NoItems
-  rule_items g (MoreItems i is) = Part (rule_item g i) (λ j. Part (rule_items (behind_item g i j) is) (λ js. gives (typed.MoreItems j js)))
+  rule_items g (MoreItems i is) = Part (rule_item g i) (λ j. Part (rule_items (following_item g i j) is) (λ js. gives (typed.MoreItems j js)))
 
   pub rule_item : Scope → Item → Rule typed.Item
   rule_item g (Execute s) = Part (rule_statement g s) (λ t. gives (typed.Execute t))
@@ -241,12 +244,12 @@ abbrev mutual
   rule_item g (Alias r w x y) = rule_alias g r w x y
   rule_item g (DynamicRegion r k) = rule_dynamic g r k
 
-  -- the clauses of a catch, behind clauses for exceptions of these names
+  -- the rule for the clauses of a catch, after clauses for these exceptions
   pub rule_clauses : Scope → (before : List ℕ) → Clauses → Rule typed.Clauses
   rule_clauses g before NoClauses = gives typed.NoClauses
   rule_clauses g before (Default is) = Part (rule_items (in_block g) is) (λ js. gives (typed.Default g.next_region js))
   rule_clauses g before (Case x v is cs) =
       Part (caught g (exception_among g.exceptions x.name) before x v)
       (λ n. Part (rule_items (with_caught v (in_block g)) is)
-      (λ js. Part (rule_clauses (behind_clause g (counted v) is) (x.name ∷ before) cs)
+      (λ js. Part (rule_clauses (after_clause g (counted v) is) (x.name ∷ before) cs)
       (λ ds. gives (typed.Case n (option_map (λ (y : Named). g.next_local) v) g.next_region js ds))))

@@ -1,6 +1,5 @@
--- Tests on types, each a `Bool`, and what a type has where a test says that it has it. What may be missing is made total by a default.
--- (As in `Expressions`: types are Cyclone's, Grossman et al. 2002; what a test takes where a part is missing is this project's own
--- choice.)
+-- Tests on types, each a `Bool`, and functions that select the parts of a type, total by a default. (As in `Expressions`: types are
+-- Cyclone's, Grossman et al. 2002; the default is this project's own choice.)
 use Rattle.std.specs.Prelude.{ℕ, Bool, true, false, nat_eq, not, ◌&&◌, ◌||◌, List, [], ◌∷◌, Option, Some, None}
 use Rattle.cyc_syntax.specs.declared.tree.PointerKind.{PointerKind}
 use Rattle.cyc_syntax.specs.declared.tree.PointerKind.TheVariants.{Nullable, NonNull, Fat}
@@ -10,7 +9,7 @@ use Rattle.cyc_types.specs.declared.typed.Kind.{Kind}
 use Rattle.cyc_types.specs.declared.typed.Kind.TheVariants as kinds
 use Rattle.cyc_types.specs.Types.{region_eq, Ty, Int, Char, Pointer, Handle, Key, Struct, ValueType, Void, Null, Value}
 
--- ---- lists, and what may be left out
+-- ---- lists and options
 
 abbrev pub is_empty : {A : Type 0} → List A → Bool
 is_empty [] = true
@@ -67,13 +66,13 @@ abbrev pub is_struct : Ty → Bool
 is_struct (Struct n rs) = true
 is_struct t = false
 
--- an int or a char: its value is written as a number
+-- true for an int or a char, whose values are written as numbers
 abbrev pub is_number : Ty → Bool
 is_number Int = true
 is_number Char = true
 is_number t = false
 
--- a variable of this type is empty once its value is used
+-- true if a use of a variable of this type leaves it empty
 abbrev pub is_moved : Ty → Bool
 is_moved t = is_unique t || is_key t
 
@@ -95,7 +94,7 @@ abbrev pub is_char : ValueType → Bool
 is_char (Value Char) = true
 is_char t = false
 
--- a value of a type that is tested so
+-- true if the expression has a value whose type passes the test
 abbrev pub is_value : (Ty → Bool) → ValueType → Bool
 is_value test (Value t) = test t
 is_value test t = false
@@ -112,13 +111,13 @@ abbrev pub is_handle : Ty → Bool
 is_handle (Handle r) = true
 is_handle t = false
 
--- what is tested against zero or null
+-- true if the value may be tested against zero or null
 abbrev pub is_tested : ValueType → Bool
 is_tested (Value Int) = true
 is_tested (Value (Pointer k t r)) = true
 is_tested t = false
 
--- ---- parts, with defaults
+-- ---- parts of types, with defaults
 
 abbrev pub value_of : ValueType → Ty
 value_of (Value t) = t
@@ -132,7 +131,7 @@ abbrev pub mark_of : Ty → PointerKind
 mark_of (Pointer k t r) = k
 mark_of t = Nullable
 
--- the region that a pointer leads to, or that a handle or a key is of
+-- the region that a pointer leads to, or the region of a handle or a key
 abbrev pub region_of : Ty → Region
 region_of (Pointer k t r) = r
 region_of (Handle r) = r
@@ -154,7 +153,7 @@ kind_of_mark Nullable = kinds.Nullable
 kind_of_mark NonNull = kinds.NonNull
 kind_of_mark Fat = kinds.Fat
 
--- no cell has a struct for its type
+-- the kind of a cell of this type; no cell has a struct type
 abbrev pub kind_of : Ty → Kind
 kind_of Int = kinds.Int
 kind_of Char = kinds.Char
@@ -163,7 +162,7 @@ kind_of (Handle r) = kinds.Handle
 kind_of (Key r) = kinds.Key
 kind_of (Struct n rs) = kinds.Int
 
--- that of a value; where there is none, it is never asked
+-- the kind of a value; without a value the kind is never used
 abbrev pub kind_of_value : ValueType → Kind
 kind_of_value Void = kinds.Int
 kind_of_value Null = kinds.Nullable

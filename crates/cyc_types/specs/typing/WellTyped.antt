@@ -1,8 +1,8 @@
--- THE JUDGEMENT ON TYPED TREES of the whole language: which tree is well typed where it stands, whatever text it came of. It speaks of
--- fragments too, as the states of a run hold them: what is left of a chain, of arguments, of a block. What the typing rules derive is
--- well typed. It says what a proof about runs needs, so also what the rules keep without a demand of its own: that numbers are fresh
--- where they are declared, and that a variable's own region is live there. (Typing, regions, effects and outlives are those of
--- Grossman et al. 2002; the form of the judgement is this project's own choice.)
+-- THE JUDGEMENT ON TYPED TREES of the whole language: a tree is well-typed in its context, whatever text it came from. The judgement also
+-- applies to the fragments in the states of a run: the remaining parts of a chain, of arguments, of a block. The typing rules derive
+-- well-typed trees. The judgement contains all facts that a proof about runs needs. The rules ensure some of these facts without a demand:
+-- declared numbers are fresh, and a variable's own region is live at its declaration. (Typing, regions, effects and outlives are those of
+-- Grossman et al. 2002. The form of the judgement is this project's own choice.)
 use Rattle.std.specs.Prelude.{◌≡◌, ◌≢◌, ◌⊎◌, ℕ, suc, ◌+◌, ◌<◌, ◌≤◌, Bool, true, false, List, [], ◌∷◌, ◌++◌, Option, Some, None, Contains, length, map, slice_get}
 use Rattle.cyc_syntax.specs.declared.tree.PointerKind.{PointerKind}
 use Rattle.cyc_syntax.specs.declared.tree.PointerKind.TheVariants as marks
@@ -28,39 +28,39 @@ use Rattle.cyc_types.specs.typing.Tests.{is_thin_mark, is_non_null, is_unique, i
 use Rattle.cyc_types.specs.typing.Expressions.{assigned_type, instantiated}
 use Rattle.cyc_types.specs.typing.Statements.{with_region_of}
 
--- ---- what is known where a tree stands
+-- ---- the context of a tree
 
 -- a local in scope
 pub record LocalInScope : Type 0 where
-  -- in its function
+  -- the number of the local in its function
   pub number : ℕ
   pub of_type : Ty
   -- the number of the region of the block that declares it
   pub region : ℕ
-  -- not so the handle of a `region` item
+  -- true if the local may be assigned; the handle of a `region` item may not
   pub is_place : Bool
 
 pub record Context : Type 0 where
-  -- of the program, by number
+  -- the structs of the program, by number
   pub structs : List StructType
   pub exceptions : List Bool
   pub globals : List Ty
   pub functions : List Signature
-  -- of the function: the types of its locals by number, how many regions it has, and its result
+  -- the types of the function's locals by number, the number of its regions, and its result
   pub variables : List Ty
   pub region_count : ℕ
   pub result : Option Ty
   -- the locals in scope, the newest first
   pub locals : List LocalInScope
-  -- the numbers that the next local and the next region get
+  -- the numbers of the next local and of the next region
   pub next_local : ℕ
   pub next_region : ℕ
   -- the region of the innermost block
   pub region : ℕ
-  -- which regions are live, and which outlives which
+  -- the live regions and the outlives constraints
   pub regions : RegionContext
   pub in_loop : Bool
-  -- how many `for` stand around
+  -- the number of enclosing `for`s
   pub counters : ℕ
 
 abbrev pub IsLive : Context → Region → Type 0
@@ -74,44 +74,44 @@ abbrev pub AreOutliving : Context → List (Region × Region) → Type 0
 AreOutliving c [] = Unit {0}
 AreOutliving c (p ∷ ps) = OutlivesIn c.regions p.0 p.1 × AreOutliving c ps
 
--- a local of this number and type is in scope, which lives in the region of this number
+-- a local of this number and type is in scope, and the region of this number contains it
 abbrev pub HasLocal : List LocalInScope → ℕ → Ty → ℕ → Type 0
 HasLocal [] n t r = ⊥
 HasLocal (v ∷ vs) n t r = ((v.number ≡ n) × (v.of_type ≡ t) × (v.region ≡ r)) ⊎ HasLocal vs n t r
 
--- and may be assigned
+-- a local of this number and type is in scope and may be assigned
 abbrev pub HasPlace : List LocalInScope → ℕ → Ty → ℕ → Type 0
 HasPlace [] n t r = ⊥
 HasPlace (v ∷ vs) n t r = ((v.number ≡ n) × (v.of_type ≡ t) × (v.region ≡ r) × (v.is_place ≡ true)) ⊎ HasPlace vs n t r
 
--- a variable of this type
+-- the context gives the variable this type
 abbrev pub IsVariable : Context → Lvalue → Ty → Type 0
 IsVariable c (Local p n) t = ((r : ℕ) × HasLocal c.locals n t r) × (slice_get c.variables n ≡ Some t)
 IsVariable c (Global n) t = slice_get c.globals n ≡ Some t
 
--- a variable of this type that is a place in this region
+-- a variable of this type that may be assigned, in this region
 abbrev pub IsPlace : Context → Lvalue → Ty → Region → Type 0
 IsPlace c (Local p n) t r = (m : ℕ) × HasPlace c.locals n t m × (r ≡ regions.Variable m) × (slice_get c.variables n ≡ Some t)
 IsPlace c (Global n) t r = (r ≡ regions.Heap) × (slice_get c.globals n ≡ Some t)
 
--- what is called has this signature
+-- the context gives the callee this signature
 abbrev pub IsCallee : Context → Callee → Signature → Type 0
 IsCallee c callees.Putchar s = s ≡ signature_of_ints (Int ∷ [])
 IsCallee c callees.Getchar s = s ≡ signature_of_ints []
 IsCallee c (callees.Function n) s = slice_get c.functions n ≡ Some s
 
--- A list of regions for the variables of a signature, by their numbers from 1: none is that of unique pointers.
+-- None of the regions that instantiate a signature's variables (numbered from 1) is the unique region.
 abbrev pub AreNotUnique : List Region → Type 0
 AreNotUnique [] = Unit {0}
 AreNotUnique (r ∷ rs) = (r ≢ regions.Unique) × AreNotUnique rs
 
--- inside the element of a `for`
+-- the context inside the element of a `for`
 abbrev pub with_counter : Context → Context
 with_counter c = record c { counters = suc c.counters }
 
 -- ---- expressions
 
--- a value of the first type is converted to the second
+-- a value of the first type can be converted to the second
 abbrev pub Converts : Context → ValueType → Ty → Type 0
 Converts c (Value Int) Int = Unit {0}
 Converts c (Value Int) Char = Unit {0}
@@ -123,18 +123,18 @@ Converts c (Value (Key r)) (Key s) = r ≡ s
 Converts c Null (Pointer k t r) = is_non_null (Pointer k t r) ≡ false
 Converts c v t = ⊥
 
--- a unique pointer in a local, which is only looked at
+-- the expression is a peek of a unique pointer in a local
 abbrev pub IsPeek : Context → Expression → ValueType → Type 0
 IsPeek c (Peek p n u) t = IsVariable c (Local p n) u × (is_unique u ≡ true) × (t ≡ Value u)
 IsPeek c a t = ⊥
 
--- a peek of this local
+-- the expression is a peek of this local
 abbrev pub IsPeekOf : ℕ → Expression → Type 0
 IsPeekOf n (Peek p m u) = n ≡ m
 IsPeekOf n a = ⊥
 
--- Operators of pointers: what the left operand has for a type, and what the operator gives. The right one is looked at, but where it
--- is an int or `NULL`.
+-- The typing of pointer operators: the types of the operands, and the type of the result. The right operand is peeked at, unless it is an
+-- int or `NULL`.
 pub data PointerOperation (c : Context) : PointerOperator → (left right result : ValueType) → Type 0 where
   adds : (t : Ty) (r : Region) → r ≢ regions.Unique → PointerOperation c pointers.AddFat (Value (Pointer marks.Fat t r)) (Value Int) (Value (Pointer marks.Fat t r))
   subtracts : (t : Ty) (r : Region) → r ≢ regions.Unique → PointerOperation c pointers.SubtractFat (Value (Pointer marks.Fat t r)) (Value Int) (Value (Pointer marks.Fat t r))
@@ -150,7 +150,7 @@ pub data PointerOperation (c : Context) : PointerOperator → (left right result
   null_is : (k : PointerKind) (t : Ty) (r : Region) → PointerOperation c pointers.NullIs Null (Value (Pointer k t r)) (Value Int)
   null_is_not : (k : PointerKind) (t : Ty) (r : Region) → PointerOperation c pointers.NullIsNot Null (Value (Pointer k t r)) (Value Int)
 
--- how a left operand stands in front of what is left of its chain: a peek only where it is looked at
+-- the typing of the left operand of a chain; it is a peek only if the next operator only looks at it
 abbrev pub IsLeft : (well : Type 0) → Context → Expression → ValueType → Operations → Type 0
 IsLeft well c a v (ThenTest o b os) = well ⊎ IsPeek c a v
 IsLeft well c a v (ThenPointerPeek n o b os) = IsPeek c a v × IsPeekOf n a
@@ -171,17 +171,17 @@ abbrev mutual
   WellTyped c (Counter l) t = (l < c.counters) × (t ≡ Value Int)
   WellTyped c (Copy l u) t = IsVariable c l u × (is_moved u ≡ false) × (t ≡ Value u)
   WellTyped c (Move p n u) t = IsVariable c (Local p n) u × (is_moved u ≡ true) × (t ≡ Value u)
-  -- a peek stands only where a value is looked at
+  -- a peek occurs only where a value is only looked at
   WellTyped c (Peek p n u) t = ⊥
-  -- a struct is not read whole, and a unique pointer not where others may reach it
+  -- a whole struct is not read, nor a unique pointer that others may reach
   WellTyped c (Load d) t = (u : Ty) × (r : Region) × IsCell c d u r × (is_struct u ≡ false) × (is_unique u ≡ false) × (t ≡ Value u)
-  -- neither of a unique pointer or a key, nor of what a unique object holds
+  -- no address of a unique pointer or a key, nor of a part of a unique object
   WellTyped c (AddressOf l u) t = (v : Ty) × (r : Region) × IsPlace c l v r × (is_moved v ≡ false) × (u ≡ Pointer marks.NonNull v r) × (t ≡ Value u)
   WellTyped c (AddressOfCell d u) t = (v : Ty) × (r : Region) × IsCell c d v r × (is_moved v ≡ false) × (r ≢ regions.Unique) × (u ≡ Pointer marks.NonNull v r) × (t ≡ Value u)
   WellTyped c (NumberOfElements a) t = (u : Ty) × (r : Region) × (WellTyped c a (Value (Pointer marks.Fat u r)) ⊎ IsPeek c a (Value (Pointer marks.Fat u r))) × (t ≡ Value Int)
   WellTyped c (FreeUnique a) t = (k : PointerKind) × (u : Ty) × WellTyped c a (Value (Pointer k u regions.Unique)) × (t ≡ Void)
   WellTyped c (FreeKey a) t = (r : Region) × WellTyped c a (Value (Key r)) × (t ≡ Void)
-  -- the effect of what is called is live, and its constraints hold
+  -- the effect of the callee is live, and its constraints hold
   WellTyped c (Call f ds u) t =
       (s : Signature) × (m : List Region) × IsCallee c f s × (length m ≡ suc s.variables) × AreNotUnique m × ArePassed c (instantiated m s).parameters ds
       × AreLive c (instantiated m s).effect × AreOutliving c (instantiated m s).constraints × (u ≡ result_type (instantiated m s).result) × (t ≡ u)
@@ -192,7 +192,7 @@ abbrev mutual
   WellTyped c (Store d e u) t = (v : Ty) × (r : Region) × IsCell c d v r × IsConverted c e v × (u ≡ assigned_type v) × (t ≡ u)
   WellTyped c (New w i u) t = (k : PointerKind) × (v : Ty) × (r : Region) × IsPlacement c w r × IsMade c i k v × (u ≡ Pointer k v r) × (t ≡ Value u)
 
-  -- it is converted to this type
+  -- the expression is converted to this type
   pub IsConverted : Context → Converted → Ty → Type 0
   IsConverted c (Convert from to a) t = (v : ValueType) × WellTyped c a v × Converts c v t × (from ≡ kind_of_value v) × (to ≡ kind_of t)
 
@@ -202,7 +202,7 @@ abbrev mutual
   ArePassed c (t ∷ ts) NoArguments = ⊥
   ArePassed c (t ∷ ts) (MoreArguments d ds) = IsConverted c d t × ArePassed c ts ds
 
-  -- a cell of this type, which a pointer into this region leads to, a live one
+  -- a cell of this type, reached through a pointer into this live region
   pub IsCell : Context → Dereference → Ty → Region → Type 0
   IsCell c (Target k a u) t r =
       (m : PointerKind) × (WellTyped c a (Value (Pointer m u r)) ⊎ IsPeek c a (Value (Pointer m u r))) × IsLive c r × (k ≡ kind_of_mark m) × (t ≡ u)
@@ -219,7 +219,7 @@ abbrev mutual
   IsPlacement c AsUnique r = r ≡ regions.Unique
   IsPlacement c (ByHandle a) r = WellTyped c a (Value (Handle r)) × IsLive c r
 
-  -- an object is made whose cells have this type, and the pointer to it this mark
+  -- the initial contents of an object: its cells have this type, and the pointer to it has this mark
   pub IsMade : Context → Initial → PointerKind → Ty → Type 0
   IsMade c (Plain k a) m t = WellTyped c a (Value t) × (is_key t ≡ false) × (k ≡ kind_of t) × (m ≡ marks.NonNull)
   IsMade c (Fields ds) m t =
@@ -228,7 +228,7 @@ abbrev mutual
   IsMade c (Array p l n k a) m t =
       (l ≡ c.counters) × WellTyped c n (Value Int) × WellTyped (with_counter c) a (Value t) × (is_key t ≡ false) × (k ≡ kind_of t) × (m ≡ marks.Fat)
 
-  -- the operations behind a left operand of this type give a value of that type
+  -- the operations after a left operand of the first type give a value of the second
   pub IsChain : Context → ValueType → Operations → Ty → Type 0
   IsChain c left NoOperations u = left ≡ Value u
   IsChain c left (ThenCompute o a os) u = (left ≡ Value Int) × WellTyped c a (Value Int) × IsChain c (Value Int) os u
@@ -236,15 +236,15 @@ abbrev mutual
   IsChain c left (ThenPointer o a os) u = (v w : ValueType) × (WellTyped c a v ⊎ IsPeek c a v) × PointerOperation c o left v w × IsChain c w os u
   IsChain c left (ThenPointerPeek n o a os) u = (v w : ValueType) × (WellTyped c a v ⊎ IsPeek c a v) × PointerOperation c o left v w × IsChain c w os u
 
--- what is tested in a condition
+-- the expression may be tested as a condition
 abbrev pub IsCondition : Context → Expression → Type 0
 IsCondition c a = (v : ValueType) × (WellTyped c a v ⊎ IsPeek c a v) × (is_tested v ≡ true)
 
--- ---- what is known further on
+-- ---- the context of later trees
 
--- behind a statement: what it declares is out of scope, and its numbers are used
-abbrev pub behind : Context → Statement → Context
-behind c s = record c { next_local = c.next_local + length (declared_types s); next_region = c.next_region + declared_regions s }
+-- after a statement: what it declares is out of scope, and its numbers are used
+abbrev pub following : Context → Statement → Context
+following c s = record c { next_local = c.next_local + length (declared_types s); next_region = c.next_region + declared_regions s }
 
 abbrev pub in_block : Context → Context
 in_block c = record c { region = c.next_region; next_region = suc c.next_region; regions = with_scope scopes.Block (regions.Variable c.next_region) c.regions }
@@ -252,11 +252,11 @@ in_block c = record c { region = c.next_region; next_region = suc c.next_region;
 abbrev pub in_body : Context → Context
 in_body c = record c { in_loop = true }
 
--- behind the declaration of a local of this type
+-- the context after the declaration of a local of this type
 abbrev pub with_local : Bool → Ty → Context → Context
 with_local b t c = record c { locals = record { number = c.next_local; of_type = t; region = c.region; is_place = b } ∷ c.locals; next_local = suc c.next_local }
 
--- with the next region declared, and with it opened as well
+-- the context with the next region declared; and with it also opened
 abbrev pub with_region : Context → Context
 with_region c = record c { next_region = suc c.next_region }
 
@@ -272,7 +272,7 @@ abbrev pub IsInitial : Context → Option Converted → Ty → Type 0
 IsInitial c None t = Unit {0}
 IsInitial c (Some d) t = IsConverted c d t
 
--- a value is returned exactly by a function with a result
+-- a value is returned exactly if the function has a result
 abbrev pub IsReturned : Context → Option Ty → Option Converted → Type 0
 IsReturned c None None = Unit {0}
 IsReturned c (Some t) (Some d) = IsConverted c d t
@@ -283,7 +283,7 @@ abbrev pub IsSide : Context → Side → Ty → Type 0
 IsSide c (VariableSide l u) t = (r : Region) × IsPlace c l u r × (t ≡ u)
 IsSide c (CellSide d) t = (r : Region) × IsCell c d t r
 
--- the exception of this number, and whether it has an int: the language's own have none
+-- the exception of this number has an int or not; built-in exceptions have none
 abbrev pub IsException : Context → ℕ → Bool → Type 0
 IsException c n has = ((1 ≤ n) × (n < 5) × (has ≡ false)) ⊎ ((m : ℕ) × (n ≡ 5 + m) × (slice_get c.exceptions m ≡ Some has))
 
@@ -292,7 +292,7 @@ IsThrown c false None = Unit {0}
 IsThrown c true (Some a) = WellTyped c a (Value Int)
 IsThrown c has a = ⊥
 
--- the scope inside a clause with the local that gets the exception's int, where there is one
+-- the context inside a clause, with the local that receives the exception's int, if any
 abbrev pub with_caught : Option ℕ → Context → Context
 with_caught None c = c
 with_caught (Some n) c = with_local true Int c
@@ -302,8 +302,8 @@ IsCaught c false None = Unit {0}
 IsCaught c true (Some n) = (n ≡ c.next_local) × (slice_get c.variables n ≡ Some Int)
 IsCaught c has v = ⊥
 
-abbrev pub behind_clause : Context → Option ℕ → Items → Context
-behind_clause c v js = record c { next_local = c.next_local + (length (caught_types v) + length (item_types js)); next_region = c.next_region + suc (item_regions js) }
+abbrev pub after_clause : Context → Option ℕ → Items → Context
+after_clause c v js = record c { next_local = c.next_local + (length (caught_types v) + length (item_types js)); next_region = c.next_region + suc (item_regions js) }
 
 -- The local of this number is the next one, has this type in its function, and lives in a live region.
 abbrev pub IsDeclared : Context → ℕ → Ty → Type 0
@@ -321,25 +321,25 @@ abbrev mutual
   WellTypedStatement c (Evaluate a) = (t : ValueType) × WellTyped c a t
   -- two places of one type
   WellTypedStatement c (Swap x y) = (t : Ty) × IsSide c x t × IsSide c y t × (is_struct t ≡ false)
-  WellTypedStatement c (If a s t) = IsCondition c a × WellTypedStatement c s × WellTypedStatement (behind c s) t
+  WellTypedStatement c (If a s t) = IsCondition c a × WellTypedStatement c s × WellTypedStatement (following c s) t
   WellTypedStatement c (While p a s) = IsCondition c a × WellTypedStatement (in_body c) s
   WellTypedStatement c (Return v) = IsReturned c c.result v
   WellTypedStatement c Break = c.in_loop ≡ true
   WellTypedStatement c Continue = c.in_loop ≡ true
   WellTypedStatement c (Throw n v) = (has : Bool) × IsException c n has × IsThrown c has v
-  WellTypedStatement c (Try s ds) = WellTypedStatement c s × WellTypedClauses (behind c s) ds
+  WellTypedStatement c (Try s ds) = WellTypedStatement c s × WellTypedClauses (following c s) ds
 
   pub WellTypedItems : Context → Items → Type 0
   WellTypedItems c NoItems = Unit {0}
-  WellTypedItems c (MoreItems (Execute s) js) = WellTypedStatement c s × WellTypedItems (behind c s) js
+  WellTypedItems c (MoreItems (Execute s) js) = WellTypedStatement c s × WellTypedItems (following c s) js
   WellTypedItems c (MoreItems (Declare n t v) js) = IsDeclared c n t × IsInitial c v t × WellTypedItems (with_local true t c) js
-  -- a lexical region is open to the end of the block
+  -- a lexical region stays open to the end of the block
   WellTypedItems c (MoreItems (DeclareRegion r n) js) =
       IsNextRegion c r × IsDeclared c n (Handle (regions.Variable r)) × WellTypedItems (with_local false (Handle (regions.Variable r)) (with_opened scopes.Lexical c)) js
-  -- and so is that of a key; nothing that is live outlives it
+  -- the opened region of a key stays open to the end of the block; no live region outlives it
   WellTypedItems c (MoreItems (OpenRegion r n p k) js) =
       IsVariable c (Local p k) (Key (regions.Variable r)) × IsDeclared c n (Handle (regions.Variable r)) × WellTypedItems (with_local false (Handle (regions.Variable r)) (with_key_opened r c)) js
-  -- an alias has the type of the unique pointer that it shares, but for its region, which is new
+  -- an alias has the type of the unique pointer that it shares, except for its region, which is new
   WellTypedItems c (MoreItems (DeclareAlias r n t p m) js) =
       IsNextRegion c r × ((u : Ty) × IsVariable c (Local p m) u × (is_unique u ≡ true) × (t ≡ with_region_of (regions.Variable r) u)) × IsDeclared c n t
       × WellTypedItems (with_local true t (with_opened scopes.Alias c)) js
@@ -351,19 +351,20 @@ abbrev mutual
   WellTypedClauses c NoClauses = Unit {0}
   WellTypedClauses c (Default r js) = IsNextRegion c r × WellTypedItems (in_block c) js
   WellTypedClauses c (Case e v r js ds) =
-      (has : Bool) × IsException c e has × IsCaught c has v × IsNextRegion c r × WellTypedItems (with_caught v (in_block c)) js × WellTypedClauses (behind_clause c v js) ds
+      (has : Bool) × IsException c e has × IsCaught c has v × IsNextRegion c r × WellTypedItems (with_caught v (in_block c)) js × WellTypedClauses (after_clause c v js) ds
 
 -- ---- programs
 
 abbrev pub signature_of : Function → Signature
 signature_of h = record { variables = h.variables; parameters = h.parameters; result = h.result; effect = h.effect; constraints = h.constraints }
 
--- the parameters, the newest first, in front of those before; the first of them has this number
+-- the parameters as locals in scope, newest first, before the given ones; the first parameter has this number
 abbrev pub parameters_in_scope : List Ty → ℕ → List LocalInScope → List LocalInScope
 parameters_in_scope [] n vs = vs
 parameters_in_scope (t ∷ ts) n vs = parameters_in_scope ts (suc n) (record { number = n; of_type = t; region = 0; is_place = true } ∷ vs)
 
--- The context of a function's body. Its own region is open, in which its parameters live; the heap and unique objects are live everywhere.
+-- The context of a function's body. The body's own region, which contains the parameters, is open; the heap and the unique region are live
+-- everywhere.
 abbrev pub body_context : Program → Function → Context
 body_context p h = record {
   structs = p.structs;
@@ -384,7 +385,7 @@ body_context p h = record {
 
 -- ---- regions in types
 
--- neither the function's own region nor one beyond those that its parameters name
+-- the region is neither the function's own region nor a variable beyond those that its parameters name
 abbrev pub IsNamed : (variables : ℕ) → Region → Type 0
 IsNamed k (regions.Variable n) = (1 ≤ n) × (n ≤ k)
 IsNamed k r = Unit {0}
@@ -409,12 +410,12 @@ abbrev pub IsNamedResult : (variables : ℕ) → Option Ty → Type 0
 IsNamedResult k None = Unit {0}
 IsNamedResult k (Some t) = IsNamedIn k t
 
--- a written pair of regions, neither of them that of unique pointers
+-- the written constraints, in which the unique region does not occur
 abbrev pub AreConstraints : (variables : ℕ) → List (Region × Region) → Type 0
 AreConstraints k [] = Unit {0}
 AreConstraints k (p ∷ ps) = (IsNamed k p.0 × (p.0 ≢ regions.Unique) × IsNamed k p.1 × (p.1 ≢ regions.Unique)) × AreConstraints k ps
 
--- no effect names a region that a parameter has the key of, so that the region is not open when it is opened
+-- No parameter has a key of the region. A region of an effect is not already open when its key opens it.
 abbrev pub IsKeyless : Region → List Ty → Type 0
 IsKeyless r [] = Unit {0}
 IsKeyless r (t ∷ ts) = (t ≢ Key r) × IsKeyless r ts
@@ -423,8 +424,8 @@ abbrev pub AreKeyless : List Region → List Ty → Type 0
 AreKeyless [] ts = Unit {0}
 AreKeyless (r ∷ rs) ts = ((r ≢ regions.Unique) × IsKeyless r ts) × AreKeyless rs ts
 
--- The body is well typed where its parameters are in scope, the function's numbers are those of what it declares, and its types name no
--- regions but those of its parameters.
+-- The body is well-typed in the scope of its parameters. The function declares exactly its numbered locals and regions. The types of the
+-- function mention only the regions of the parameters.
 pub record IsWellTypedFunction (p : Program) (h : Function) : Type 0 where
   pub body : WellTypedItems (body_context p h) h.body
   pub own : h.region ≡ 0
@@ -440,8 +441,8 @@ abbrev pub AreWellTypedFunctions : Program → List Function → Type 0
 AreWellTypedFunctions p [] = Unit {0}
 AreWellTypedFunctions p (h ∷ hs) = IsWellTypedFunction p h × AreWellTypedFunctions p hs
 
--- No global is a handle or a key, and it begins with a value of its type: a word, which is that of a byte for a char, or null where null
--- may stand.
+-- No global is a handle or a key. The initial value of a global has the global's type: a word (a byte for a char), or null if null is
+-- allowed.
 abbrev pub IsWellTypedGlobal : GlobalVariable → Type 0
 IsWellTypedGlobal g =
     ((g.of_type ≡ Int) × ((word : ℕ) × (g.value ≡ Word word)))

@@ -19,6 +19,6 @@ loop-mark-preserved c =
     let left = c.loop-mark.invariant in
     let m = get_or ms i none in
     let made = c.in_ok-of_type.ensures ∙ ap (λ (r : Region). Pointer m.kind (view_ty c.loop-mark.of_type) (region_or c.args.names.now r (view_pointer m).region)) c.left_out_by.ensures in (
-      marked c.args.names.now c.args.outermost ms i c.loop-mark.behind (c.loop-mark.behind - 1) m (view_ty c.loop-mark.of_type) (view_ty c.in_ok-of_type.of_type) _ inside (drop_more ms i none inside) left.1 refl made left.0,
+      marked c.args.names.now c.args.outermost ms i c.loop-mark.following (c.loop-mark.following - 1) m (view_ty c.loop-mark.of_type) (view_ty c.in_ok-of_type.of_type) _ inside (drop_more ms i none inside) left.1 refl made left.0,
       omega (arith, left.1, inside),
     )

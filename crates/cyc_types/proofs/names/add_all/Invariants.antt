@@ -1,5 +1,5 @@
 use Rattle.std.proofs.Common.{◌≡◌, ◌++◌, take}
-use Rattle.cyc_types.specs.typing.Heads.{region_numbers}
+use Rattle.cyc_types.specs.typing.DeclarationRules.{region_numbers}
 use Rattle.cyc_types.specs.inside.Names.{names_of}
 use Rattle.cyc_types.proofs.names.add_all.Given as goal
 

@@ -10,7 +10,7 @@ use Rattle.cyc_types.proofs.SearchLemmas.{IsSearched, leads-found, searched-take
 use Rattle.cyc_types.proofs.outlives.leads.Goals as goal
 use Rattle.cyc_types.proofs.outlives.leads.Goals.{then-is_outlived_by_live+then-is_known+else-is_above_live, else-is_outlived_by_live, else-is_outlived_by_live-via-then-is_outlived_by_live+else-is_known, else-is_outlived_by_live-via-else-is_outlived_by_live}
 
--- the default at which the code reads a scope
+-- the default for a read of a scope past the end
 abbrev default : Scope
 default = record { region = Heap; kind = Block }
 

@@ -1,5 +1,5 @@
--- The rules of the whole language in their usual form. What a rule value derives and refuses with computes to a statement on trees, so
--- each reading here is the rule itself: `refl` proves it.
+-- The typing rules of the whole language in their usual form. The premises of a rule value compute to a statement about trees, so each
+-- reading in this file is the rule of that name: The proof of each reading is `refl`.
 use Rattle.std.specs.Prelude.{◌≡◌, true, not, nat_eq, ◌&&◌, List, ◌++◌, Option, Some, length, refl}
 use Rattle.cyc_words.specs.declared.fault.Code.TheVariants as codes
 use Rattle.cyc_words.specs.declared.fault.Fault.{Fault}
@@ -23,7 +23,7 @@ use Rattle.cyc_types.specs.typing.Statements.{swapped, local_type, rule_initial,
 module _ (g : Scope) where
   -- ---- variables and places
 
-  -- a variable is read: by a copy, or by a move of a unique pointer or key in a local; a unique pointer in a global is not read
+  -- A variable is read by a copy, or by a move if it is a unique pointer or key in a local. A unique pointer in a global cannot be read.
   variable_typed : (l : Lvalue) (t : Ty) (home : _) (p : Place) (a : typed.Expression)
       → Derives (read (scopes.Variable l t home) p) a ≡ (((is_readable l t ≡ true) × Unit {0}) × (a ≡ variable_read l t))
   variable_typed l t home p a = refl
@@ -31,7 +31,7 @@ module _ (g : Scope) where
   unknown_refused : (p : Place) (f : Fault) → Refuses (read Unknown p) f ≡ (f ≡ fault_at codes.UnknownName p)
   unknown_refused p f = refl
 
-  -- what a pointer leads to is read where the pointer's region is live; it is no struct, and no unique pointer
+  -- a cell is read only if the region of the pointer is live, and if it holds neither a struct nor a unique pointer
   loaded_typed : (p : Place) (e : Expression) (a : typed.Expression)
       → Derives (rule g (Prefixed p prefixes.Dereference e)) a
       ≡ ((b : typed.Expression) × Derives (rule_looked g e (rule g e)) b
@@ -40,7 +40,7 @@ module _ (g : Scope) where
       × (a ≡ typed.Load (pointed g (place_of e) b).cell)))
   loaded_typed p e a = refl
 
-  -- as a place no more is asked than that the pointer may be followed
+  -- a cell as a place only demands that the pointer may be dereferenced
   place_typed : (p q : Place) (e : Expression) (x : Found)
       → Derives (rule_place g p (Prefixed q prefixes.Dereference e) (rule g (Prefixed q prefixes.Dereference e))) x
       ≡ ((b : typed.Expression) × Derives (rule_looked g e (rule g e)) b
@@ -48,7 +48,7 @@ module _ (g : Scope) where
       × (x ≡ record { side = typed.CellSide (pointed g (place_of e) b).cell; region = region_of (value_of (type_of b)) })))
   place_typed p q e x = refl
 
-  -- an address is that of no key, of no unique pointer and of nothing in a unique object
+  -- `&` cannot be applied to a key, a unique pointer, or a part of a unique object
   address_typed : (p : Place) (e : Expression) (a : typed.Expression)
       → Derives (rule g (Prefixed p prefixes.AddressOf e)) a
       ≡ ((x : Found) × Derives (rule_place g (place_of e) e (rule g e)) x
@@ -56,7 +56,7 @@ module _ (g : Scope) where
       × (a ≡ address_of x.side (pointer_to x))))
   address_typed p e a = refl
 
-  -- a value is converted to the type of the place, which is found before it
+  -- an assigned value is converted to the type of the place, which is evaluated first
   assignment_typed : (e v : Expression) (a : typed.Expression)
       → Derives (rule g (Assign e v)) a
       ≡ ((x : Found) × Derives (rule_place g (place_of e) e (rule g e)) x
@@ -67,7 +67,7 @@ module _ (g : Scope) where
 
   -- ---- other expressions
 
-  -- an int or a pointer, which is only looked at; a char serves as an int
+  -- negation takes an int or a pointer, which is only peeked at; a char counts as an int
   negation_typed : (p : Place) (e : Expression) (a : typed.Expression)
       → Derives (rule g (Prefixed p prefixes.Not e)) a
       ≡ ((b : typed.Expression) × Derives (rule_looked g e (rule g e)) b × (((is_tested (type_of (as_int b)) ≡ true) × Unit {0}) × (a ≡ typed.Unary unary.Not (as_int b))))
@@ -83,12 +83,12 @@ module _ (g : Scope) where
       ≡ ((b : typed.Expression) × Derives (rule g e) b × (((not (is_void (type_of b)) ≡ true) × ((is_value is_unique (type_of b) ≡ true) × Unit {0})) × (a ≡ typed.FreeUnique b)))
   freed_typed p e a = refl
 
-  -- elsewhere than in `rnew`
+  -- `unique_region` is rejected outside `rnew`
   unique_region_refused : (p : Place) (f : Fault) → Refuses (rule g (UniqueRegion p)) f ≡ (f ≡ fault_at codes.RegionOrKeyMisused p)
   unique_region_refused p f = refl
 
-  -- As many arguments as parameters, each converted; no variable stands for unique pointers; constraints hold, and the effect is live. Of
-  -- all that is wrong, the lowest code and then the first is the fault.
+  -- A call has as many arguments as parameters, each of which is converted. No variable denotes the unique region, the constraints hold,
+  -- and the effect is live. Of all violated demands of a call, the lowest code and then the first is the fault.
   call_typed : (c : Callee) (s : Signature) (p : Place) (es : Expressions) (as' : List typed.Expression) (a : typed.Expression)
       → Derives (called g (Routine c s) p es as') a
       ≡ (((nat_eq (length as') (length s.parameters) ≡ true)
@@ -100,18 +100,18 @@ module _ (g : Scope) where
 
   -- ---- statements and items
 
-  -- two places of one type, which is no struct's
+  -- the two places of a swap have equal types, and are not structs
   swap_typed : (p : Place) (x y : Found) (t : typed.Statement)
       → Derives (swapped p x y) t ≡ (((ty_eq (type_of_side x.side) (type_of_side y.side) && not (is_struct (type_of_side x.side)) ≡ true) × Unit {0}) × (t ≡ typed.Swap x.side y.side))
   swap_typed p x y t = refl
 
-  -- a label is new in the function, and known in its block
+  -- a label is new in its function, and known in its block
   labelled_typed : (l : Named) (b : Body) (t : typed.Statement)
       → Derives (rule_statement g (Labelled l b)) t
       ≡ ((u : Unit {0}) × (((not (is_taken g l) ≡ true) × Unit {0}) × (u ≡ tt)) × ((js : typed.Items) × Derives (rule_body (in_labelled l g) b) js × (Unit {0} × (t ≡ typed.Block g.next_region js))))
   labelled_typed l b t = refl
 
-  -- the initial value comes first; then of the name and the conversion the lowest code counts
+  -- the initial value of a local is checked first; then, of the faults of its name and its conversion, the lowest code is reported
   local_typed : (w : WrittenType) (x : Named) (e : Expression) (c : Ty × Option Converted)
       → Derives (rule_initial g w x (Some e)) c
       ≡ ((a : typed.Expression) × Derives (rule g e) a
