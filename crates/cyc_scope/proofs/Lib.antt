@@ -1,6 +1,6 @@
--- what the crates above cite
+-- lemmas that the crates above cite
 pub mod PlainLemmas
--- what is live in the whole body
+-- regions that are live in the whole body
 mod ThroughoutLemmas
 -- the tables of names
 pub mod TableLemmas

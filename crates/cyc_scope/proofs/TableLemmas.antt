@@ -1,4 +1,4 @@
--- The table finds the first entry of each name.
+-- The table of first entries finds the first entry of each name.
 use Rattle.std.proofs.Common.{◌≡◌, ◌≢◌, ℕ, suc, ◌<◌, Bool, true, false, cond, nat_eq, List, [], ◌∷◌, ◌++◌, length, map, set, get_or, Option, Some, None, option_map, refl, sym, ap, ◌∙◌, arith}
 use Rattle.std.specs.List.{slice_get}
 use Rattle.std.proofs.lemmas.Bool.{eqb-true, eq-eqb}
@@ -11,7 +11,7 @@ use Rattle.cyc_types.specs.typing.Scopes.{Exception, Declared, meaning_in}
 use Rattle.cyc_types.specs.typing.Statements.{exception_among, exception_number}
 use Rattle.cyc_scope.specs.inside.Tables.{first_place, first_by, exception_names, first_declared, meaning_by}
 
--- ---- a name more, at the end
+-- ---- one more name at the end
 
 pub first_known : (ys : List ℕ) (y x i : ℕ) → first_place ys x ≡ Some i → first_place (ys ++ y ∷ []) x ≡ Some i
 first_known [] y x i e = cc
@@ -63,7 +63,7 @@ set_first table ys y n x at lt finds none = by_test (nat_eq y x) refl
         ∙ sym (first_new ys y x (ap (first_place ys) (sym same) ∙ none) ∙ ap (λ t. cond t (Some (length ys)) None) f)
     by_test false f = get_or-set_other table y x (Some n) None (other f) ∙ finds x ∙ sym (first_old ys y x f)
 
--- a name that the table has
+-- a name that the table already contains
 pub keep_first : (table : List (Option ℕ)) (ys : List ℕ) (y i x : ℕ) → ((z : ℕ) → get_or table z None ≡ first_place ys z) → first_place ys y ≡ Some i → get_or table x None ≡ first_place (ys ++ y ∷ []) x
 keep_first table ys y i x finds known = by_test (nat_eq y x) refl
   where
@@ -73,7 +73,7 @@ keep_first table ys y i x finds known = by_test (nat_eq y x) refl
         finds x ∙ here ∙ sym (first_known ys y x i here)
     by_test false f = finds x ∙ sym (first_old ys y x f)
 
--- ---- the entry at the place of a name
+-- ---- the entry at the index of a name
 
 module _ {A : Type 0} (name : A → ℕ) where
   pub first_found : (as' : List A) (x i : ℕ) → first_place (map name as') x ≡ Some i → slice_get as' i ≡ first_by name as' x
@@ -103,7 +103,7 @@ module _ {A : Type 0} (name : A → ℕ) where
       by_test h true e = cc
       by_test h false e = by_place h (first_place (map name as') x) refl e
 
--- ---- an element that is lent
+-- ---- a borrowed element
 
 pub lent : {A : Type 0} (xs : List A) (i : ℕ) (r : Option (Bor A)) → IsItemAt xs i r → option_map (λ (x : Bor A). x.now) r ≡ slice_get xs i
 lent xs i None h = sym (slice_get_past xs i h.3)
@@ -134,7 +134,7 @@ among_first (e ∷ es) x = by_test (among_first es x) (nat_eq e.name x)
     by_test h true = refl
     by_test h false = h
 
--- exceptions are numbered from 1
+-- the number of an exception is its index plus one
 pub number_first : (es : List Exception) (x i : ℕ) → first_place (exception_names es) x ≡ Some i → exception_number es x ≡ suc i
 number_first [] x i e = cc
 number_first (c ∷ es) x i e = by_test (number_first es x) (nat_eq c.name x) e

@@ -1,10 +1,10 @@
--- what the contracts of the crates above rest on: how the code's answers follow the rules, what a name means, and what a scope is left to
+-- contracts that the crates above use: how the code's results follow the rules, the meaning of a name, and the state after leaving a scope
 pub mod Code
 pub mod Meanings
 pub mod Marks
 pub mod Bodies
 pub mod Plain
--- what the functions inside the crate promise each other
+-- contracts between the functions of this crate
 pub mod Codes
 pub mod Tables
 pub mod Entries

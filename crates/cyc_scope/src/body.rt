@@ -1,4 +1,4 @@
-//! The scope of a function's body, and the tables that one function hands to the next.
+//! The scope of a function's body, and the tables that the checks of the functions share.
 ghost use Rattle.std.specs.Prelude.{◌≡◌, [], ◌∷◌, map, option_map, IfOk, OnOk, IfErr};
 ghost use Rattle.cyc_syntax.specs.inside.TreeView.{view_name, view_member};
 ghost use Rattle.cyc_types.specs.TypeView.{view_ty};
@@ -18,17 +18,17 @@ use cyc_syntax::{Ident, Member};
 use cyc_types::{Kind, NameSet, Region, RegionNames, Signature, Ty};
 use std::alloc::Global;
 
-/// The tables of a function's names. They have a place for each name of the text, so one function hands them to the next.
+/// The tables of a function's names. The tables have an entry for each name of the text, so they are reused for the next function.
 #[derive(Drop)]
 pub struct Tables {
-    /// The names of regions that are known where a body begins, but for that of the function's own region.
+    /// The region names that are known at the start of a body, except for that of the function's own region.
     pub names: RegionNames,
     taken: NameSet,
     locals: Locals,
 }
 
 impl Tables {
-    /// No names, and no locals.
+    /// Returns tables without names and locals.
     pub fn new(alloc: Global) -> Tables
         ensures { result.names ≡ [] }
     {
@@ -40,7 +40,7 @@ impl Tables {
     }
 }
 
-/// Declares the parameters of a function, which have the numbers from 0 on and stand in the function's own region.
+/// Declares the parameters of a function: they are numbered from 0 and belong to the function's own region.
 #[tactic(auto, using(crate::proofs::EntryLemmas::parameters_end))]
 fn declare_parameters(locals: &mut Locals, members: &[Member], types: &[Ty]) -> Result<(), Stop>
     requires { Descends 0 locals.old }
@@ -63,7 +63,7 @@ fn declare_parameters(locals: &mut Locals, members: &[Member], types: &[Ty]) -> 
     Ok(())
 }
 
-/// The regions of a body: the function's own opens where what its effect names is live.
+/// Returns the regions of a body: the function's own region opens while the regions of its effect are live.
 fn regions_of(alloc: Global, signature: &Signature) -> Result<Regions, Stop>
     ensures regions { IfOk result (λ o. o ≡ body_regions (view_signature signature.now)) }
     ensures memory { IfErr result (λ e. e ≡ Memory) }
@@ -84,7 +84,7 @@ fn shared(of_type: &Option<Ty>) -> Result<Option<Ty>, Stop>
 }
 
 impl<'a> Scope<'a> {
-    /// The scope of the body of a function with this signature, name and parameters. Among the tables are the names of regions that the
+    /// Returns the scope of the body of a function with this signature, name and parameters. The tables contain the region names that the
     /// parameters declare.
     pub fn of_body(
         alloc: Global,
@@ -123,7 +123,7 @@ impl<'a> Scope<'a> {
         })
     }
 
-    /// The tables, for the next function.
+    /// Returns the tables, for reuse by the next function.
     pub fn into_tables(self) -> Tables {
         let Scope {
             names,

@@ -15,18 +15,18 @@ pub(crate) enum Entity {
     Function { callee: Callee, routine: Routine },
 }
 
-/// A function or a global.
+/// An entry for a function or a global.
 #[derive(Drop)]
 pub(crate) struct Entry {
     pub(crate) name: usize,
     pub(crate) entity: Entity,
 }
 
-/// The functions and globals in order. Where a name is declared twice, the first counts.
+/// The functions and globals in order. If a name is declared twice, the first declaration counts.
 #[derive(Drop)]
 pub(crate) struct Declared {
     entries: Vec<Entry>,
-    /// For each name the place of its first entry.
+    /// For each name, the index of its first entry.
     by_name: Vec<Option<usize>>,
 }
 
@@ -70,7 +70,7 @@ impl Entry {
         }
     }
 
-    /// Whether it is a function of a plain signature.
+    /// Returns true for a function with a plain signature.
     fn is_plain(&self) -> bool
         ensures { IsTrue result → IsPlainRoutine (view_entity self.now.entity) }
     {
@@ -99,7 +99,7 @@ impl Declared {
         }
     }
 
-    /// The place of the first of this name.
+    /// Returns the index of the first entry of this name.
     fn place(&self, name: usize) -> Option<usize>
         ensures { result ≡ first_place (declared_names self.now) name }
     {
@@ -109,7 +109,7 @@ impl Declared {
         }
     }
 
-    /// The first of this name.
+    /// Returns the first entry of this name.
     fn find(&self, name: usize) -> Option<&Entry>
         ensures { option_map (λ e. view_entry e.now) result ≡ first_declared self.now name }
     {
@@ -129,7 +129,7 @@ impl Declared {
         }
     }
 
-    /// Whether a name is that of a function of a plain signature.
+    /// Returns true if the name denotes a function with a plain signature.
     pub(crate) fn is_plain(&self, name: usize) -> bool
         ensures { IsTrue result → IsPlainRoutine (meaning_in self.now name) }
     {

@@ -18,11 +18,11 @@ pub(crate) struct Entry {
     pub(crate) has_int: bool,
 }
 
-/// The exceptions in order. Where a name is declared twice, the first counts.
+/// The exceptions in order. If a name is declared twice, the first declaration counts.
 #[derive(Drop)]
 pub(crate) struct Exceptions {
     entries: Vec<Entry>,
-    /// For each name the place of its first entry.
+    /// For each name, the index of its first entry.
     by_name: Vec<Option<usize>>,
 }
 
@@ -54,7 +54,7 @@ impl Exceptions {
         }
     }
 
-    /// The place of the first exception of this name.
+    /// Returns the index of the first exception of this name.
     fn place(&self, name: usize) -> Option<usize>
         ensures { result ≡ first_place (exception_names self.now) name }
     {
@@ -64,7 +64,7 @@ impl Exceptions {
         }
     }
 
-    /// The exception of this name.
+    /// Returns the exception of this name.
     pub(crate) fn find(&self, name: usize) -> Option<Thrown>
         ensures has_int { exception_among self.now name ≡ option_map (λ t. t.has_int) result }
         ensures number { IfSome result (λ t. t.number ≡ exception_number self.now name) }

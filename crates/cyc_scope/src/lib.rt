@@ -1,8 +1,12 @@
-//! What the checker knows where an expression or a statement stands: what is declared, what names mean, which regions are live, and how a
-//! scope is entered and left again. And how checking stops, with the demands that it settles.
+//! The context of the type checker at an expression or a statement: declarations, meaning of names, live regions, and entry and exit of
+//! scopes. The crate also contains the reasons why checking stops, and the accumulation of demands.
 #![tactic(auto)]
 
 pub use body::Tables;
+pub use demands::{
+    demand_field, demand_global, demand_name, demand_names, demand_other, demand_struct,
+    demand_type, is_name_of,
+};
 pub use exceptions::Thrown;
 pub use meaning::Meaning;
 pub use program::{Field, Program};
@@ -12,6 +16,7 @@ pub use stop::{Stop, refused};
 
 mod body;
 mod declared;
+mod demands;
 mod exceptions;
 mod locals;
 mod meaning;

@@ -9,7 +9,7 @@ use cyc_types::{Region, Ty};
 use std::alloc::Global;
 use std::marker::Model;
 
-/// What declares a local.
+/// The construct that declares a local.
 #[derive(Clone, Copy)]
 pub(crate) enum Sort {
     Ordinary,
@@ -23,7 +23,7 @@ pub(crate) enum Sort {
 #[derive(Drop)]
 pub(crate) struct Local {
     pub(crate) name: usize,
-    /// Its number in its function; the variable of a `for` has its level.
+    /// The number of the local in its function; for the variable of a `for`, its level.
     pub(crate) number: usize,
     pub(crate) of_type: Ty,
     /// The number of the region of the block that declares it.
@@ -31,19 +31,19 @@ pub(crate) struct Local {
     pub(crate) sort: Sort,
 }
 
-/// A local in scope, and the place of the one that it hides.
+/// A local in scope, with the index of the local that it hides.
 #[derive(Drop)]
 struct Binding {
     local: Local,
     hidden: Option<usize>,
 }
 
-/// The locals in scope. A clause sees them with the newest first.
+/// The locals in scope. Contracts see them as a list, newest first.
 #[derive(Drop)]
 pub(crate) struct Locals {
-    /// The oldest first.
+    /// The bindings, oldest first.
     bindings: Vec<Binding>,
-    /// For each name the place of its newest local.
+    /// For each name, the index of its newest local.
     newest: Vec<Option<usize>>,
 }
 
@@ -71,7 +71,7 @@ impl Local {
     ghost use Rattle.cyc_scope.specs.inside.Meanings.{view_meaning};
     ghost use Rattle.cyc_scope.specs.inside.Entries.{view_sort, view_local};
 
-    /// What a name at this place means that means this local.
+    /// Returns the meaning of a name at this place that denotes this local.
     fn meaning(&self, name: Ident) -> Meaning<'_>
         ensures { view_meaning result ≡ local_meaning (view_local self.now).sort (view_local self.now) (view_name name).place }
     {
@@ -117,7 +117,7 @@ impl Locals {
         self.bindings.len()
     }
 
-    /// The place of the newest local of this name.
+    /// Returns the index of the newest local of this name.
     fn place(&self, name: usize) -> Option<usize>
         ensures { result ≡ newest_place (local_names self.now) name }
     {
@@ -127,7 +127,7 @@ impl Locals {
         }
     }
 
-    /// The newest local of this name.
+    /// Returns the newest local of this name.
     fn find(&self, name: usize) -> Option<&Binding>
         ensures { option_map (λ b. view_binding b.now) result ≡ newest self.now name }
     {
@@ -137,11 +137,12 @@ impl Locals {
         }
     }
 
-    /// What a name means as a local.
+    /// Returns the meaning of a name as a local.
     #[inline]
     #[tactic(auto, using(crate::proofs::LocalLemmas::meaning_found, crate::proofs::LocalLemmas::meaning_lost))]
     pub(crate) fn meaning(&self, name: Ident) -> Option<Meaning<'_>>
-        ensures { (ds : List Declared) → meaning_among self.now ds (view_name name) ≡ meaning_or (meaning_in ds name.name.number) (option_map view_meaning result) }
+        ensures { (ds : List Declared) → meaning_among self.now ds (view_name name)
+            ≡ meaning_or (meaning_in ds name.name.number) (option_map view_meaning result) }
     {
         match self.find(name.name.number) {
             Some(binding) => Some(binding.local.meaning(name)),
@@ -149,7 +150,7 @@ impl Locals {
         }
     }
 
-    /// Whether the innermost block, which has this region, declares a local of this name.
+    /// Returns true if the innermost block, which has this region, declares a local of this name.
     #[tactic(auto, using(crate::proofs::LocalLemmas::declared_lost))]
     pub(crate) fn is_declared_in(&self, region: usize, name: usize) -> bool
         requires { Descends region self.now }
@@ -175,7 +176,7 @@ impl Locals {
         Ok(())
     }
 
-    /// Forgets the newest local.
+    /// Removes the newest local.
     fn undo(&mut self)
         ensures { self.new ≡ drop 1 self.old }
     {
@@ -185,7 +186,7 @@ impl Locals {
         self.newest[binding.local.name] = binding.hidden;
     }
 
-    /// Forgets all locals but this number of the oldest.
+    /// Removes all locals but this number of the oldest.
     #[tactic(auto, using(cyc_words::proofs::Lists::drop_one_more))]
     pub(crate) fn close(&mut self, count: usize)
         ensures { self.new ≡ drop (length self.old - count) self.old }

@@ -1,4 +1,4 @@
-//! Whether a signature is plain, so that a call of it asks the least.
+//! Recognizes plain signatures, whose calls have the fewest demands.
 ghost use Rattle.std.specs.Prelude.{◌≡◌, [], ◌∷◌, suc, IsTrue, IfSome, map, option_map, List};
 ghost use Rattle.cyc_types.specs.declared.region.Region.{Region};
 ghost use Rattle.cyc_types.specs.Types.{substituted_ty};
@@ -8,8 +8,8 @@ ghost use Rattle.cyc_scope.specs.inside.Plain.{regions_in, all_regions, Ascend, 
 
 use cyc_types::{Region, Signature, Ty};
 
-/// The number behind that of a variable, where it is not below this one.
-fn behind(next: usize, region: Region) -> Option<usize>
+/// Returns the number after that of the variable, if the region is a variable with at least this number.
+fn following(next: usize, region: Region) -> Option<usize>
     ensures { IfSome result (λ n. Ascend next (region ∷ []) n) }
 {
     match region {
@@ -18,41 +18,41 @@ fn behind(next: usize, region: Region) -> Option<usize>
     }
 }
 
-/// The same of several, each of which is not below the one before it.
-fn behind_all(next: usize, regions: &[Region]) -> Option<usize>
+/// Returns the number after the last variable, if the regions are variables with increasing numbers, from this number on.
+fn following_all(next: usize, regions: &[Region]) -> Option<usize>
     ensures { IfSome result (λ n. Ascend next regions.now n) }
 {
     let mut known = next;
     for region in regions {
-        known = behind(known, *region)?;
+        known = following(known, *region)?;
     }
     Some(known)
 }
 
-/// The same of the regions of a type.
-fn behind_type(next: usize, of_type: &Ty) -> Option<usize>
+/// Applies `following_all` to the regions of a type.
+fn following_type(next: usize, of_type: &Ty) -> Option<usize>
     ensures { IfSome result (λ n. Ascend next (regions_in (view_ty of_type.now)) n) }
 {
     match of_type {
         Ty::Int | Ty::Char => Some(next),
-        Ty::Pointer { target, region, .. } => behind(behind_type(next, target)?, *region),
-        Ty::Handle { region } | Ty::Key { region } => behind(next, *region),
-        Ty::Struct { regions, .. } => behind_all(next, regions),
+        Ty::Pointer { target, region, .. } => following(following_type(next, target)?, *region),
+        Ty::Handle { region } | Ty::Key { region } => following(next, *region),
+        Ty::Struct { regions, .. } => following_all(next, regions),
     }
 }
 
-/// The same of the regions of several types.
-fn behind_types(next: usize, types: &[Ty]) -> Option<usize>
+/// Applies `following_type` to several types in turn.
+fn after_types(next: usize, types: &[Ty]) -> Option<usize>
     ensures { IfSome result (λ n. Ascend next (all_regions (map view_ty types.now)) n) }
 {
     let mut known = next;
     for of_type in types {
-        known = behind_type(known, of_type)?;
+        known = following_type(known, of_type)?;
     }
     Some(known)
 }
 
-/// Whether each of these is a variable of at most this number.
+/// Returns true if each region is a variable with at most this number.
 fn are_variables(count: usize, regions: &[Region]) -> bool
     ensures { IsTrue result → AreVariables count regions.now }
 {
@@ -65,24 +65,24 @@ fn are_variables(count: usize, regions: &[Region]) -> bool
     true
 }
 
-/// Whether a result names no region.
+/// Returns true if the result type mentions no region.
 fn is_same_everywhere(written: &Option<Ty>) -> bool
     ensures { IsTrue result → (m : List Region) → option_map (substituted_ty m) (option_map view_ty written.now) ≡ option_map view_ty written.now }
 {
     matches!(written, None | Some(Ty::Int) | Some(Ty::Char))
 }
 
-/// Whether the regions of the parameters are variables that stand nowhere else.
+/// Returns true if the regions of the parameters are variables that occur only once.
 fn are_apart(signature: &Signature) -> bool
     ensures { IsTrue result → Ascend 1 (all_regions (view_signature signature.now).parameters) (suc signature.now.variables) }
 {
-    match behind_types(1, &signature.parameters) {
+    match after_types(1, &signature.parameters) {
         Some(next) => next.saturating_sub(1) <= signature.variables,
         None => false,
     }
 }
 
-/// Whether a signature is plain.
+/// Returns true if a signature is plain.
 pub(crate) fn is_plain(signature: &Signature) -> bool
     ensures { IsTrue result → IsPlain (view_signature signature.now) }
 {

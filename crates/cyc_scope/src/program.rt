@@ -1,4 +1,4 @@
-//! What a program declares, found by name in constant time.
+//! The declarations of a program, found by name in constant time.
 
 use crate::declared::{Declared, Entity};
 use crate::exceptions::{Exceptions, Thrown};
@@ -10,14 +10,14 @@ use cyc_types::{Known, Signature, Ty};
 use std::alloc::Global;
 use std::marker::Model;
 
-/// A field of a struct, whose i-th region parameter is the region variable i in its type.
+/// A field of a struct. In the type of a field, the i-th region parameter is the region variable i.
 #[derive(Drop)]
 pub struct Field {
     pub name: usize,
     pub of_type: Ty,
 }
 
-/// What the bodies of a program's functions know of it.
+/// The declarations of a program, as the bodies of its functions see them.
 #[derive(Drop)]
 pub struct Program {
     known: Known,
@@ -56,7 +56,7 @@ impl Program {
     ghost use Rattle.cyc_scope.specs.inside.Entries.{view_field, view_fields};
     ghost use Rattle.cyc_scope.specs.inside.Plain.{IsPlainRoutine};
 
-    /// A program of which only this is known so far.
+    /// Returns a program with these known names and no declarations yet.
     pub fn new(alloc: Global, known: Known) -> Program
         ensures { result ≡ record { known = known; fields = []; exceptions = []; declared = [] } }
     {
@@ -68,14 +68,14 @@ impl Program {
         }
     }
 
-    /// What is known in its whole text.
+    /// Returns the names that are known in the whole text.
     pub fn known(&self) -> &Known
         ensures { result.now ≡ self.now.known }
     {
         &self.known
     }
 
-    /// The fields of the struct of this number, of which there are none if there is no such struct.
+    /// Returns the fields of the struct of this number, or none if there is no such struct.
     pub fn fields(&self, number: usize) -> &[Field]
         ensures { map view_field result.now ≡ unwrap_or (slice_get self.now.fields number) [] }
     {
@@ -85,7 +85,7 @@ impl Program {
         }
     }
 
-    /// The exception of this name.
+    /// Returns the exception of this name.
     pub fn exception(&self, name: usize) -> Option<Thrown>
         ensures has_int { exception_among self.now.exceptions name ≡ option_map (λ t. t.has_int) result }
         ensures number { IfSome result (λ t. t.number ≡ exception_number self.now.exceptions name) }
@@ -93,21 +93,21 @@ impl Program {
         self.exceptions.find(name)
     }
 
-    /// What a name means that no local has.
+    /// Returns the meaning of a name that denotes no local.
     pub fn meaning(&self, name: usize) -> Meaning<'_>
         ensures { view_meaning result ≡ scopes.meaning_in self.now.declared name }
     {
         self.declared.meaning(name)
     }
 
-    /// Whether a name that no local has is that of a function of a plain signature.
+    /// Returns true if a name that denotes no local denotes a function with a plain signature.
     pub(crate) fn is_plain(&self, name: usize) -> bool
         ensures { IsTrue result → IsPlainRoutine (scopes.meaning_in self.now.declared name) }
     {
         self.declared.is_plain(name)
     }
 
-    /// The fields of the next struct.
+    /// Adds the fields of the next struct.
     pub fn add_fields(&mut self, fields: Vec<Field>) -> Result<(), Stop>
         ensures added { OnOk result (self.new ≡ record self.old { fields = self.old.fields ++ view_fields fields ∷ [] }) }
         ensures memory { IfErr result (λ e. e ≡ Memory) }
@@ -116,7 +116,7 @@ impl Program {
         Ok(())
     }
 
-    /// Declares an exception of the program behind those that are there.
+    /// Declares an exception of the program after the existing ones.
     pub fn add_exception(&mut self, name: usize, has_int: bool) -> Result<(), Stop>
         ensures added { OnOk result (self.new ≡ record self.old { exceptions = self.old.exceptions ++ record { name = name; has_int = has_int } ∷ [] }) }
         ensures memory { IfErr result (λ e. e ≡ Memory) }
@@ -124,7 +124,7 @@ impl Program {
         self.exceptions.declare(name, has_int)
     }
 
-    /// Declares the global of this number, which lives on the heap.
+    /// Declares the global of this number, which belongs to the heap.
     pub fn declare_global(&mut self, name: usize, number: usize, of_type: Ty) -> Result<(), Stop>
         ensures declared { OnOk result (self.new ≡ record self.old { declared = self.old.declared ++ record { name = name; meaning = scopes.Variable (typed.Global number) (view_ty of_type) regions.Heap } ∷ [] }) }
         ensures memory { IfErr result (λ e. e ≡ Memory) }

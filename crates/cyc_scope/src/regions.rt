@@ -1,4 +1,4 @@
-//! Which regions are live and which outlives which, where what is live in the whole body is known by its number.
+//! The live regions and the outlives relation. Regions that are live in the whole body are recognized by their numbers.
 ghost use Rattle.std.specs.Prelude.{◌∷◌};
 ghost use Rattle.cyc_types.specs.declared.region.Region.TheVariants.{Heap, Unique};
 ghost use Rattle.cyc_scope.specs.inside.Throughout.{AreThroughout};
@@ -8,7 +8,7 @@ use cyc_types::{Kind, Outlives, Region};
 use std::alloc::{AllocError, Global};
 use std::marker::Model;
 
-/// How many of these regions are the variables from that of the number 1 on.
+/// Returns the largest count such that the variables from number 1 up to it are in the effect.
 fn count_of(effect: &[Region]) -> usize
     ensures { AreThroughout (Heap ∷ Unique ∷ effect.now) result }
 {
@@ -20,11 +20,11 @@ fn count_of(effect: &[Region]) -> usize
     effect.len()
 }
 
-/// The outlives relation at one place of a body. A clause sees it alone.
+/// The outlives relation at one point of a body. Contracts see only the outlives relation, not its tables.
 #[derive(Drop)]
 pub(crate) struct Regions {
     outlives: Outlives,
-    /// So many region variables, from that of the number 1 on, are live in the whole body, and the heap is.
+    /// The number of region variables, from number 1 on, that are live in the whole body, as the heap is.
     throughout: usize,
 }
 
@@ -47,7 +47,7 @@ impl Regions {
     ghost use Rattle.cyc_types.specs.Types.{is_region_among};
     ghost use Rattle.cyc_scope.specs.declared.stop.Stop.TheVariants.{Memory};
 
-    /// No scope is open yet, and what the effect names is live.
+    /// Returns the regions without open scopes; the regions of the effect are live.
     pub(crate) fn new(
         alloc: Global,
         written: &[(Region, Region)],
@@ -66,7 +66,7 @@ impl Regions {
         })
     }
 
-    /// Whether the region is live.
+    /// Returns true if the region is live.
     #[tactic(auto, using(crate::proofs::ThroughoutLemmas::live_throughout, crate::proofs::ThroughoutLemmas::heap_throughout))]
     pub(crate) fn is_live(&self, region: Region) -> bool
         ensures { result ≡ is_region_among region (live_regions self.now.live self.now.opened) }
@@ -78,14 +78,14 @@ impl Regions {
         }
     }
 
-    /// Whether the first region outlives the second.
+    /// Returns true if the first region outlives the second.
     pub(crate) fn outlives(&self, a: Region, b: Region) -> bool
         ensures { result ≡ is_outliving self.now a b }
     {
         self.outlives.outlives(a, b)
     }
 
-    /// How many scopes are open.
+    /// Returns the number of open scopes.
     pub(crate) fn len(&self) -> usize
         ensures { result ≡ length self.now.opened }
     {

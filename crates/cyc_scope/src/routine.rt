@@ -1,10 +1,10 @@
-//! A signature as a program keeps it, with whether it is plain.
+//! A signature in a program, together with whether it is plain.
 
 use crate::plain::is_plain;
 use cyc_types::Signature;
 use std::marker::Model;
 
-/// A signature. A clause sees it alone.
+/// A signature. Contracts see only the signature, not its layout in memory.
 #[derive(Drop)]
 pub(crate) struct Routine {
     signature: Signature,

@@ -1,4 +1,4 @@
-//! What is known where an expression or a statement stands.
+//! The context of an expression or a statement.
 
 use crate::exceptions::Thrown;
 use crate::locals::{Local, Locals, Sort};
@@ -12,25 +12,25 @@ use cyc_types::{Kind, NameSet, Region, RegionNames, StructNames, Ty};
 use std::alloc::Global;
 use std::marker::Model;
 
-/// How much is in scope, and where. What came into scope since then is forgotten by `leave`.
+/// The size of a scope at some point. `leave` removes the names that came into scope since then.
 #[derive(Clone, Copy)]
 pub struct Mark {
-    /// How many locals, names of regions and open scopes there are.
+    /// The number of locals, of region names and of open scopes.
     pub locals: usize,
     pub names: usize,
     pub opened: usize,
     /// The region of the innermost block.
     pub region: usize,
     pub in_loop: bool,
-    /// How many `for` stand around.
+    /// The number of enclosing `for`s.
     pub counters: usize,
 }
 
-/// What is known where an expression or a statement stands in the body of a function: what the program declares, what names mean, which
-/// regions are live, and the numbers that the next local and the next region get.
+/// The context of an expression or a statement in a function body. The context consists of the declarations of the program, the meaning of
+/// names, the live regions, and the numbers of the next local and region.
 ///
-/// Regions are numbered from the outside to the inside, so the newest local of a name tells whether the innermost block declares that
-/// name.
+/// Regions are numbered from the outermost to the innermost, so the newest local of a name decides whether the innermost block declares
+/// that name.
 #[derive(Drop)]
 pub struct Scope<'a> {
     pub(crate) alloc: Global,
@@ -38,7 +38,7 @@ pub struct Scope<'a> {
     /// The type of the function's result.
     pub(crate) result: Option<Ty>,
     pub(crate) names: RegionNames,
-    /// The names of regions that the function has declared so far, in scope or not.
+    /// The region names that the function has declared so far, in scope or not.
     pub(crate) taken: NameSet,
     pub(crate) regions: Regions,
     pub(crate) locals: Locals,
@@ -47,7 +47,7 @@ pub struct Scope<'a> {
     /// The region of the innermost block.
     pub(crate) region: usize,
     pub(crate) in_loop: bool,
-    /// How many `for` stand around.
+    /// The number of enclosing `for`s.
     pub(crate) counters: usize,
 }
 
@@ -91,7 +91,8 @@ impl<'a> Scope<'a> {
     ghost use Rattle.cyc_types.specs.TypeView.{view_ty};
     ghost use Rattle.cyc_types.specs.Closure.{is_outliving};
     ghost use Rattle.cyc_types.specs.typing.Scopes as scopes;
-    ghost use Rattle.cyc_types.specs.typing.Scopes.{is_taken, is_live, is_declared, meaning_of, in_block, with_name, in_labelled, in_body, with_local, with_counter, with_opened, with_region, with_key_opened};
+    ghost use Rattle.cyc_types.specs.typing.Scopes.{is_taken, is_live, is_declared, meaning_of, in_block, with_name, in_labelled, in_body};
+    ghost use Rattle.cyc_types.specs.typing.Scopes.{with_local, with_counter, with_opened, with_region, with_key_opened};
     ghost use Rattle.cyc_types.specs.typing.Statements.{exception_among, exception_number};
     ghost use Rattle.cyc_scope.specs.declared.stop.Stop.TheVariants.{Memory};
     ghost use Rattle.cyc_scope.specs.inside.Meanings.{view_meaning};
@@ -99,26 +100,26 @@ impl<'a> Scope<'a> {
     ghost use Rattle.cyc_scope.specs.inside.Marks.{IsInOrder, mark_of, left_to, with_next_opened};
     ghost use Rattle.cyc_scope.specs.inside.Plain.{IsPlainRoutine};
 
-    /// The allocator of all that a check makes.
+    /// Returns the allocator for all allocations of a check.
     pub fn alloc(&self) -> Global {
         self.alloc
     }
 
-    /// The structs of the program.
+    /// Returns the structs of the program.
     pub fn structs(&self) -> &StructNames
         ensures { result.now ≡ self.now.structs }
     {
         self.program.known().structs()
     }
 
-    /// The fields of the struct of this number, of which there are none if there is no such struct.
+    /// Returns the fields of the struct of this number, or none if there is no such struct.
     pub fn fields(&self, number: usize) -> &[Field]
         ensures { map view_field result.now ≡ unwrap_or (slice_get self.now.fields number) [] }
     {
         self.program.fields(number)
     }
 
-    /// The exception of this name.
+    /// Returns the exception of this name.
     pub fn exception(&self, name: usize) -> Option<Thrown>
         ensures has_int { exception_among self.now.exceptions name ≡ option_map (λ t. t.has_int) result }
         ensures number { IfSome result (λ t. t.number ≡ exception_number self.now.exceptions name) }
@@ -126,7 +127,7 @@ impl<'a> Scope<'a> {
         self.program.exception(name)
     }
 
-    /// The names of regions that are in scope.
+    /// Returns the region names in scope.
     pub fn names(&self) -> &RegionNames
         ensures { result.now ≡ self.now.names }
     {
@@ -143,35 +144,35 @@ impl<'a> Scope<'a> {
         }
     }
 
-    /// The number that the next local gets.
+    /// Returns the number of the next local.
     pub fn next_local(&self) -> usize
         ensures { result ≡ self.now.next_local }
     {
         self.next_local
     }
 
-    /// The number that the next region gets.
+    /// Returns the number of the next region.
     pub fn next_region(&self) -> usize
         ensures { result ≡ self.now.next_region }
     {
         self.next_region
     }
 
-    /// Whether a loop stands around, so that `break` and `continue` may.
+    /// Returns true inside a loop, where `break` and `continue` are allowed.
     pub fn in_loop(&self) -> bool
         ensures { result ≡ self.now.in_loop }
     {
         self.in_loop
     }
 
-    /// How many `for` stand around, which is the level of the next.
+    /// Returns the number of enclosing `for`s, which is the level of the next one.
     pub fn counters(&self) -> usize
         ensures { result ≡ self.now.counters }
     {
         self.counters
     }
 
-    /// What a name means here.
+    /// Returns the meaning of a name at this point.
     pub fn meaning(&self, name: Ident) -> Meaning<'_>
         ensures { view_meaning result ≡ meaning_of self.now (view_name name) }
     {
@@ -181,7 +182,7 @@ impl<'a> Scope<'a> {
         }
     }
 
-    /// Whether a name means a function of a plain signature here.
+    /// Returns true if a name denotes a function with a plain signature at this point.
     pub fn is_plain(&self, name: Ident) -> bool
         ensures { IsTrue result → IsPlainRoutine (meaning_of self.now (view_name name)) }
     {
@@ -191,35 +192,35 @@ impl<'a> Scope<'a> {
         }
     }
 
-    /// Whether the innermost block declares a local of this name.
+    /// Returns true if the innermost block declares a local of this name.
     pub fn is_declared(&self, name: Ident) -> bool
         ensures { result ≡ is_declared self.now (view_name name) }
     {
         self.locals.is_declared_in(self.region, name.name.number)
     }
 
-    /// Whether the function has declared a region of this name.
+    /// Returns true if the function has declared a region of this name.
     pub fn is_taken(&self, name: Ident) -> bool
         ensures { result ≡ is_taken self.now (view_name name) }
     {
         self.taken.has(name.name.number)
     }
 
-    /// Whether the region may be reached here.
+    /// Returns true if the region is live at this point.
     pub fn is_live(&self, region: Region) -> bool
         ensures { result ≡ is_live self.now region }
     {
         self.regions.is_live(region)
     }
 
-    /// Whether the first region outlives the second.
+    /// Returns true if the first region outlives the second.
     pub fn outlives(&self, a: Region, b: Region) -> bool
         ensures { result ≡ is_outliving self.now.regions a b }
     {
         self.regions.outlives(a, b)
     }
 
-    /// Inside a block.
+    /// Enters a block.
     pub fn enter_block(&mut self) -> Result<(), Stop>
         ensures entered { OnOk result (self.new ≡ in_block self.old) }
         ensures memory { IfErr result (λ e. e ≡ Memory) }
@@ -233,7 +234,7 @@ impl<'a> Scope<'a> {
         Ok(())
     }
 
-    /// Inside a block with a label.
+    /// Enters a labelled block.
     pub fn enter_labelled(&mut self, label: Ident) -> Result<(), Stop>
         ensures entered { OnOk result (self.new ≡ in_labelled (view_name label) self.old) }
         ensures memory { IfErr result (λ e. e ≡ Memory) }
@@ -242,7 +243,7 @@ impl<'a> Scope<'a> {
         self.enter_block()
     }
 
-    /// Inside the body of a loop.
+    /// Enters the body of a loop.
     pub fn enter_loop(&mut self)
         ensures { self.new ≡ in_body self.old }
     {
@@ -266,7 +267,7 @@ impl<'a> Scope<'a> {
         Ok(())
     }
 
-    /// Behind the declaration of a local that is a place.
+    /// Declares a local that may be assigned.
     pub fn declare_local(&mut self, name: Ident, of_type: Ty) -> Result<(), Stop>
         ensures declared { OnOk result (self.new ≡ with_local scopes.Ordinary (view_name name) (view_ty of_type) self.old) }
         ensures memory { IfErr result (λ e. e ≡ Memory) }
@@ -274,7 +275,7 @@ impl<'a> Scope<'a> {
         self.declare(Sort::Ordinary, name, of_type)
     }
 
-    /// Behind the declaration of the variable of a `region` item.
+    /// Declares the variable of a `region` item.
     pub fn declare_fixed(&mut self, name: Ident, of_type: Ty) -> Result<(), Stop>
         ensures declared { OnOk result (self.new ≡ with_local scopes.OfRegion (view_name name) (view_ty of_type) self.old) }
         ensures memory { IfErr result (λ e. e ≡ Memory) }
@@ -282,7 +283,7 @@ impl<'a> Scope<'a> {
         self.declare(Sort::OfRegion, name, of_type)
     }
 
-    /// Inside the element of a `for` with this variable.
+    /// Declares the variable of a `for` and enters its element.
     pub fn declare_counter(&mut self, name: Ident) -> Result<(), Stop>
         ensures declared { OnOk result (self.new ≡ with_counter (view_name name) self.old) }
         ensures memory { IfErr result (λ e. e ≡ Memory) }
@@ -300,7 +301,7 @@ impl<'a> Scope<'a> {
         Ok(())
     }
 
-    /// Where the next region has a name.
+    /// Gives the next region this name.
     pub fn name_region(&mut self, name: Ident) -> Result<(), Stop>
         ensures named { OnOk result (self.new ≡ with_name (view_name name) self.old) }
         ensures memory { IfErr result (λ e. e ≡ Memory) }
@@ -311,7 +312,7 @@ impl<'a> Scope<'a> {
         Ok(())
     }
 
-    /// Behind an item that declares and opens the next region, which has its name already.
+    /// Declares and opens the next region, which already has its name.
     pub fn open_next(&mut self, kind: Kind) -> Result<(), Stop>
         ensures opened { OnOk result (self.new ≡ with_next_opened kind self.old) }
         ensures memory { IfErr result (λ e. e ≡ Memory) }
@@ -323,7 +324,7 @@ impl<'a> Scope<'a> {
         Ok(())
     }
 
-    /// Behind an item that declares a region of this name, and opens a scope of it.
+    /// Declares a region of this name, and opens it.
     pub fn open_region(&mut self, kind: Kind, name: Ident) -> Result<(), Stop>
         ensures opened { OnOk result (self.new ≡ with_opened kind (view_name name) self.old) }
         ensures memory { IfErr result (λ e. e ≡ Memory) }
@@ -332,7 +333,7 @@ impl<'a> Scope<'a> {
         self.open_next(kind)
     }
 
-    /// Behind an item that declares a region of this name, which is not opened.
+    /// Declares a region of this name without opening it.
     pub fn declare_region(&mut self, name: Ident) -> Result<(), Stop>
         ensures declared { OnOk result (self.new ≡ with_region (view_name name) self.old) }
         ensures memory { IfErr result (λ e. e ≡ Memory) }
@@ -343,7 +344,7 @@ impl<'a> Scope<'a> {
         Ok(())
     }
 
-    /// Behind an item that opens the region of a key.
+    /// Opens the region of a key.
     pub fn open_key(&mut self, region: Region) -> Result<(), Stop>
         ensures opened { OnOk result (self.new ≡ with_key_opened region self.old) }
         ensures memory { IfErr result (λ e. e ≡ Memory) }
@@ -352,7 +353,7 @@ impl<'a> Scope<'a> {
         Ok(())
     }
 
-    /// How much is in scope here.
+    /// Returns the present size of the scope.
     pub fn mark(&self) -> Mark
         ensures mark { result ≡ mark_of self.now }
         ensures order { IsInOrder self.now }
@@ -367,7 +368,7 @@ impl<'a> Scope<'a> {
         }
     }
 
-    /// Forgets what has come into scope since the mark was made. Numbers stay used, and names of regions taken.
+    /// Removes the names that came into scope since the mark was taken. Used numbers and taken region names stay used.
     pub fn leave(&mut self, mark: Mark)
         requires { IsInOrder (left_to mark self.old) }
         ensures { self.new ≡ left_to mark self.old }

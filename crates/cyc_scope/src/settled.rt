@@ -1,4 +1,5 @@
-//! The demands of a construct, settled one after the other: of those that are broken the lowest code counts, and at one code the first.
+//! The demands of a construct, accumulated in order. Of several broken demands, the one with the lowest code is reported, and the first if
+//! several have that code.
 ghost use Rattle.std.specs.Prelude.{◌≡◌, None};
 ghost use Rattle.cyc_syntax.specs.inside.TreeView.{place_of_span};
 ghost use Rattle.cyc_types.specs.Rules.{demand, noted};
@@ -7,22 +8,22 @@ ghost use Rattle.cyc_scope.specs.inside.Code.{Ends};
 use crate::stop::Stop;
 use cyc_words::{Code, Fault, Span};
 
-/// The first of several demands that is not kept, where they are asked one after another.
+/// The fault of the demands checked so far.
 #[derive(Clone, Copy)]
 pub struct Settled {
-    /// The fault so far.
+    /// The fault of the demands checked so far, if any is broken.
     pub known: Option<Fault>,
 }
 
 impl Settled {
-    /// All demands so far are kept.
+    /// Returns the state before any demand.
     pub fn new() -> Settled
         ensures { result.known ≡ None }
     {
         Settled { known: None }
     }
 
-    /// Asks one demand more: where it is the first that is not kept, this is its fault.
+    /// Checks one more demand; if it is broken, its fault is recorded unless a fault with an equal or a lower code is known.
     pub fn demand(&mut self, code: Code, span: Span, kept: bool)
         ensures { self.new.known ≡ noted self.old.known (demand code (place_of_span span) kept) }
     {
@@ -41,7 +42,7 @@ impl Settled {
         });
     }
 
-    /// Whether all demands were kept.
+    /// Succeeds if all demands were satisfied, and otherwise returns the recorded fault.
     pub fn end(&self) -> Result<(), Stop>
         ensures { Ends result self.now.known }
     {

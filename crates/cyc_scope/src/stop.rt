@@ -1,4 +1,4 @@
-//! Why checking stops.
+//! The reasons why checking stops.
 ghost use Rattle.std.specs.Prelude.{◌≡◌};
 ghost use Rattle.cyc_syntax.specs.inside.TreeView.{place_of_span};
 ghost use Rattle.cyc_types.specs.Rules.{fault_at};
@@ -8,10 +8,10 @@ ghost use Rattle.cyc_scope.specs.inside.Code.{fault_of};
 use cyc_words::{Code, Fault, Span};
 use std::alloc::{AllocError, AllocFailed};
 
-/// Why a check goes no further.
+/// The reason why a check stops.
 #[derive(Clone, Copy, Debug, PartialEq, Eq)]
 pub enum Stop {
-    /// An allocation was refused, or more is counted than memory holds.
+    /// An allocation failed, or a count exceeded the size of memory.
     Memory,
     Refused(Fault),
 }
@@ -43,7 +43,7 @@ impl From<Stop> for Fault {
     }
 }
 
-/// The refusal of what stands at this place.
+/// Returns the rejection with this code at this place.
 pub fn refused(code: Code, span: Span) -> Stop
     ensures { result ≡ Refused (fault_at code (place_of_span span)) }
 {

@@ -1,17 +1,17 @@
--- The scope of a function's body, where the names of regions that its parameters declare are known already.
+-- The scope of a function's body, given the region names that its parameters declare.
 use Rattle.std.specs.Prelude.{suc, false, List, [], ◌∷◌, length}
 use Rattle.cyc_syntax.specs.Trees.{Named, Member}
 use Rattle.cyc_types.specs.declared.region.Region.TheVariants as regions
 use Rattle.cyc_types.specs.TypedTrees.{Signature}
 use Rattle.cyc_types.specs.typing.Scopes.{RegionName, Scope}
-use Rattle.cyc_types.specs.typing.Heads.{region_numbers}
+use Rattle.cyc_types.specs.typing.DeclarationRules.{region_numbers}
 use Rattle.cyc_types.specs.typing.Programs.{Program, parameter_locals, body_regions}
 
--- the function's own region has its name
+-- the region names with the function's own region, which has the function's name
 abbrev pub own_names : Named → List RegionName → List RegionName
 own_names x names = record { name = x.name; region = regions.Variable 0 } ∷ names
 
--- `body_scope` is this, by what the parameters declare
+-- `body_scope`, computed from the declarations of the parameters
 abbrev pub body_with : Program → Signature → Named → List RegionName → List Member → Scope
 body_with p s x names ms = record {
   structs = p.known.structs;

@@ -1,4 +1,4 @@
--- The views of what a program declares, and of locals: the same, without where types and signatures lie in memory.
+-- The views of declared entities and of locals: their data without the layout of types and signatures in memory.
 use Rattle.std.specs.Prelude.{◌≡◌, ℕ, nat_eq, if◌then◌else◌, List, [], ◌∷◌, map, reverse, get_or, Option, Some, None}
 use Rattle.std.specs.declared.vec.Vec.{Vec}
 use Rattle.std.specs.declared.alloc.Global.{Global}
@@ -18,7 +18,7 @@ use Rattle.cyc_scope.specs.declared.locals.Local.{Local}
 use Rattle.cyc_scope.specs.declared.locals.Binding.{Binding}
 use Rattle.cyc_scope.specs.inside.Tables.{newest_place, hidden_by}
 
--- ---- what a program declares
+-- ---- declared entities of a program
 
 abbrev pub view_field : Field → scopes.Field
 view_field f = record { name = f.name; of_type = view_ty f.of_type }
@@ -49,7 +49,7 @@ view_local l = record { name = l.name; number = l.number; of_type = view_ty l.of
 abbrev pub view_binding : Binding → LocalVariable
 view_binding b = view_local b.local
 
--- the locals of bindings that stand from the oldest on, the newest first
+-- the locals of these bindings (oldest first), listed newest first
 abbrev pub locals_of : List Binding → List LocalVariable
 locals_of bs = map view_binding (reverse bs)
 
@@ -61,12 +61,12 @@ abbrev pub newest : List LocalVariable → ℕ → Option LocalVariable
 newest [] x = None
 newest (v ∷ vs) x = if nat_eq v.name x then Some v else newest vs x
 
--- the table finds the newest local of each name, and each binding knows what it hides
+-- the table contains the index of the newest local of each name, and each binding stores the index that it hides
 abbrev pub Finds : List (Option ℕ) → List Binding → Type 0
 Finds table bs = ((x : ℕ) → get_or table x None ≡ newest_place (local_names (locals_of bs)) x)
     × (map (λ (b : Binding). b.hidden) (reverse bs) ≡ hidden_by (local_names (locals_of bs)))
 
--- the meaning that is found among the locals, or else this one
+-- the meaning found among the locals, or this default
 abbrev pub meaning_or : Meaning → Option Meaning → Meaning
 meaning_or m None = m
 meaning_or m (Some found) = found

@@ -1,4 +1,4 @@
--- The view of what a name means: the same, without where types and signatures lie in memory.
+-- The view of the meaning of a name: its data without the layout of types and signatures in memory.
 use Rattle.cyc_types.specs.TypeView.{view_ty}
 use Rattle.cyc_types.specs.inside.SignatureView.{view_signature}
 use Rattle.cyc_types.specs.TypedTreeView.{view_lvalue}

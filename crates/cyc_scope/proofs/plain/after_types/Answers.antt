@@ -1,6 +1,6 @@
 use Rattle.std.proofs.Common.{◌<◌, length, arith}
 use Rattle.cyc_scope.proofs.PlainLemmas.{types_from}
-use Rattle.cyc_scope.proofs.plain.behind_types.Goals as goal
+use Rattle.cyc_scope.proofs.plain.after_types.Goals as goal
 
 pub loop-of_type-preserved : goal.loop-of_type-preserved
 loop-of_type-preserved c n rest =

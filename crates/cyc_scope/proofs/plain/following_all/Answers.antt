@@ -1,6 +1,6 @@
 use Rattle.std.proofs.Common.{◌<◌, length, arith}
 use Rattle.cyc_scope.proofs.PlainLemmas.{ascend_from}
-use Rattle.cyc_scope.proofs.plain.behind_all.Goals as goal
+use Rattle.cyc_scope.proofs.plain.following_all.Goals as goal
 
 pub loop-region-preserved : goal.loop-region-preserved
 loop-region-preserved c n rest =
