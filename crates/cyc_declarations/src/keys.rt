@@ -1,0 +1,80 @@
+//! The regions that have a key among some types.
+ghost use Rattle.std.specs.Prelude.{◌≡◌, ◌||◌, map, option_map, IfOk, OnOk};
+ghost use Rattle.cyc_types.specs.declared.region.Region.{Region};
+ghost use Rattle.cyc_types.specs.TypeView.{view_ty};
+ghost use Rattle.cyc_types.specs.typing.Formation.{is_key_of};
+ghost use Rattle.cyc_types.specs.typing.DeclarationRules.{has_key, and_result};
+ghost use Rattle.cyc_declarations.specs.inside.KeyTables.{has, AreKeysOf};
+
+use cyc_types::{NameSet, Region, Ty};
+use std::alloc::{AllocError, Global};
+
+/// The regions that have a known key, with lookup in constant time.
+#[derive(Drop)]
+pub(crate) struct Keys {
+    heap: bool,
+    unique: bool,
+    /// The numbers of region variables.
+    variables: NameSet,
+}
+
+impl Keys {
+    ghost use Rattle.std.specs.Prelude.{◌≡◌, ◌||◌, IfOk, OnOk, false};
+    ghost use Rattle.cyc_types.specs.declared.region.Region.{Region};
+    ghost use Rattle.cyc_types.specs.TypeView.{view_ty};
+    ghost use Rattle.cyc_types.specs.typing.Formation.{is_key_of};
+    ghost use Rattle.cyc_declarations.specs.inside.KeyTables.{has};
+
+    fn new(alloc: Global) -> Keys
+        ensures { (r : Region) → has result r ≡ false }
+    {
+        Keys {
+            heap: false,
+            unique: false,
+            variables: NameSet::new(alloc),
+        }
+    }
+
+    /// Returns true if there is a key of this region.
+    pub(crate) fn has(&self, region: Region) -> bool
+        ensures { result ≡ has self.now region }
+    {
+        match region {
+            Region::Heap => self.heap,
+            Region::Unique => self.unique,
+            Region::Variable(number) => self.variables.has(number),
+        }
+    }
+
+    /// Adds a type, which may be a key.
+    fn add(&mut self, of_type: &Ty) -> Result<(), AllocError>
+        ensures { OnOk result ((r : Region) → has self.new r ≡ (has self.old r || is_key_of r (view_ty of_type.now))) }
+    {
+        if let Ty::Key { region } = of_type {
+            match region {
+                Region::Heap => self.heap = true,
+                Region::Unique => self.unique = true,
+                Region::Variable(number) => self.variables.add(*number)?,
+            }
+        }
+        Ok(())
+    }
+}
+
+/// Returns the keys among the types of parameters and of a result.
+pub(crate) fn keys_of(
+    alloc: Global,
+    types: &[Ty],
+    returned: &Option<Ty>,
+) -> Result<Keys, AllocError>
+    ensures { IfOk result (λ keys. (r : Region) → has keys r ≡ has_key (and_result (map view_ty types.now) (option_map view_ty returned.now)) r) }
+{
+    let mut keys = Keys::new(alloc);
+    if let Some(of_type) = returned {
+        keys.add(of_type)?;
+    }
+    for of_type in types {
+        keys.add(of_type)?;
+    }
+    Ok(keys)
+}

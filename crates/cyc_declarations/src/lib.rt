@@ -1,0 +1,18 @@
+//! The signatures and other declarations of a program: the types in them, their faults, and their results. The crate also returns the parts
+//! of a typed program besides the bodies of its functions.
+#![tactic(auto)]
+
+pub use program::{Parts, parts_of};
+pub use signatures::{members, signature_of};
+pub use tree::collect;
+
+mod declared;
+mod distinct;
+mod fields;
+mod functions;
+mod globals;
+mod keys;
+mod program;
+mod signatures;
+mod structs;
+mod tree;
