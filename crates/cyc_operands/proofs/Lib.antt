@@ -1,0 +1,2 @@
+-- tests on types
+mod TypeTests

@@ -1,0 +1,2 @@
+-- operands and new objects, as the rules see them
+pub mod Operands

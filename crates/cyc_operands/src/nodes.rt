@@ -1,0 +1,42 @@
+//! Nodes in boxes. The walk passes boxes, so its frames are small for nodes of any size.
+ghost use Rattle.std.specs.Prelude.{Ok};
+ghost use Rattle.cyc_types.specs.TypedTrees as nodes;
+ghost use Rattle.cyc_types.specs.TypedTreeView.{view_expression};
+ghost use Rattle.cyc_scope.specs.inside.Code.{Gives};
+ghost use Rattle.cyc_operands.specs.inside.Operands.{view_boxed};
+
+use cyc_scope::Stop;
+use cyc_types::typed;
+use std::alloc::Global;
+
+/// Returns a typed expression in a box of its own.
+#[inline(always)]
+pub fn boxed(alloc: Global, expression: typed::Expr) -> Result<Box<typed::Expr>, Stop>
+    ensures { Gives view_boxed result (Ok (view_expression expression)) }
+{
+    Ok(Box::new(alloc, expression)?)
+}
+
+/// Returns the node of a constant.
+#[inline(never)]
+pub fn number(alloc: Global, value: u32) -> Result<Box<typed::Expr>, Stop>
+    ensures { Gives view_boxed result (Ok (nodes.Number value)) }
+{
+    boxed(alloc, typed::Expr::Number { value })
+}
+
+/// Returns the node of `NULL`.
+#[inline(never)]
+pub fn null_pointer(alloc: Global) -> Result<Box<typed::Expr>, Stop>
+    ensures { Gives view_boxed result (Ok nodes.NullPointer) }
+{
+    boxed(alloc, typed::Expr::NullPointer)
+}
+
+/// Returns the node of `heap_region`.
+#[inline(never)]
+pub fn heap_region(alloc: Global) -> Result<Box<typed::Expr>, Stop>
+    ensures { Gives view_boxed result (Ok nodes.HeapRegion) }
+{
+    boxed(alloc, typed::Expr::HeapRegion)
+}

@@ -1,0 +1,3 @@
+-- demands
+pub mod Settling
+pub mod Handed
