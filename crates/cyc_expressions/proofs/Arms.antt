@@ -1,4 +1,4 @@
--- An expression of its parts, where the code holds copies of them.
+-- The result for an expression from the results for its parts, of which the code holds copies.
 use Rattle.std.proofs.Common.{◌≡◌, ◌≢◌, ℕ, Bool, List, [], ◌∷◌, Option, Ok, Err, refl, sym, ap, ◌∙◌}
 use Rattle.cyc_words.specs.declared.fault.Code.TheVariants as codes
 use Rattle.cyc_syntax.specs.declared.tree.Postfix.{Postfix}
@@ -19,12 +19,12 @@ use Rattle.cyc_scope.specs.inside.Code.{Stops}
 use Rattle.cyc_expressions.specs.inside.Walks.{one_operation, one_postfix, rule_rest}
 use Rattle.cyc_expressions.proofs.Chains.{further, next_further}
 
--- ---- postfixes, and what is made of the cell that they lead to
+-- ---- postfixes, and the use of the cell that they lead to
 
 module _ {A : Type 0} (next : Place → Reached → Rule A) where
-  -- behind a base, which begins at this place
-  abbrev pub behind_base : Scope → Expression → List Postfix → Checked A
-  behind_base g e ps = run (Part (rule_postfixed g (place_of e) (rule_looked g e (rule g e)) (postfixes_of ps)) (next (place_of e)))
+  -- the postfixes after a base, which begins at this place
+  abbrev pub following_base : Scope → Expression → List Postfix → Checked A
+  following_base g e ps = run (Part (rule_postfixed g (place_of e) (rule_looked g e (rule g e)) (postfixes_of ps)) (next (place_of e)))
 
   walked : (g : Scope) (e : Expression) (q : Place) (ps : List Postfix) (a : typed.Expression) → ps ≢ [] → run (rule_looked g e (rule g e)) ≡ Ok a
       → run (Part (rule_postfixed g q (gives a) (postfixes_of ps)) (next q)) ≡ run (Part (rule_postfixed g q (rule_looked g e (rule g e)) (postfixes_of ps)) (next q))
@@ -33,9 +33,9 @@ module _ {A : Type 0} (next : Place → Reached → Rule A) where
       sym (ap (λ o. and_then (and_then o (λ b. and_then (run (rule g (view_expression i))) (λ j. run (rule_further g q (indexed g q b (place_of (view_expression i)) (as_int j)) (postfixes_of us))))) (λ w. run (next q w))) h)
   walked g e q (postfix.Field f ∷ us) a never h = sym (ap (λ o. and_then (and_then o (λ b. run (rule_further g q (selected g q b (view_name f)) (postfixes_of us)))) (λ w. run (next q w))) h)
 
-  pub behind_gives : (g k : Scope) (e d : Expression) (ps us : List Postfix) (p : Place) (a : typed.Expression) → k ≡ g → d ≡ e → us ≡ ps → p ≡ place_of e → ps ≢ []
-      → run (rule_looked g d (rule g d)) ≡ Ok a → run (Part (rule_postfixed k p (gives a) (postfixes_of us)) (next p)) ≡ behind_base g e ps
-  behind_gives g k e d ps us p a same base list place never h =
+  pub after_gives : (g k : Scope) (e d : Expression) (ps us : List Postfix) (p : Place) (a : typed.Expression) → k ≡ g → d ≡ e → us ≡ ps → p ≡ place_of e → ps ≢ []
+      → run (rule_looked g d (rule g d)) ≡ Ok a → run (Part (rule_postfixed k p (gives a) (postfixes_of us)) (next p)) ≡ following_base g e ps
+  after_gives g k e d ps us p a same base list place never h =
       ap (λ (s : Scope). run (Part (rule_postfixed s p (gives a) (postfixes_of us)) (next p))) same
       ∙ ap (λ vs. run (Part (rule_postfixed g p (gives a) (postfixes_of vs)) (next p))) list
       ∙ ap (λ (q : Place). run (Part (rule_postfixed g q (gives a) (postfixes_of ps)) (next q))) place
@@ -47,12 +47,12 @@ module _ {A : Type 0} (next : Place → Reached → Rule A) where
       ap (λ o. and_then (and_then o (λ b. and_then (run (rule g (view_expression i))) (λ j. run (rule_further g q (indexed g q b (place_of (view_expression i)) (as_int j)) (postfixes_of us))))) (λ w. run (next q w))) h
   failed g e q (postfix.Field x ∷ us) f never h = ap (λ o. and_then (and_then o (λ b. run (rule_further g q (selected g q b (view_name x)) (postfixes_of us)))) (λ w. run (next q w))) h
 
-  pub behind_stops : (s : Stop) (g : Scope) (e d : Expression) (ps : List Postfix) → d ≡ e → ps ≢ [] → Stops s (run (rule_looked g d (rule g d))) → Stops s (behind_base g e ps)
-  behind_stops stops.Memory g e d ps base never h = tt
-  behind_stops (stops.Refused f) g e d ps base never h = failed g e (place_of e) ps f never (sym (ap (λ x. run (rule_looked g x (rule g x))) base) ∙ h)
+  pub after_stops : (s : Stop) (g : Scope) (e d : Expression) (ps : List Postfix) → d ≡ e → ps ≢ [] → Stops s (run (rule_looked g d (rule g d))) → Stops s (following_base g e ps)
+  after_stops stops.Memory g e d ps base never h = tt
+  after_stops (stops.Refused f) g e d ps base never h = failed g e (place_of e) ps f never (sym (ap (λ x. run (rule_looked g x (rule g x))) base) ∙ h)
 
-  pub behind_nothing : (g : Scope) (e : Expression) (ps : List Postfix) → ps ≡ [] → behind_base g e ps ≡ Err (fault_at codes.NotAPlace (place_of e))
-  behind_nothing g e ps none = ap (behind_base g e) none
+  pub after_nothing : (g : Scope) (e : Expression) (ps : List Postfix) → ps ≡ [] → following_base g e ps ≡ Err (fault_at codes.NotAPlace (place_of e))
+  after_nothing g e ps none = ap (following_base g e) none
 
 -- ---- chains
 

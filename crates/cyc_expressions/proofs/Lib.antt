@@ -1,5 +1,5 @@
--- what the crates above cite
+-- the lemmas that the crates above cite
 pub mod Loops
--- what the proofs of this crate cite
+-- the lemmas that the proofs of this crate cite
 pub mod Chains
 pub mod Arms

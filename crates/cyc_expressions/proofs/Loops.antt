@@ -1,14 +1,14 @@
--- A list that the code walks in a loop: what was made of its front, and what is made of the rest.
+-- A list that the code visits in a loop: the result for the first elements, and that for the remaining ones.
 use Rattle.std.proofs.Common.{◌≡◌, List, [], ◌∷◌, ◌++◌, Ok, Err, refl, sym, ap}
 use Rattle.cyc_types.specs.Rules.{Checked, and_then}
 
 module _ {X Y B : Type 0} (view : X → Y) (add : Y → B → B) where
-  -- items in front of a list
+  -- items before a list
   abbrev pub onto : List X → B → B
   onto [] b = b
   onto (x ∷ xs) b = add (view x) (onto xs b)
 
-  -- what was made before, and what is still made
+  -- the result so far, followed by that for the remaining items
   abbrev pub with_front : List X → Checked B → Checked B
   with_front front checked = and_then checked (λ b. Ok (onto front b))
 

@@ -1,2 +1,2 @@
--- what the functions of the walk promise each other
+-- the contracts between the functions of the walk
 pub mod Walks

@@ -1,5 +1,6 @@
-//! The walk over expressions: parts in order of evaluation, and then the form's own part (`cyc_forms`). Each operand is walked once, as
-//! a value that is used, as one that is only looked at, or as a place.
+//! The walk over expressions.
+//! The walk checks the parts of an expression in order of evaluation, and then the demands of its own form (`cyc_calls`, `cyc_typing`).
+//! Each operand is checked once: as a used value, as a peek, or as a place.
 ghost use Rattle.std.specs.Prelude.{◌≡◌, ◌≢◌, [], ◌∷◌, map, option_map, Ok, OnOk, IfErr};
 ghost use Rattle.cyc_words.specs.declared.fault.Code.TheVariants as codes;
 ghost use Rattle.cyc_syntax.specs.inside.TreeView.{place_of_span, view_name, view_initial, view_expression, expressions_of, postfixes_of, operations_of};
@@ -8,26 +9,32 @@ ghost use Rattle.cyc_types.specs.TypeView.{view_ty};
 ghost use Rattle.cyc_types.specs.Rules.{fault_at, Own, Part, gives, run};
 ghost use Rattle.cyc_types.specs.typing.Scopes.{with_counter};
 ghost use Rattle.cyc_types.specs.typing.Tests as tests;
-ghost use Rattle.cyc_types.specs.typing.Expressions.{value_wanted, rule_looked, operand, is_looking_first, pointed, loaded, reached, rule, rule_all, rule_chain, rule_place, rule_postfixed, rule_made, rule_placement};
+ghost use Rattle.cyc_types.specs.typing.Expressions.{value_wanted, rule_looked, operand, is_looking_first, pointed, loaded, reached, rule, rule_all};
+ghost use Rattle.cyc_types.specs.typing.Expressions.{rule_chain, rule_place, rule_postfixed, rule_made, rule_placement};
 ghost use Rattle.cyc_scope.specs.declared.stop.Stop.TheVariants as stops;
 ghost use Rattle.cyc_scope.specs.inside.Code.{Gives};
-ghost use Rattle.cyc_forms.specs.inside.Forms.{GivesOne, Joins, IsReached, IsPlaced, IsMade, view_given, view_boxed, view_found, value_in};
-ghost use Rattle.cyc_expressions.specs.inside.Walks.{name_in, rule_no_place, rule_by_handle, one_postfix, one_operation, rule_rest, view_chain, left_of, peeked_behind};
+ghost use Rattle.cyc_operands.specs.inside.Operands.{GivesOne, IsMade, view_given, view_boxed, view_found, value_in};
+ghost use Rattle.cyc_typing.specs.inside.Forms.{Joins, IsReached, IsPlaced};
+ghost use Rattle.cyc_expressions.specs.inside.Walks.{name_in, rule_no_place, rule_by_handle, one_postfix, one_operation, rule_rest, view_chain};
+ghost use Rattle.cyc_expressions.specs.inside.Walks.{left_of, peeked_after};
 
-use cyc_forms::{
-    Found, Given, Left, Made, Placed, Reached, addressed, array_made, as_int, as_place, as_unique,
-    assigned, binary, by_handle, called, computed, created, fields_made, freed, heap_region,
-    indexed, is_looking, join, key_freed, loaded, looked, null_pointer, number, number_of_elements,
-    on_heap, peeked_local, place_meant, plain_made, pointed, push_value, read, selected,
+use cyc_calls::{called, fields_made, push_value};
+use cyc_operands::{
+    Found, Given, Made, as_int, heap_region, is_looking, null_pointer, number, peeked_local,
     span_inside, span_of,
 };
 use cyc_scope::{Scope, Stop, refused};
 use cyc_syntax::{Expr, Ident, Initial, Operation, Postfix, PrefixOperator};
 use cyc_types::typed::UnaryOperator;
 use cyc_types::{Region, Ty, typed};
+use cyc_typing::{
+    Left, Placed, Reached, addressed, array_made, as_place, as_unique, assigned, binary, by_handle,
+    computed, created, freed, indexed, join, key_freed, loaded, looked, number_of_elements,
+    on_heap, place_meant, plain_made, pointed, read, selected,
+};
 use cyc_words::{Code, Span};
 
-/// The name that the expression is, brackets aside.
+/// Returns the name that the expression is, ignoring brackets.
 fn name_in(expression: &Expr) -> Option<Ident>
     ensures { option_map view_name result ≡ name_in (view_expression expression.now) }
 {
@@ -38,7 +45,7 @@ fn name_in(expression: &Expr) -> Option<Ident>
     }
 }
 
-/// Whether the first operand of these operations is only looked at.
+/// Returns true if these operations only peek at their first operand.
 fn is_looking_first(operations: &[Operation]) -> bool
     ensures { result ≡ is_looking_first (operations_of operations.now) }
 {
@@ -48,7 +55,7 @@ fn is_looking_first(operations: &[Operation]) -> bool
     }
 }
 
-/// Whether there is a postfix at all, behind an operand at this place.
+/// Checks that there is at least one postfix after an operand at this place.
 fn has_postfixes(postfixes: &[Postfix], span: Span) -> Result<(), Stop>
     ensures ok { OnOk result (postfixes.now ≢ []) }
     ensures stops { IfErr result (λ e. e ≡ stops.Refused (fault_at codes.NotAPlace (place_of_span span)) × (postfixes.now ≡ [])) }
@@ -66,10 +73,10 @@ struct Chain {
     of_type: Ty,
 }
 
-/// The left operand of an operation: the first one, or what the operations so far give, which is no peek.
+/// Returns the left operand of an operation: the first operand, or the result of the previous operations, which is not a peek.
 fn left_of<'a>(first: Left<'a>, of_type: &'a Option<Ty>) -> Left<'a>
     ensures span { result.span ≡ first.entry.span }
-    ensures peeked { result.peeked ≡ peeked_behind first.entry.peeked of_type.now }
+    ensures peeked { result.peeked ≡ peeked_after first.entry.peeked of_type.now }
     ensures given { view_given result.given ≡ left_of (view_given first.entry.given) of_type.now }
 {
     match of_type {
@@ -82,9 +89,10 @@ fn left_of<'a>(first: Left<'a>, of_type: &'a Option<Ty>) -> Left<'a>
     }
 }
 
-/// The type of a chain that begins at this place: that of its last operation, or of its one operand, which is a value.
+/// Returns the type of a chain that begins at this place: that of its last operation, or of its only operand.
 fn whole_type(first: Given<'_>, of_type: Option<Ty>, span: Span) -> Result<Ty, Stop>
-    ensures { Gives view_ty result (run (Own (value_wanted (left_of (view_given first.entry) of_type) (place_of_span span) ∷ []) (tests.value_of (left_of (view_given first.entry) of_type)))) }
+    ensures { Gives view_ty result (run (Own (value_wanted (left_of (view_given first.entry) of_type) (place_of_span span) ∷ [])
+        (tests.value_of (left_of (view_given first.entry) of_type)))) }
 {
     if let Some(of_type) = of_type {
         return Ok(of_type);
@@ -100,7 +108,7 @@ fn whole_type(first: Given<'_>, of_type: Option<Ty>, span: Span) -> Result<Ty, S
     }
 }
 
-/// What a pointer at the second place leads to, as a value that is named at the first.
+/// Returns the target of the pointer at the second place, as a value that is named at the first one.
 fn through(
     scope: &Scope<'_>,
     span: Span,
@@ -113,7 +121,7 @@ fn through(
     loaded(scope.alloc(), span, cell)
 }
 
-/// The same as a place.
+/// Returns the target of the pointer at the second place, as a place that is named at the first one.
 fn place_through(
     scope: &Scope<'_>,
     pointer_span: Span,
@@ -125,7 +133,7 @@ fn place_through(
     as_place(scope.alloc(), cell)
 }
 
-/// The typed tree of an expression, or the first refusal of the typing rules in it.
+/// Returns the typed tree of an expression, or its first fault by the typing rules.
 #[cycle(expression)]
 pub fn check_expression(scope: &mut Scope<'_>, expression: &Expr) -> Result<Box<typed::Expr>, Stop>
     ensures gives { Gives view_boxed result (run (rule scope.old (view_expression expression.now))) }
@@ -193,7 +201,7 @@ pub fn check_expression(scope: &mut Scope<'_>, expression: &Expr) -> Result<Box<
     }
 }
 
-/// An operand that is only looked at.
+/// Checks an operand as a peek.
 #[cycle(expression)]
 pub fn check_looked(scope: &mut Scope<'_>, expression: &Expr) -> Result<Box<typed::Expr>, Stop>
     ensures gives { Gives view_boxed result (run (rule_looked scope.old (view_expression expression.now) (rule scope.old (view_expression expression.now)))) }
@@ -205,14 +213,15 @@ pub fn check_looked(scope: &mut Scope<'_>, expression: &Expr) -> Result<Box<type
     }
 }
 
-/// An operand that is only looked at, or one whose value is used.
+/// Checks an operand as a peek or as a used value.
 #[cycle(expression)]
 fn check_operand(
     scope: &mut Scope<'_>,
     expression: &Expr,
     is_looking: bool,
 ) -> Result<Box<typed::Expr>, Stop>
-    ensures gives { Gives view_boxed result (run (operand is_looking (rule scope.old (view_expression expression.now)) (rule_looked scope.old (view_expression expression.now) (rule scope.old (view_expression expression.now))))) }
+    ensures gives { Gives view_boxed result (run (operand is_looking (rule scope.old (view_expression expression.now))
+        (rule_looked scope.old (view_expression expression.now) (rule scope.old (view_expression expression.now))))) }
     ensures same { OnOk result (scope.new ≡ scope.old) }
 {
     if is_looking {
@@ -222,7 +231,7 @@ fn check_operand(
     }
 }
 
-/// The values of a list.
+/// Checks the values of a list.
 #[cycle(expression)]
 fn check_values(scope: &mut Scope<'_>, expressions: &[Expr]) -> Result<Vec<typed::Converted>, Stop>
     ensures gives { Gives (λ v. map value_in v.items) result (run (rule_all scope.old (expressions_of expressions.now))) }
@@ -236,7 +245,7 @@ fn check_values(scope: &mut Scope<'_>, expressions: &[Expr]) -> Result<Vec<typed
     Ok(values)
 }
 
-/// The call of a name.
+/// Checks the call of a name.
 #[cycle(expression)]
 fn check_call(
     scope: &mut Scope<'_>,
@@ -294,10 +303,11 @@ fn check_prefixed(
     }
 }
 
-/// An expression as a place, which begins at this one.
+/// Checks an expression, which begins at this position, as a place.
 #[cycle(expression)]
 pub fn check_place(scope: &mut Scope<'_>, expression: &Expr, span: Span) -> Result<Box<Found>, Stop>
-    ensures gives { Gives view_found result (run (rule_place scope.old (place_of_span span) (view_expression expression.now) (rule scope.old (view_expression expression.now)))) }
+    ensures gives { Gives view_found result (run (rule_place scope.old (place_of_span span) (view_expression expression.now)
+        (rule scope.old (view_expression expression.now)))) }
     ensures same { OnOk result (scope.new ≡ scope.old) }
 {
     match expression {
@@ -340,7 +350,7 @@ pub fn check_place(scope: &mut Scope<'_>, expression: &Expr, span: Span) -> Resu
     }
 }
 
-/// What is no place is walked before it is refused.
+/// Checks the parts of an expression that is not a place, and then rejects it.
 #[cycle(expression)]
 fn check_no_place(scope: &mut Scope<'_>, expression: &Expr, span: Span) -> Result<Box<Found>, Stop>
     ensures gives { Gives view_found result (run (rule_no_place scope.old (place_of_span span) (view_expression expression.now))) }
@@ -350,7 +360,7 @@ fn check_no_place(scope: &mut Scope<'_>, expression: &Expr, span: Span) -> Resul
     Err(refused(Code::NotAPlace, span))
 }
 
-/// One postfix behind an operand that begins at this place.
+/// Checks one postfix after an operand that begins at this place.
 #[cycle(expression)]
 fn check_postfix(
     scope: &mut Scope<'_>,
@@ -370,7 +380,7 @@ fn check_postfix(
     }
 }
 
-/// The cell that postfixes lead to, behind an operand that begins at this place.
+/// Returns the cell that postfixes lead to, after an operand that begins at this place.
 #[cycle(expression)]
 fn check_postfixes(
     scope: &mut Scope<'_>,
@@ -392,7 +402,7 @@ fn check_postfixes(
     Ok(cell)
 }
 
-/// What postfixes lead to, as a value.
+/// Returns the value that postfixes lead to.
 #[cycle(expression)]
 fn check_selection(
     scope: &mut Scope<'_>,
@@ -400,14 +410,15 @@ fn check_selection(
     span: Span,
     value: Box<typed::Expr>,
 ) -> Result<Box<typed::Expr>, Stop>
-    ensures gives { Gives view_boxed result (run (Part (rule_postfixed scope.old (place_of_span span) (gives (view_boxed value)) (postfixes_of postfixes.now)) (λ w. loaded (place_of_span span) w))) }
+    ensures gives { Gives view_boxed result (run (Part (rule_postfixed scope.old (place_of_span span) (gives (view_boxed value))
+        (postfixes_of postfixes.now)) (λ w. loaded (place_of_span span) w))) }
     ensures same { OnOk result (scope.new ≡ scope.old) }
 {
     let cell = check_postfixes(scope, postfixes, span, value)?;
     loaded(scope.alloc(), span, cell)
 }
 
-/// The same as a place.
+/// Returns the target of the pointer at the second place, as a place that is named at the first one.
 #[cycle(expression)]
 fn check_cell(
     scope: &mut Scope<'_>,
@@ -415,14 +426,16 @@ fn check_cell(
     span: Span,
     value: Box<typed::Expr>,
 ) -> Result<Box<Found>, Stop>
-    ensures gives { Gives view_found result (run (Part (rule_postfixed scope.old (place_of_span span) (gives (view_boxed value)) (postfixes_of postfixes.now)) (λ w. reached w))) }
+    ensures gives { Gives view_found result (run (Part (rule_postfixed scope.old (place_of_span span) (gives (view_boxed value))
+        (postfixes_of postfixes.now)) (λ w. reached w))) }
     ensures same { OnOk result (scope.new ≡ scope.old) }
 {
     let cell = check_postfixes(scope, postfixes, span, value)?;
     as_place(scope.alloc(), cell)
 }
 
-/// One operation of a chain behind a left operand. It is put behind those so far; the type is that of its result.
+/// Checks one operation of a chain after a left operand and adds it to the previous ones. The type of the left operand becomes the type of
+/// the operation's result.
 #[cycle(expression)]
 fn check_operation(
     scope: &mut Scope<'_>,
@@ -430,7 +443,9 @@ fn check_operation(
     so_far: &mut Vec<typed::Operation>,
     left: Left<'_>,
 ) -> Result<Ty, Stop>
-    ensures gives { Joins so_far.old.items so_far.new.items result (one_operation scope.old (place_of_span left.entry.span) left.entry.peeked (view_given left.entry.given) operation.now.operator (view_expression operation.now.operand)) }
+    ensures gives { Joins so_far.old.items so_far.new.items result
+        (one_operation scope.old (place_of_span left.entry.span) left.entry.peeked (view_given left.entry.given) operation.now.operator
+        (view_expression operation.now.operand)) }
     ensures same { OnOk result (scope.new ≡ scope.old) }
 {
     let operand = check_operand(scope, &operation.operand, is_looking(operation.operator))?;
@@ -438,14 +453,15 @@ fn check_operation(
     join(scope, so_far, left, operation.operator, right, operand)
 }
 
-/// The operations of a chain behind its first operand, and the type of the whole.
+/// Returns the operations of a chain after its first operand, and the type of the whole.
 #[cycle(expression)]
 fn check_operations(
     scope: &mut Scope<'_>,
     operations: &[Operation],
     first: Left<'_>,
 ) -> Result<Chain, Stop>
-    ensures gives { Gives view_chain result (run (rule_chain scope.old (place_of_span first.entry.span) first.entry.peeked (view_given first.entry.given) (operations_of operations.now))) }
+    ensures gives { Gives view_chain result (run (rule_chain scope.old (place_of_span first.entry.span) first.entry.peeked
+        (view_given first.entry.given) (operations_of operations.now))) }
     ensures same { OnOk result (scope.new ≡ scope.old) }
 {
     let mut rest = Vec::with_capacity(scope.alloc(), operations.len())?;
@@ -461,7 +477,7 @@ fn check_operations(
     })
 }
 
-/// A first operand, which begins at this place, with the operations behind it.
+/// Checks a chain, whose first operand begins at this place.
 #[cycle(expression)]
 fn check_chain(
     scope: &mut Scope<'_>,
@@ -482,7 +498,7 @@ fn check_chain(
     binary(scope.alloc(), left, chain.operations, chain.of_type)
 }
 
-/// What a new object is made of.
+/// Returns the content of a new object.
 #[cycle(expression)]
 fn check_made(scope: &mut Scope<'_>, initial: &Initial) -> Result<Box<Made>, Stop>
     ensures gives { GivesOne IsMade result (run (rule_made scope.old (view_initial initial.now))) }
@@ -520,7 +536,7 @@ fn check_made(scope: &mut Scope<'_>, initial: &Initial) -> Result<Box<Made>, Sto
     }
 }
 
-/// The fields of a new struct.
+/// Checks the fields of a new struct.
 #[cycle(expression)]
 fn check_fields(
     scope: &mut Scope<'_>,
@@ -535,7 +551,7 @@ fn check_fields(
     fields_made(scope, name, regions, expressions, values)
 }
 
-/// The element of a `for` with this variable.
+/// Checks the element of a `for` with this variable.
 #[cycle(expression)]
 fn check_element(
     scope: &mut Scope<'_>,
@@ -552,14 +568,15 @@ fn check_element(
     Ok(value)
 }
 
-/// Where a new object is made, by what stands between the brackets of `rnew`, at this place.
+/// Returns the region of a new object, from the argument of `rnew` at this place.
 #[cycle(expression)]
 fn check_placement(
     scope: &mut Scope<'_>,
     expression: &Expr,
     span: Span,
 ) -> Result<Box<Placed>, Stop>
-    ensures gives { GivesOne IsPlaced result (run (rule_placement scope.old (place_of_span span) (view_expression expression.now) (rule scope.old (view_expression expression.now)))) }
+    ensures gives { GivesOne IsPlaced result (run (rule_placement scope.old (place_of_span span) (view_expression expression.now)
+        (rule scope.old (view_expression expression.now)))) }
     ensures same { OnOk result (scope.new ≡ scope.old) }
 {
     match expression {
@@ -584,7 +601,7 @@ fn check_placement(
     }
 }
 
-/// The same by a handle.
+/// Checks the handle at this place, and returns its region for a new object.
 #[cycle(expression)]
 fn check_by_handle(
     scope: &mut Scope<'_>,

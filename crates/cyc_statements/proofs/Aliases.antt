@@ -1,4 +1,4 @@
--- An alias by what its scope has, and behind its region.
+-- An alias by the facts of its scope, after the declaration of its region.
 use Rattle.std.proofs.Common.{◌≡◌, ℕ, [], ◌∷◌, Option, None, refl, sym, ap, subst, ◌∙◌}
 use Rattle.cyc_words.specs.declared.fault.Fault.{Fault}
 use Rattle.cyc_syntax.specs.Symbols.{Place}
@@ -13,7 +13,7 @@ use Rattle.cyc_scope.specs.declared.stop.Stop.{Stop}
 use Rattle.cyc_scope.specs.inside.Code.{Stops}
 use Rattle.cyc_statements.specs.inside.Aliases.{alias_of}
 
--- what the alias of a name is behind a scope
+-- the rule for the alias of a name in a scope
 abbrev alias_in : (s : Scope) (own : ℕ) (x : Named) → WrittenType → (y : Named) → Rule typed.Item
 alias_in s own x w y = alias_of (is_declared s x) s.structs s.names s.next_local own x w (meaning_of s y) y.place
 
@@ -25,17 +25,17 @@ same_alias g r x w (Fixed l t) p = refl
 same_alias g r x w (Counter n) p = refl
 same_alias g r x w (Routine f s) p = refl
 
-behind_region : (g : Scope) (r x : Named) (w : WrittenType) (y : Named) → settled None (new_name_demanded g r ∷ []) ≡ None
+following_region : (g : Scope) (r x : Named) (w : WrittenType) (y : Named) → settled None (new_name_demanded g r ∷ []) ≡ None
     → and_then (run (demands (type_demanded g.structs (with_name r g).names None w))) (λ u. run (alias_in (with_opened kinds.Alias r g) g.next_region x w y)) ≡ run (rule_alias g r w x y)
-behind_region g r x w y new =
+following_region g r x w y new =
     ap (λ (m : Rule typed.Item). and_then (run (demands (type_demanded g.structs (with_name r g).names None w))) (λ u. run m)) (same_alias g r x w (meaning_of g y) y.place)
     ∙ sym (ap (λ (o : Option Fault). and_then (unless o (tt {0})) (λ v. and_then (run (demands (type_demanded g.structs (with_name r g).names None w))) (λ u. run (aliased g r x w (meaning_of g y) y.place)))) new)
 
--- What stops an alias whose type is one, behind its region, stops the item.
+-- A fault of an alias with a valid type, after its region, is the fault of the item.
 pub alias_stops : (g s : Scope) (own : ℕ) (r x : Named) (w : WrittenType) (y : Named) (e : Stop) → s ≡ with_opened kinds.Alias r g → own ≡ g.next_region
     → settled None (new_name_demanded g r ∷ []) ≡ None → settled None (type_demanded s.structs s.names None w) ≡ None → Stops e (run (alias_in s own x w y)) → Stops e (run (rule_alias g r w x y))
 alias_stops g s own r x w y e opened number new known stops =
-    subst (λ z. Stops e z) (behind_region g r x w y new)
+    subst (λ z. Stops e z) (following_region g r x w y new)
     (subst (λ q. Stops e (and_then (run (demands (type_demanded g.structs (with_name r g).names None w))) (λ u. run (alias_in (with_opened kinds.Alias r g) q x w y)))) number
     (subst (λ (z : Scope). Stops e (and_then (run (demands (type_demanded z.structs z.names None w))) (λ u. run (alias_in z own x w y)))) opened
     (subst (λ (o : Option Fault). Stops e (and_then (unless o (tt {0})) (λ u. run (alias_in s own x w y)))) (sym known) stops)))

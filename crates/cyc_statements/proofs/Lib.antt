@@ -1,2 +1,2 @@
--- what the proofs of this crate cite
+-- the lemmas that the proofs of this crate cite
 pub mod Aliases

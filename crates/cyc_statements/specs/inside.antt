@@ -1,3 +1,3 @@
--- Each function says what it gives by the rules of `cyc_types`. This is how its results are seen.
+-- The contracts refer to the rules of `cyc_types`. The modules below are the views of the results of the functions.
 pub mod Nodes
 pub mod Aliases

@@ -1,8 +1,8 @@
-//! What the items of blocks declare.
+//! The declarations of the items of blocks.
 ghost use Rattle.std.specs.Prelude.{◌≡◌, [], ◌∷◌, None, OnOk, IfOk, IfErr, option_map};
 ghost use Rattle.cyc_words.specs.declared.fault.Code.TheVariants as codes;
 ghost use Rattle.cyc_syntax.specs.Trees.{Named};
-ghost use Rattle.cyc_syntax.specs.inside.TreeView.{place_of_span, view_name, view_type, view_expression};
+ghost use Rattle.cyc_syntax.specs.inside.TreeView.{place_of_span, view_name, view_type};
 ghost use Rattle.cyc_types.specs.declared.scope.Kind.TheVariants as kinds;
 ghost use Rattle.cyc_types.specs.declared.region.Region.TheVariants as regions;
 ghost use Rattle.cyc_types.specs.Types as types;
@@ -16,29 +16,29 @@ ghost use Rattle.cyc_types.specs.typing.Formation.{is_known, type_demanded};
 ghost use Rattle.cyc_types.specs.typing.Formation as formation;
 ghost use Rattle.cyc_types.specs.typing.Tests as tests;
 ghost use Rattle.cyc_types.specs.typing.Expressions.{conversion};
-ghost use Rattle.cyc_types.specs.typing.Statements.{new_demanded, new_name_demanded, left_out_of, local_type, initialised, rule_initial, rule_local, rule_lexical, rule_dynamic};
-ghost use Rattle.cyc_types.specs.typing.Statements.{number_of_region, local_number, open_demanded, opened, rule_opened, is_local, with_region_of, rule_alias, declared_type, with_caught};
+ghost use Rattle.cyc_types.specs.typing.Statements.{new_demanded, new_name_demanded, left_out_of, local_type, initialised, rule_initial};
+ghost use Rattle.cyc_types.specs.typing.Statements.{rule_lexical, rule_dynamic};
+ghost use Rattle.cyc_types.specs.typing.Statements.{number_of_region, local_number, open_demanded, opened, rule_opened, is_local, with_region_of};
+ghost use Rattle.cyc_types.specs.typing.Statements.{rule_alias, declared_type, with_caught};
 ghost use Rattle.cyc_scope.specs.declared.stop.Stop.TheVariants as stops;
 ghost use Rattle.cyc_scope.specs.inside.Code.{Gives, Ends};
-ghost use Rattle.cyc_forms.specs.inside.Forms.{view_given, view_boxed};
+ghost use Rattle.cyc_operands.specs.inside.Operands.{view_given, view_boxed};
 ghost use Rattle.cyc_statements.specs.inside.Aliases.{alias_asked, alias_of};
 ghost use Rattle.cyc_statements.specs.inside.Nodes.{view_initialised};
 
-use cyc_expressions::check_expression;
-use cyc_forms::types::{is_key, is_unique, region_of as region_of_type, same_type};
-use cyc_forms::{Given, convert, converted, span_of};
-use cyc_heads::demand_type;
-use cyc_scope::{Meaning, Scope, Settled, Stop, refused};
-use cyc_syntax::{Expr, Ident, WrittenType};
+use cyc_operands::types::{is_key, is_unique, region_of as region_of_type, same_type};
+use cyc_operands::{Given, convert, converted};
+use cyc_scope::{Meaning, Scope, Settled, Stop, demand_type, refused};
+use cyc_syntax::{Ident, WrittenType};
 use cyc_types::formation::{region_of, type_written};
 use cyc_types::typed::Lvalue;
 use cyc_types::{Kind, Region, Ty, typed};
 use cyc_words::{Code, Span};
 use std::alloc::AllocError;
 
-// ---- what is asked
+// ---- the demands
 
-/// Whether this name of a region is new in its function.
+/// Checks that this name of a region is new in its function.
 pub fn is_region_new(scope: &Scope<'_>, name: Ident) -> Result<(), Stop>
     ensures { Ends result (settled None (new_name_demanded scope.now (view_name name) ∷ [])) }
 {
@@ -47,7 +47,7 @@ pub fn is_region_new(scope: &Scope<'_>, name: Ident) -> Result<(), Stop>
     settled.end()
 }
 
-/// Whether the name of a region is new in its function, and that of a local in its block.
+/// Checks that the name of a region is new in its function, and that of a local in its block.
 fn are_new(scope: &Scope<'_>, region: Ident, local: Ident) -> Result<(), Stop>
     ensures { Ends result (settled None (new_name_demanded scope.now (view_name region) ∷ new_demanded scope.now (view_name local) ∷ [])) }
 {
@@ -57,8 +57,8 @@ fn are_new(scope: &Scope<'_>, region: Ident, local: Ident) -> Result<(), Stop>
     settled.end()
 }
 
-/// Whether a written type is one here.
-fn is_type(scope: &Scope<'_>, written: &WrittenType) -> Result<(), Stop>
+/// Checks that a written type is valid in the present scope.
+pub fn is_type(scope: &Scope<'_>, written: &WrittenType) -> Result<(), Stop>
     ensures { Ends result (settled None (type_demanded scope.now.structs scope.now.names None (view_type written.now))) }
 {
     let mut settled = Settled::new();
@@ -66,7 +66,7 @@ fn is_type(scope: &Scope<'_>, written: &WrittenType) -> Result<(), Stop>
     settled.end()
 }
 
-/// Whether the name of a local without an initial value is new.
+/// Checks that the name of a local without an initial value is new.
 fn is_local_new(scope: &Scope<'_>, name: Ident) -> Result<(), Stop>
     ensures { Ends result (settled None (new_demanded scope.now (view_name name) ∷ [])) }
 {
@@ -75,7 +75,7 @@ fn is_local_new(scope: &Scope<'_>, name: Ident) -> Result<(), Stop>
     settled.end()
 }
 
-/// Whether the name of a local is new and its initial value, which stands at this place, is converted to its type.
+/// Checks that the name of a local is new, and that its initial value, which is at this place, can be converted to its type.
 fn is_initialised(
     scope: &Scope<'_>,
     name: Ident,
@@ -83,7 +83,8 @@ fn is_initialised(
     value: Given<'_>,
     of_type: &Ty,
 ) -> Result<(), Stop>
-    ensures { Ends result (settled None (new_demanded scope.now (view_name name) ∷ conversion scope.now.regions (view_given value.entry) (view_ty of_type.now) (place_of_span span))) }
+    ensures { Ends result (settled None (new_demanded scope.now (view_name name)
+        ∷ conversion scope.now.regions (view_given value.entry) (view_ty of_type.now) (place_of_span span))) }
 {
     let mut settled = Settled::new();
     settled.demand(Code::DeclaredTwice, name.span, !scope.is_declared(name));
@@ -103,7 +104,7 @@ fn is_region_known(scope: &Scope<'_>, name: Ident) -> Result<(), Stop>
     settled.end()
 }
 
-/// Whether a region is opened by what a name at this place means, which has this type.
+/// Checks that the variable with the name at this place and this type may open a region.
 fn is_opened(
     scope: &Scope<'_>,
     region: Ident,
@@ -128,7 +129,7 @@ fn is_opened(
 
 // ---- locals
 
-/// What is left out of the type of a local with this initial value.
+/// Returns the region that the type of a local with this initial value gets if it names none.
 fn left_out_of(value: Given<'_>) -> Region
     ensures { result ≡ left_out_of (view_given value.entry) }
 {
@@ -141,22 +142,23 @@ fn left_out_of(value: Given<'_>) -> Region
     }
 }
 
-/// The type of a local, and its initial value, where there is one.
+/// The type of a local, and its initial value, if there is one.
 #[derive(Drop)]
 pub struct Initialised {
     of_type: Ty,
     value: Option<Box<typed::Expr>>,
 }
 
-/// A local whose initial value stands at this place.
-fn initialise(
+/// Returns a local whose initial value is at this place.
+pub fn initialise(
     scope: &Scope<'_>,
     written: &WrittenType,
     name: Ident,
     span: Span,
     value: Box<typed::Expr>,
 ) -> Result<Initialised, Stop>
-    ensures { Gives view_initialised result (run (initialised scope.now (view_name name) (place_of_span span) (view_boxed value) (local_type scope.now (type_of (view_boxed value)) (view_type written.now)))) }
+    ensures { Gives view_initialised result (run (initialised scope.now (view_name name) (place_of_span span) (view_boxed value)
+        (local_type scope.now (type_of (view_boxed value)) (view_type written.now)))) }
 {
     let left_out = left_out_of(Given::by(&value));
     let of_type = type_written(
@@ -173,8 +175,12 @@ fn initialise(
     })
 }
 
-/// A local without an initial value.
-fn uninitialised(scope: &Scope<'_>, written: &WrittenType, name: Ident) -> Result<Initialised, Stop>
+/// Returns a local without an initial value.
+pub fn uninitialised(
+    scope: &Scope<'_>,
+    written: &WrittenType,
+    name: Ident,
+) -> Result<Initialised, Stop>
     ensures { Gives view_initialised result (run (rule_initial scope.now (view_type written.now) (view_name name) None)) }
 {
     is_local_new(scope, name)?;
@@ -191,25 +197,7 @@ fn uninitialised(scope: &Scope<'_>, written: &WrittenType, name: Ident) -> Resul
     })
 }
 
-fn check_initial(
-    scope: &mut Scope<'_>,
-    written: &WrittenType,
-    name: Ident,
-    value: &Option<Expr>,
-) -> Result<Initialised, Stop>
-    ensures gives { Gives view_initialised result (run (rule_initial scope.old (view_type written.now) (view_name name) (option_map view_expression value.now))) }
-    ensures same { OnOk result (scope.new ≡ scope.old) }
-{
-    match value {
-        None => uninitialised(scope, written, name),
-        Some(expression) => {
-            let node = check_expression(scope, expression)?;
-            initialise(scope, written, name, span_of(expression), node)
-        }
-    }
-}
-
-/// The declaration of the local of this number.
+/// Returns the declaration of the local with this number.
 fn declaration(span: Span, number: usize, local: Initialised) -> typed::Item
     ensures { typed_view.view_item result ≡ nodes.Declare number (view_initialised local).0 (view_initialised local).1 }
 {
@@ -226,24 +214,22 @@ fn declaration(span: Span, number: usize, local: Initialised) -> typed::Item
     }
 }
 
-/// The typed item of a local, which is in scope behind it.
+/// Returns the typed item of a local, which is in scope after it.
 pub fn declare_local(
     scope: &mut Scope<'_>,
-    written: &WrittenType,
     name: Ident,
-    value: &Option<Expr>,
+    local: Initialised,
 ) -> Result<typed::Item, Stop>
-    ensures gives { Gives typed_view.view_item result (run (rule_local scope.old (view_type written.now) (view_name name) (option_map view_expression value.now))) }
-    ensures behind { IfOk result (λ j. scope.new ≡ with_local Ordinary (view_name name) (declared_type (typed_view.view_item j)) scope.old) }
+    ensures item { IfOk result (λ j. typed_view.view_item j ≡ nodes.Declare scope.old.next_local (view_initialised local).0 (view_initialised local).1) }
+    ensures following { IfOk result (λ j. scope.new ≡ with_local Ordinary (view_name name) (declared_type (typed_view.view_item j)) scope.old) }
+    ensures memory { IfErr result (λ e. e ≡ stops.Memory) }
 {
-    is_type(scope, written)?;
-    let local = check_initial(scope, written, name, value)?;
     let number = scope.next_local();
     scope.declare_local(name, local.of_type.share()?)?;
     Ok(declaration(name.span, number, local))
 }
 
-/// The local that gets the int of an exception, if one does.
+/// Declares the local that gets the int of an exception, if there is one.
 pub fn declare_caught(scope: &mut Scope<'_>, variable: Option<Ident>) -> Result<Option<usize>, Stop>
     ensures number { IfOk result (λ n. n ≡ option_map (λ (y : Named). scope.old.next_local) (option_map view_name variable)) }
     ensures caught { OnOk result (scope.new ≡ with_caught (option_map view_name variable) scope.old) }
@@ -259,14 +245,15 @@ pub fn declare_caught(scope: &mut Scope<'_>, variable: Option<Ident>) -> Result<
 
 // ---- regions
 
-/// A lexical region, and its handle.
+/// Opens a lexical region and declares its handle.
 pub fn open_lexical(
     scope: &mut Scope<'_>,
     region: Ident,
     handle: Ident,
 ) -> Result<typed::Item, Stop>
     ensures gives { Gives typed_view.view_item result (run (rule_lexical scope.old (view_name region) (view_name handle))) }
-    ensures behind { OnOk result (scope.new ≡ with_local OfRegion (view_name handle) (types.Handle (regions.Variable scope.old.next_region)) (with_opened kinds.Lexical (view_name region) scope.old)) }
+    ensures following { OnOk result (scope.new ≡ with_local OfRegion (view_name handle) (types.Handle (regions.Variable scope.old.next_region))
+        (with_opened kinds.Lexical (view_name region) scope.old)) }
 {
     are_new(scope, region, handle)?;
     let own = scope.next_region();
@@ -283,14 +270,15 @@ pub fn open_lexical(
     })
 }
 
-/// A dynamic region, and its key.
+/// Creates a dynamic region and declares its key.
 pub fn declare_dynamic(
     scope: &mut Scope<'_>,
     region: Ident,
     key: Ident,
 ) -> Result<typed::Item, Stop>
     ensures gives { Gives typed_view.view_item result (run (rule_dynamic scope.old (view_name region) (view_name key))) }
-    ensures behind { OnOk result (scope.new ≡ with_local Ordinary (view_name key) (types.Key (regions.Variable scope.old.next_region)) (with_region (view_name region) scope.old)) }
+    ensures following { OnOk result (scope.new ≡ with_local Ordinary (view_name key) (types.Key (regions.Variable scope.old.next_region))
+        (with_region (view_name region) scope.old)) }
 {
     are_new(scope, region, key)?;
     let own = scope.next_region();
@@ -325,9 +313,10 @@ fn local_number(variable: Lvalue) -> usize
     }
 }
 
-/// The region that is opened by what the name of a key means.
+/// Returns the item that opens the region of the key with this name.
 fn opened(scope: &Scope<'_>, region: Ident, handle: Ident, key: Ident) -> Result<typed::Item, Stop>
-    ensures { Gives typed_view.view_item result (run (opened scope.now (view_name region) (view_name handle) (meaning_of scope.now (view_name key)) (place_of_span key.span))) }
+    ensures { Gives typed_view.view_item result (run (opened scope.now (view_name region) (view_name handle) (meaning_of scope.now (view_name key))
+        (place_of_span key.span))) }
 {
     let number = scope.next_local();
     match scope.meaning(key) {
@@ -367,7 +356,7 @@ fn opened(scope: &Scope<'_>, region: Ident, handle: Ident, key: Ident) -> Result
     }
 }
 
-/// The typed item that opens the dynamic region of a key, whose handle is in scope behind it.
+/// Returns the typed item that opens the dynamic region of a key, whose handle is in scope after it.
 pub fn open_dynamic(
     scope: &mut Scope<'_>,
     region: Ident,
@@ -375,7 +364,9 @@ pub fn open_dynamic(
     key: Ident,
 ) -> Result<typed::Item, Stop>
     ensures gives { Gives typed_view.view_item result (run (rule_opened scope.old (view_name region) (view_name handle) (view_name key))) }
-    ensures behind { OnOk result (scope.new ≡ with_local OfRegion (view_name handle) (types.Handle (formation.region_of scope.old.names (view_name region))) (with_key_opened (formation.region_of scope.old.names (view_name region)) scope.old)) }
+    ensures following { OnOk result (scope.new ≡ with_local OfRegion (view_name handle)
+        (types.Handle (formation.region_of scope.old.names (view_name region)))
+        (with_key_opened (formation.region_of scope.old.names (view_name region)) scope.old)) }
 {
     is_region_known(scope, region)?;
     let item = opened(scope, region, handle, key)?;
@@ -396,7 +387,7 @@ fn is_local(variable: Lvalue) -> bool
     }
 }
 
-/// Whether this is the type of the alias of a unique pointer, whose own region is this one.
+/// Returns true if this is the type of the alias of a unique pointer, with this region as the region of the alias.
 fn is_alias_type(written: &Ty, of_type: &Ty, own: Region) -> bool
     ensures { result ≡ tests.ty_eq (view_ty written.now) (with_region_of own (view_ty of_type.now)) }
 {
@@ -413,7 +404,7 @@ fn is_alias_type(written: &Ty, of_type: &Ty, own: Region) -> bool
     }
 }
 
-/// Whether a local may share what a name at this place means, by the type that is written for it. Its region has this number.
+/// Checks that a local with this written type may share the variable with the name at this place. The region of the local has this number.
 fn is_aliased(
     scope: &Scope<'_>,
     own: usize,
@@ -422,7 +413,8 @@ fn is_aliased(
     is_shared: bool,
     source: (Span, &Ty),
 ) -> Result<(), Stop>
-    ensures { Ends result (settled None (alias_asked (is_declared scope.now (view_name name)) own (view_name name) (place_of_span written.entry.0) (view_ty written.entry.1.now) is_shared (view_ty source.entry.1.now) (place_of_span source.entry.0))) }
+    ensures { Ends result (settled None (alias_asked (is_declared scope.now (view_name name)) own (view_name name) (place_of_span written.entry.0)
+        (view_ty written.entry.1.now) is_shared (view_ty source.entry.1.now) (place_of_span source.entry.0))) }
 {
     let has_unique = is_unique(source.1);
     let is_its_type = is_alias_type(written.1, source.1, Region::Variable(own));
@@ -434,9 +426,10 @@ fn is_aliased(
     settled.end()
 }
 
-/// The type that is written for an alias of this one: what is left out is the other's own region.
+/// Returns the written type of an alias of this type; an omitted region is the region of the alias.
 fn alias_type(scope: &Scope<'_>, written: &WrittenType, of_type: &Ty) -> Result<Ty, AllocError>
-    ensures { IfOk result (λ t. view_ty t ≡ formation.type_written scope.now.structs scope.now.names (tests.region_of (view_ty of_type.now)) (view_type written.now)) }
+    ensures { IfOk result (λ t. view_ty t ≡ formation.type_written scope.now.structs scope.now.names (tests.region_of (view_ty of_type.now))
+        (view_type written.now)) }
 {
     type_written(
         scope.alloc(),
@@ -447,7 +440,7 @@ fn alias_type(scope: &Scope<'_>, written: &WrittenType, of_type: &Ty) -> Result<
     )
 }
 
-/// The alias of what a name means, where its region is in scope already and has this number.
+/// Returns the alias of the variable with this name, whose region is already in scope and has this number.
 fn aliased(
     scope: &Scope<'_>,
     own: usize,
@@ -455,7 +448,8 @@ fn aliased(
     written: &WrittenType,
     source: Ident,
 ) -> Result<typed::Item, Stop>
-    ensures { Gives typed_view.view_item result (run (alias_of (is_declared scope.now (view_name name)) scope.now.structs scope.now.names scope.now.next_local own (view_name name) (view_type written.now) (meaning_of scope.now (view_name source)) (place_of_span source.span))) }
+    ensures { Gives typed_view.view_item result (run (alias_of (is_declared scope.now (view_name name)) scope.now.structs scope.now.names
+        scope.now.next_local own (view_name name) (view_type written.now) (meaning_of scope.now (view_name source)) (place_of_span source.span))) }
 {
     match scope.meaning(source) {
         Meaning::Unknown => Err(refused(Code::UnknownName, source.span)),
@@ -528,7 +522,7 @@ fn alias_item(
     }
 }
 
-/// The type of the local that an item declares.
+/// Returns the type of the local that an item declares.
 fn declared_type(item: &typed::Item) -> Result<Ty, AllocError>
     ensures { IfOk result (λ t. view_ty t ≡ declared_type (typed_view.view_item item.now)) }
 {
@@ -538,7 +532,7 @@ fn declared_type(item: &typed::Item) -> Result<Ty, AllocError>
     }
 }
 
-/// The same of a local that shares the unique object of another.
+/// Declares a local that shares the unique object of another local.
 pub fn declare_alias(
     scope: &mut Scope<'_>,
     region: Ident,
@@ -546,8 +540,10 @@ pub fn declare_alias(
     name: Ident,
     source: Ident,
 ) -> Result<typed::Item, Stop>
-    ensures gives { Gives typed_view.view_item result (run (rule_alias scope.old (view_name region) (view_type written.now) (view_name name) (view_name source))) }
-    ensures behind { IfOk result (λ j. scope.new ≡ with_local Ordinary (view_name name) (declared_type (typed_view.view_item j)) (with_opened kinds.Alias (view_name region) scope.old)) }
+    ensures gives { Gives typed_view.view_item result (run
+        (rule_alias scope.old (view_name region) (view_type written.now) (view_name name) (view_name source))) }
+    ensures following { IfOk result (λ j. scope.new ≡ with_local Ordinary (view_name name) (declared_type (typed_view.view_item j))
+        (with_opened kinds.Alias (view_name region) scope.old)) }
 {
     is_region_new(scope, region)?;
     let own = scope.next_region();

@@ -1,6 +1,6 @@
-//! What statements and items of blocks ask of their own, and what they declare.
+//! The demands of statements and items of blocks themselves, and their declarations.
 //!
-//! Each function settles one form: its demands, what it adds to the scope, and its typed node. The walk that calls them is `cyc_check`.
+//! Each function settles one form: its demands, its additions to the scope, and its typed node. The walk that calls them is in `cyc_check`.
 #![tactic(auto)]
 
 pub mod forms;

@@ -1,11 +1,11 @@
-//! The nodes of typed statements. What makes or moves a node is a function of its own beside the walk, so that the walk's frames are
-//! small however large a node is.
+//! The nodes of typed statements. Functions outside the walk create and move the nodes, so the frames of the walk are small for nodes of
+//! any size.
 ghost use Rattle.std.specs.Prelude.{◌≡◌, Ok, option_map};
 ghost use Rattle.cyc_syntax.specs.inside.TreeView.{place_of_span};
 ghost use Rattle.cyc_types.specs.TypedTrees as nodes;
 ghost use Rattle.cyc_types.specs.TypedTreeView as typed_view;
 ghost use Rattle.cyc_scope.specs.inside.Code.{Gives};
-ghost use Rattle.cyc_forms.specs.inside.Forms.{view_boxed};
+ghost use Rattle.cyc_operands.specs.inside.Operands.{view_boxed};
 ghost use Rattle.cyc_statements.specs.inside.Nodes.{view_boxed_statement};
 
 use cyc_scope::Stop;
@@ -14,7 +14,7 @@ use cyc_types::typed::Converted;
 use cyc_words::Span;
 use std::alloc::Global;
 
-/// The node in a box.
+/// Returns the node in a box.
 #[inline(never)]
 pub fn boxed(alloc: Global, statement: typed::Stmt) -> Result<Box<typed::Stmt>, Stop>
     ensures { Gives view_boxed_statement result (Ok (typed_view.view_statement statement)) }
@@ -22,7 +22,7 @@ pub fn boxed(alloc: Global, statement: typed::Stmt) -> Result<Box<typed::Stmt>, 
     Ok(Box::new(alloc, statement)?)
 }
 
-/// The node of a statement that does nothing.
+/// Returns the node of a statement that does nothing.
 #[inline(never)]
 pub fn empty(alloc: Global) -> Result<Box<typed::Stmt>, Stop>
     ensures { Gives view_boxed_statement result (Ok nodes.Empty) }
@@ -30,7 +30,7 @@ pub fn empty(alloc: Global) -> Result<Box<typed::Stmt>, Stop>
     boxed(alloc, typed::Stmt::Empty)
 }
 
-/// The node of an expression as a statement.
+/// Returns the node of an expression as a statement.
 #[inline(never)]
 pub fn evaluation(
     alloc: Global,
@@ -43,7 +43,7 @@ pub fn evaluation(
     boxed(alloc, typed::Stmt::Evaluate { span, value })
 }
 
-/// The node of a block, with the number of its region.
+/// Returns the node of a block, with the number of its region.
 #[inline(never)]
 pub fn block_of(
     alloc: Global,
@@ -55,7 +55,7 @@ pub fn block_of(
     boxed(alloc, typed::Stmt::Block { region, items })
 }
 
-/// The node of an `if`.
+/// Returns the node of an `if`.
 #[inline(never)]
 pub fn choice(
     alloc: Global,
@@ -78,7 +78,7 @@ pub fn choice(
     )
 }
 
-/// The node of a loop.
+/// Returns the node of a loop.
 #[inline(never)]
 pub fn repetition(
     alloc: Global,
@@ -99,7 +99,7 @@ pub fn repetition(
     )
 }
 
-/// The node of a `return`.
+/// Returns the node of a `return`.
 #[inline(never)]
 pub fn return_of(
     alloc: Global,
@@ -111,7 +111,7 @@ pub fn return_of(
     boxed(alloc, typed::Stmt::Return { span, value })
 }
 
-/// The node of a `throw`.
+/// Returns the node of a `throw`.
 #[inline(never)]
 pub fn throw_of(
     alloc: Global,
@@ -128,7 +128,7 @@ pub fn throw_of(
     boxed(alloc, typed::Stmt::Throw { span, tag, value })
 }
 
-/// The node of a `try` with its clauses.
+/// Returns the node of a `try` with its clauses.
 #[inline(never)]
 pub fn try_of(
     alloc: Global,
@@ -137,7 +137,8 @@ pub fn try_of(
     clauses: Vec<typed::Clause>,
     default: Option<typed::Body>,
 ) -> Result<Box<typed::Stmt>, Stop>
-    ensures { Gives view_boxed_statement result (Ok (nodes.Try (view_boxed_statement body) (typed_view.clauses_of clauses.items (typed_view.default_of default)))) }
+    ensures { Gives view_boxed_statement result (Ok (nodes.Try (view_boxed_statement body)
+        (typed_view.clauses_of clauses.items (typed_view.default_of default)))) }
 {
     boxed(
         alloc,
@@ -150,7 +151,7 @@ pub fn try_of(
     )
 }
 
-/// The item of a statement in a block.
+/// Returns the item of a statement in a block.
 pub fn execution(statement: Box<typed::Stmt>) -> typed::Item
     ensures { typed_view.view_item result ≡ nodes.Execute (view_boxed_statement statement) }
 {

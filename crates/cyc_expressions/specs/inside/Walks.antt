@@ -1,4 +1,4 @@
--- What the functions of the walk promise each other: parts of rules.
+-- The contracts between the functions of the walk: parts of rules.
 use Rattle.std.specs.Prelude.{ℕ, Option, Some, None, Ok}
 use Rattle.cyc_words.specs.declared.fault.Code.TheVariants as codes
 use Rattle.cyc_syntax.specs.declared.tree.BinaryOperator.{BinaryOperator}
@@ -18,41 +18,41 @@ use Rattle.cyc_types.specs.typing.Scopes.{Scope}
 use Rattle.cyc_types.specs.typing.Expressions.{as_int, rule_looked, is_looking, operand, peeked_local, Joined, joined, Found, Reached, Placed, by_handle, indexed, selected, rule, rule_chain}
 use Rattle.cyc_expressions.specs.declared.walk.Chain.{Chain}
 
--- brackets aside, the expression is this name
+-- the name that the expression is, ignoring brackets
 abbrev pub name_in : Expression → Option Named
 name_in (Variable x) = Some x
 name_in (Bracketed p e) = name_in e
 name_in e = None
 
--- what is no place, in an expression that begins at this one
+-- the rule for an expression that begins at this position and is not a place
 abbrev pub rule_no_place : Scope → Place → Expression → Rule Found
 rule_no_place g p e = Part (rule g e) (λ a. Refused (fault_at codes.NotAPlace p))
 
--- where a new object is made by a handle, at this place
+-- the rule for the handle of a new object, at this place
 abbrev pub rule_by_handle : Scope → Place → Expression → Rule Placed
 rule_by_handle g p e = Part (rule g e) (λ a. gives (by_handle g p a))
 
--- one postfix behind an operand that begins at this place
+-- one postfix after an operand that begins at this place
 abbrev pub one_postfix : Scope → Place → typed.Expression → Postfix → Checked Reached
 one_postfix g p a (postfix.Index i) = and_then (run (rule g (view_expression i))) (λ b. Ok (indexed g p a (place_of (view_expression i)) (as_int b)))
 one_postfix g p a (postfix.Field f) = Ok (selected g p a (view_name f))
 
--- one operation of a chain that begins at this place, behind a left operand of this type, which may be a peek of a local
+-- one operation of a chain that begins at this place, after a left operand of this type, which may peek at a local
 abbrev pub one_operation : Scope → Place → Option ℕ → ValueType → BinaryOperator → Expression → Checked Joined
 one_operation g p k left o e = run (Part (operand (is_looking o) (rule g e) (rule_looked g e (rule g e))) (λ a. joined g p k left o (place_of e) (as_int a)))
 
--- the type of the left operand of an operation: of the first one, or what the operations so far give
+-- the type of the left operand of an operation: of the first operand, or of the result of the previous operations
 abbrev pub left_of : ValueType → Option TyCode → ValueType
 left_of first None = first
 left_of first (Some t) = Value (view_ty t)
 
-abbrev pub peeked_behind : Option ℕ → Option TyCode → Option ℕ
-peeked_behind k None = k
-peeked_behind k (Some t) = None
+abbrev pub peeked_after : Option ℕ → Option TyCode → Option ℕ
+peeked_after k None = k
+peeked_after k (Some t) = None
 
 abbrev pub view_chain : Chain → typed.Operations × Ty
 view_chain c = (view.operations_of c.operations.items, view_ty c.of_type)
 
--- what is behind a first operand, which begins at this place
+-- the rest of a chain after its first operand, which begins at this place
 abbrev pub rule_rest : Scope → Place → typed.Expression → Operations → Rule typed.Expression
 rule_rest g p a os = Part (rule_chain g p (peeked_local (as_int a)) (type_of (as_int a)) os) (λ bs. gives (typed.Binary (as_int a) bs.0 bs.1))

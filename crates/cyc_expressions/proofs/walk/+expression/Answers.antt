@@ -10,10 +10,11 @@ use Rattle.cyc_types.specs.Rules.{fault_at, and_then, settled, gives, run}
 use Rattle.cyc_types.specs.typing.Tests.{value_of}
 use Rattle.cyc_types.specs.typing.Expressions.{value_wanted, is_looking_first, loaded, reached, on_heap, created, rule, rule_place, rule_postfixed, rule_made, rule_placement}
 use Rattle.cyc_scope.specs.inside.Code.{Gives, Stops}
-use Rattle.cyc_forms.specs.inside.Forms.{GivesOne, IsReached, IsPlaced, IsMade, view_given, view_boxed, view_found, value_in}
-use Rattle.cyc_expressions.specs.inside.Walks.{one_postfix, left_of, peeked_behind}
+use Rattle.cyc_operands.specs.inside.Operands.{GivesOne, IsMade, view_given, view_boxed, view_found, value_in}
+use Rattle.cyc_typing.specs.inside.Forms.{IsReached, IsPlaced}
+use Rattle.cyc_expressions.specs.inside.Walks.{one_postfix, left_of, peeked_after}
 use Rattle.cyc_expressions.proofs.Chains.{looked_named, looked_unnamed, values_go_on, chain_goes_on, chain_ends, chain_whole, one_of}
-use Rattle.cyc_expressions.proofs.Arms.{behind_gives, behind_stops, behind_nothing, chain_gives, chain_fails, operation_at, region_new_gives, further_starts, further_goes_on, load_stops}
+use Rattle.cyc_expressions.proofs.Arms.{after_gives, after_stops, after_nothing, chain_gives, chain_fails, operation_at, region_new_gives, further_starts, further_goes_on, load_stops}
 use Rattle.cyc_expressions.proofs.walk.+expression.Goals as goal
 
 -- ---- forms with lists
@@ -57,7 +58,7 @@ check_expression-returns-in_err-has_postfixes-in-Chained-clause-gives t c =
     rw (p.1, p.2)
     (subst (λ x. Stops e (run (rule c.args.scope.now x))) (sym (ap view_expression c.in-Chained.is ∙ view_chained c.in-Chained.base c.in-Chained.postfixes))
     (rw why.0
-    (behind_nothing loaded c.args.scope.now (view_expression c.in-Chained.base.value) c.in-Chained.postfixes.items (sym c.deref-in-Chained-2.ensures.value ∙ why.1)
+    (after_nothing loaded c.args.scope.now (view_expression c.in-Chained.base.value) c.in-Chained.postfixes.items (sym c.deref-in-Chained-2.ensures.value ∙ why.1)
     ∙ ap (λ q. Err (fault_at codes.NotAPlace q)) (sym (c.span_of-span.ensures ∙ ap (λ x. place_of (view_expression x)) c.deref-in-Chained.ensures)))))
 
 pub check_expression-returns-in_err-value-in-Chained-clause-gives : goal.check_expression-returns-in_err-value-in-Chained-clause-gives
@@ -66,14 +67,14 @@ check_expression-returns-in_err-value-in-Chained-clause-gives t c =
     let p = err_from_is_err_and (c.from_residual-in_err-value-in-Chained).result (c.from_residual-in_err-value-in-Chained).ensures.1 in
     rw (p.1, p.2)
     (subst (λ x. Stops e (run (rule c.args.scope.now x))) (sym (ap view_expression c.in-Chained.is ∙ view_chained c.in-Chained.base c.in-Chained.postfixes))
-    (behind_stops loaded e c.args.scope.now (view_expression c.in-Chained.base.value) (view_expression c.deref-in-Chained-3.result.now) c.in-Chained.postfixes.items (ap view_expression c.deref-in-Chained-3.ensures)
+    (after_stops loaded e c.args.scope.now (view_expression c.in-Chained.base.value) (view_expression c.deref-in-Chained-3.result.now) c.in-Chained.postfixes.items (ap view_expression c.deref-in-Chained-3.ensures)
     (subst (λ ps. ps ≢ []) c.deref-in-Chained-2.ensures.value c.in_ok-has_postfixes-in-Chained.ensures.ok) c.in_err-value-in-Chained.ensures.gives))
 
 pub check_expression-returns-in_ok-value-in-Chained-clause-gives : goal.check_expression-returns-in_ok-value-in-Chained-clause-gives
 check_expression-returns-in_ok-value-in-Chained-clause-gives t c =
     subst (λ x. Gives view_boxed c.check_selection.result (run (rule c.args.scope.now x))) (sym (ap view_expression c.in-Chained.is ∙ view_chained c.in-Chained.base c.in-Chained.postfixes))
     (subst (λ o. Gives view_boxed c.check_selection.result o)
-    (behind_gives loaded c.args.scope.now c.check_looked-in-Chained.new.scope (view_expression c.in-Chained.base.value) (view_expression c.deref-in-Chained-3.result.now) c.in-Chained.postfixes.items c.deref-in-Chained-4.result.now (place_of_span c.span_of-span.result) (view_boxed c.in_ok-value-in-Chained.value)
+    (after_gives loaded c.args.scope.now c.check_looked-in-Chained.new.scope (view_expression c.in-Chained.base.value) (view_expression c.deref-in-Chained-3.result.now) c.in-Chained.postfixes.items c.deref-in-Chained-4.result.now (place_of_span c.span_of-span.result) (view_boxed c.in_ok-value-in-Chained.value)
     c.in_ok-value-in-Chained.ensures.same (ap view_expression c.deref-in-Chained-3.ensures) c.deref-in-Chained-4.ensures.value (c.span_of-span.ensures ∙ ap (λ x. place_of (view_expression x)) c.deref-in-Chained.ensures)
     (subst (λ ps. ps ≢ []) c.deref-in-Chained-2.ensures.value c.in_ok-has_postfixes-in-Chained.ensures.ok) c.in_ok-value-in-Chained.ensures.gives)
     c.check_selection.ensures.gives)
@@ -86,7 +87,7 @@ check_place-returns-in_err-has_postfixes-in-Chained-clause-gives t c =
     rw (p.1, p.2)
     (subst (λ x. Stops e (run (rule_place c.args.scope.now (place_of_span c.args.span) x (rule c.args.scope.now x)))) (sym (ap view_expression c.in-Chained.is ∙ view_chained c.in-Chained.base c.in-Chained.postfixes))
     (rw why.0
-    (behind_nothing (λ q. reached) c.args.scope.now (view_expression c.in-Chained.base.value) c.in-Chained.postfixes.items (sym c.deref-in-Chained-2.ensures.value ∙ why.1)
+    (after_nothing (λ q. reached) c.args.scope.now (view_expression c.in-Chained.base.value) c.in-Chained.postfixes.items (sym c.deref-in-Chained-2.ensures.value ∙ why.1)
     ∙ ap (λ q. Err (fault_at codes.NotAPlace q)) (sym (c.span_of-start.ensures ∙ ap (λ x. place_of (view_expression x)) c.deref-in-Chained.ensures)))))
 
 pub check_place-returns-in_err-value-in-Chained-clause-gives : goal.check_place-returns-in_err-value-in-Chained-clause-gives
@@ -95,14 +96,14 @@ check_place-returns-in_err-value-in-Chained-clause-gives t c =
     let p = err_from_is_err_and (c.from_residual-in_err-value-in-Chained).result (c.from_residual-in_err-value-in-Chained).ensures.1 in
     rw (p.1, p.2)
     (subst (λ x. Stops e (run (rule_place c.args.scope.now (place_of_span c.args.span) x (rule c.args.scope.now x)))) (sym (ap view_expression c.in-Chained.is ∙ view_chained c.in-Chained.base c.in-Chained.postfixes))
-    (behind_stops (λ q. reached) e c.args.scope.now (view_expression c.in-Chained.base.value) (view_expression c.deref-in-Chained-3.result.now) c.in-Chained.postfixes.items (ap view_expression c.deref-in-Chained-3.ensures)
+    (after_stops (λ q. reached) e c.args.scope.now (view_expression c.in-Chained.base.value) (view_expression c.deref-in-Chained-3.result.now) c.in-Chained.postfixes.items (ap view_expression c.deref-in-Chained-3.ensures)
     (subst (λ ps. ps ≢ []) c.deref-in-Chained-2.ensures.value c.in_ok-has_postfixes-in-Chained.ensures.ok) c.in_err-value-in-Chained.ensures.gives))
 
 pub check_place-returns-in_ok-value-in-Chained-clause-gives : goal.check_place-returns-in_ok-value-in-Chained-clause-gives
 check_place-returns-in_ok-value-in-Chained-clause-gives t c =
     subst (λ x. Gives view_found c.check_cell.result (run (rule_place c.args.scope.now (place_of_span c.args.span) x (rule c.args.scope.now x)))) (sym (ap view_expression c.in-Chained.is ∙ view_chained c.in-Chained.base c.in-Chained.postfixes))
     (subst (λ o. Gives view_found c.check_cell.result o)
-    (behind_gives (λ q. reached) c.args.scope.now c.check_looked-in-Chained.new.scope (view_expression c.in-Chained.base.value) (view_expression c.deref-in-Chained-3.result.now) c.in-Chained.postfixes.items c.deref-in-Chained-4.result.now (place_of_span c.span_of-start.result) (view_boxed c.in_ok-value-in-Chained.value)
+    (after_gives (λ q. reached) c.args.scope.now c.check_looked-in-Chained.new.scope (view_expression c.in-Chained.base.value) (view_expression c.deref-in-Chained-3.result.now) c.in-Chained.postfixes.items c.deref-in-Chained-4.result.now (place_of_span c.span_of-start.result) (view_boxed c.in_ok-value-in-Chained.value)
     c.in_ok-value-in-Chained.ensures.same (ap view_expression c.deref-in-Chained-3.ensures) c.deref-in-Chained-4.ensures.value (c.span_of-start.ensures ∙ ap (λ x. place_of (view_expression x)) c.deref-in-Chained.ensures)
     (subst (λ ps. ps ≢ []) c.deref-in-Chained-2.ensures.value c.in_ok-has_postfixes-in-Chained.ensures.ok) c.in_ok-value-in-Chained.ensures.gives)
     c.check_cell.ensures.gives)
@@ -112,7 +113,7 @@ check_selection-returns-clause-gives t c =
     let one = one_of IsReached c.in_ok-cell.cell (run (rule_postfixed c.args.scope.now (place_of_span c.args.span) (gives (view_boxed c.args.value)) (postfixes_of c.args.postfixes.now))) c.in_ok-cell.ensures.gives in
     subst (λ o. Gives view_boxed c.loaded.result (and_then o (λ w. run (loaded (place_of_span c.args.span) w)))) (sym one.1) (c.loaded.ensures one.0 one.2)
 
--- the first postfix, and those behind it
+-- the first postfix, followed by the remaining ones
 pub check_postfixes-loop-i-init : goal.check_postfixes-loop-i-init
 check_postfixes-loop-i-init t c =
     let one = one_of IsReached c.in_ok-cell.cell (one_postfix c.args.scope.now (place_of_span c.args.span) (view_boxed c.args.value) c.index-postfixes-0.result) c.in_ok-cell.ensures.gives in
@@ -163,7 +164,7 @@ check_operations-loop-operation-preserved t c =
     let is = drop_read c.args.operations.now c.loop-operation.operation-index c.operation-item.result c.loop-operation-test.true c.operation-item.is in
     let g = c.args.scope.now in
     let p = place_of_span c.args.first.span in
-    let k = peeked_behind c.args.first.peeked c.loop-operation.of_type in
+    let k = peeked_after c.args.first.peeked c.loop-operation.of_type in
     let left = left_of (view_given c.args.first.given) c.loop-operation.of_type in
     let joined = c.in_ok-check_operation.ensures.gives in
     let at =
@@ -178,7 +179,7 @@ pub check_operations-returns-clause-gives : goal.check_operations-returns-clause
 check_operations-returns-clause-gives t c =
     let g = c.args.scope.now in
     let p = place_of_span c.args.first.span in
-    let k = peeked_behind c.args.first.peeked c.loop-operation.of_type in
+    let k = peeked_after c.args.first.peeked c.loop-operation.of_type in
     let left = left_of (view_given c.args.first.given) c.loop-operation.of_type in
     chain_ends g p k left c.loop-operation.rest.items (drop c.loop-operation.operation-index c.args.operations.now) _ (drop_all c.loop-operation.operation-index c.args.operations.now c.loop-operation-test.false) c.loop-operation.invariant.gives
     ∙ chain_whole c.loop-operation.rest.items (settled None (value_wanted left p ∷ [])) (value_of left) _ c.in_ok-of_type.ensures
@@ -207,7 +208,7 @@ check_expression-returns-in_ok-made-in-RegionNew-clause-gives t c =
     c.in_ok-placed-in-RegionNew.ensures.same (ap view_expression c.deref-in-RegionNew.ensures) (ap view_initial c.deref-in-RegionNew-3.ensures) (c.span_of-in-RegionNew.ensures ∙ ap (λ x. place_of (view_expression x)) c.deref-in-RegionNew-2.ensures) placed.1 made.1)
     (c.created-in-RegionNew.ensures placed.0 made.0 placed.2 made.2))
 
--- ---- operands that are looked at
+-- ---- operands that are peeked at
 
 pub check_looked-returns-in-Some-clause-gives : goal.check_looked-returns-in-Some-clause-gives
 check_looked-returns-in-Some-clause-gives t c =

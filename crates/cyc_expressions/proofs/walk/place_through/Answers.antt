@@ -1,6 +1,6 @@
 use Rattle.cyc_syntax.specs.inside.TreeView.{place_of_span}
 use Rattle.cyc_types.specs.typing.Expressions.{pointed}
-use Rattle.cyc_forms.specs.inside.Forms.{view_boxed}
+use Rattle.cyc_operands.specs.inside.Operands.{view_boxed}
 use Rattle.cyc_expressions.proofs.walk.place_through.Goals as goal
 
 pub returns : goal.returns
