@@ -1,4 +1,4 @@
--- How the code walks the items of a block, and where it leaves the scope.
+-- How the code checks the items of a block, and the scope afterwards.
 use Rattle.std.proofs.Common.{◌≡◌, ℕ, suc, ◌+◌, List, [], ◌∷◌, ◌++◌, Some, None, Ok, refl, sym, ap, subst, ◌∙◌, arith}
 use Rattle.std.proofs.lemmas.List.{append_assoc}
 use Rattle.cyc_syntax.specs.Symbols.{Place}
@@ -10,20 +10,20 @@ use Rattle.cyc_types.specs.declared.region.Region.TheVariants as regions
 use Rattle.cyc_types.specs.declared.scope.Kind.TheVariants as kinds
 use Rattle.cyc_types.specs.Types.{Handle, Key}
 use Rattle.cyc_types.specs.typing.Formation.{region_of}
-use Rattle.cyc_types.specs.typing.Scopes.{Scope, Ordinary, OfRegion, with_opened, with_region, with_key_opened, item_locals, one_item_locals, item_regions, one_item_regions, item_names, one_item_names, locals_in, regions_in, names_in, behind, in_block, in_labelled}
-use Rattle.cyc_types.specs.typing.Statements.{declared_type, behind_item, rule_items, rule_item}
+use Rattle.cyc_types.specs.typing.Scopes.{Scope, Ordinary, OfRegion, with_opened, with_region, with_key_opened, item_locals, one_item_locals, item_regions, one_item_regions, item_names, one_item_names, locals_in, regions_in, names_in, following, in_block, in_labelled}
+use Rattle.cyc_types.specs.typing.Statements.{declared_type, following_item, rule_items, rule_item}
 use Rattle.cyc_types.specs.Rules.{and_then, run}
 use Rattle.cyc_scope.specs.declared.stop.Stop.{Stop}
 use Rattle.cyc_scope.specs.declared.stop.Stop.TheVariants as stops
 use Rattle.cyc_scope.specs.inside.Code.{Stops}
 use Rattle.cyc_scope.specs.declared.scope.Mark.{Mark}
 use Rattle.cyc_scope.specs.inside.Marks.{mark_of, left_to}
-use Rattle.cyc_check.specs.inside.Walks.{IsBehindItems, behind_block, behind_labelled}
+use Rattle.cyc_check.specs.inside.Walks.{IsAfterItems, following_block, after_labelled}
 use Rattle.cyc_check.specs.inside.Inside.{Inside}
-use Rattle.cyc_check.proofs.Inside.{inside_itself, inside_through, inside_local, inside_opened, inside_region, inside_key, inside_behind, inside_block, inside_labelled, numbered_as, left_numbered}
+use Rattle.cyc_check.proofs.Inside.{inside_itself, inside_through, inside_local, inside_opened, inside_region, inside_key, inside_after, inside_block, inside_labelled, numbered_as, left_numbered}
 use Rattle.cyc_expressions.proofs.Loops.{onto, with_front, regroup, onto_nothing}
 
--- what was made of the items so far, and where the walk stands
+-- the nodes of the items so far, and the current scope
 pub record Walked (start now : Scope) (made : List ItemCode) (rest whole : Items) : Type 0 where
   pub gives : with_front view_item typed.MoreItems made (run (rule_items now rest)) ≡ run (rule_items start whole)
   pub inside : Inside start now
@@ -34,21 +34,21 @@ pub record Walked (start now : Scope) (made : List ItemCode) (rest whole : Items
 pub walk_starts : (g : Scope) (whole : Items) → Walked g g [] whole whole
 walk_starts g whole = record { gives = onto_nothing view_item typed.MoreItems (run (rule_items g whole)); inside = inside_itself g; numbers = refl; regions = refl; taken = refl }
 
--- behind one item, what it declares stands in front
-inside_item : (n : Scope) (i : Item) (j : typed.Item) → Inside n (behind_item n i j)
-inside_item n (Execute s) j = inside_behind n s
+-- after one item, its declarations come first
+inside_item : (n : Scope) (i : Item) (j : typed.Item) → Inside n (following_item n i j)
+inside_item n (Execute s) j = inside_after n s
 inside_item n (Local w x v) j = inside_local Ordinary x (declared_type j) n
 inside_item n (Region r h None) j =
-    inside_through n (with_opened kinds.Lexical r n) (behind_item n (Region r h None) j) (inside_opened kinds.Lexical r n) (inside_local OfRegion h (Handle (regions.Variable n.next_region)) (with_opened kinds.Lexical r n))
+    inside_through n (with_opened kinds.Lexical r n) (following_item n (Region r h None) j) (inside_opened kinds.Lexical r n) (inside_local OfRegion h (Handle (regions.Variable n.next_region)) (with_opened kinds.Lexical r n))
 inside_item n (Region r h (Some k)) j =
-    inside_through n (with_key_opened (region_of n.names r) n) (behind_item n (Region r h (Some k)) j) (inside_key (region_of n.names r) n) (inside_local OfRegion h (Handle (region_of n.names r)) (with_key_opened (region_of n.names r) n))
+    inside_through n (with_key_opened (region_of n.names r) n) (following_item n (Region r h (Some k)) j) (inside_key (region_of n.names r) n) (inside_local OfRegion h (Handle (region_of n.names r)) (with_key_opened (region_of n.names r) n))
 inside_item n (Alias r w x y) j =
-    inside_through n (with_opened kinds.Alias r n) (behind_item n (Alias r w x y) j) (inside_opened kinds.Alias r n) (inside_local Ordinary x (declared_type j) (with_opened kinds.Alias r n))
+    inside_through n (with_opened kinds.Alias r n) (following_item n (Alias r w x y) j) (inside_opened kinds.Alias r n) (inside_local Ordinary x (declared_type j) (with_opened kinds.Alias r n))
 inside_item n (DynamicRegion r k) j =
-    inside_through n (with_region r n) (behind_item n (DynamicRegion r k) j) (inside_region r n) (inside_local Ordinary k (Key (regions.Variable n.next_region)) (with_region r n))
+    inside_through n (with_region r n) (following_item n (DynamicRegion r k) j) (inside_region r n) (inside_local Ordinary k (Key (regions.Variable n.next_region)) (with_region r n))
 
--- and its numbers are used
-local_item : (n : Scope) (i : Item) (j : typed.Item) → (behind_item n i j).next_local ≡ n.next_local + one_item_locals i
+-- the numbers of an item are used
+local_item : (n : Scope) (i : Item) (j : typed.Item) → (following_item n i j).next_local ≡ n.next_local + one_item_locals i
 local_item n (Execute s) j = refl
 local_item n (Local w x v) j = omega arith
 local_item n (Region r h None) j = omega arith
@@ -56,7 +56,7 @@ local_item n (Region r h (Some k)) j = omega arith
 local_item n (Alias r w x y) j = omega arith
 local_item n (DynamicRegion r k) j = omega arith
 
-region_item : (n : Scope) (i : Item) (j : typed.Item) → (behind_item n i j).next_region ≡ n.next_region + one_item_regions i
+region_item : (n : Scope) (i : Item) (j : typed.Item) → (following_item n i j).next_region ≡ n.next_region + one_item_regions i
 region_item n (Execute s) j = refl
 region_item n (Local w x v) j = omega arith
 region_item n (Region r h None) j = omega arith
@@ -64,7 +64,7 @@ region_item n (Region r h (Some k)) j = omega arith
 region_item n (Alias r w x y) j = omega arith
 region_item n (DynamicRegion r k) j = omega arith
 
-taken_item : (n : Scope) (i : Item) (j : typed.Item) → (behind_item n i j).taken ≡ one_item_names i ++ n.taken
+taken_item : (n : Scope) (i : Item) (j : typed.Item) → (following_item n i j).taken ≡ one_item_names i ++ n.taken
 taken_item n (Execute s) j = refl
 taken_item n (Local w x v) j = refl
 taken_item n (Region r h None) j = refl
@@ -72,17 +72,17 @@ taken_item n (Region r h (Some k)) j = refl
 taken_item n (Alias r w x y) j = refl
 taken_item n (DynamicRegion r k) j = refl
 
--- the items behind one whose typed tree is known
-by_item : (n : Scope) (i : Item) (rest : Items) (j : typed.Item) → run (rule_item n i) ≡ Ok j → run (rule_items n (MoreItems i rest)) ≡ and_then (run (rule_items (behind_item n i j) rest)) (λ js. Ok (typed.MoreItems j js))
-by_item n i rest j h = ap (λ o. and_then o (λ k. and_then (run (rule_items (behind_item n i k) rest)) (λ js. Ok (typed.MoreItems k js)))) h
+-- the items after one with a known typed tree
+by_item : (n : Scope) (i : Item) (rest : Items) (j : typed.Item) → run (rule_item n i) ≡ Ok j → run (rule_items n (MoreItems i rest)) ≡ and_then (run (rule_items (following_item n i j) rest)) (λ js. Ok (typed.MoreItems j js))
+by_item n i rest j h = ap (λ o. and_then o (λ k. and_then (run (rule_items (following_item n i k) rest)) (λ js. Ok (typed.MoreItems k js)))) h
 
 pub walk_goes_on : (start now : Scope) (made : List ItemCode) (i : Item) (rest whole : Items) (x : ItemCode) → Walked start now made (MoreItems i rest) whole → run (rule_item now i) ≡ Ok (view_item x)
-    → Walked start (behind_item now i (view_item x)) (made ++ x ∷ []) rest whole
+    → Walked start (following_item now i (view_item x)) (made ++ x ∷ []) rest whole
 walk_goes_on start now made i rest whole x w h = record {
   gives =
-      sym (ap (with_front view_item typed.MoreItems made) (by_item now i rest (view_item x) h) ∙ regroup view_item typed.MoreItems made x (run (rule_items (behind_item now i (view_item x)) rest)))
+      sym (ap (with_front view_item typed.MoreItems made) (by_item now i rest (view_item x) h) ∙ regroup view_item typed.MoreItems made x (run (rule_items (following_item now i (view_item x)) rest)))
       ∙ w.gives;
-  inside = inside_through start now (behind_item now i (view_item x)) w.inside (inside_item now i (view_item x));
+  inside = inside_through start now (following_item now i (view_item x)) w.inside (inside_item now i (view_item x));
   numbers = omega (arith, w.numbers, local_item now i (view_item x));
   regions = omega (arith, w.regions, region_item now i (view_item x));
   taken = ap (λ ns. item_names rest ++ ns) (taken_item now i (view_item x)) ∙ sym (append_assoc (item_names rest) (one_item_names i) now.taken) ∙ w.taken;
@@ -91,7 +91,7 @@ walk_goes_on start now made i rest whole x w h = record {
 pub walk_stops : (e : Stop) (start now : Scope) (made : List ItemCode) (i : Item) (rest whole : Items) → Walked start now made (MoreItems i rest) whole → Stops e (run (rule_item now i)) → Stops e (run (rule_items start whole))
 walk_stops stops.Memory start now made i rest whole w h = tt
 walk_stops (stops.Refused f) start now made i rest whole w h =
-    sym w.gives ∙ ap (λ o. with_front view_item typed.MoreItems made (and_then o (λ k. and_then (run (rule_items (behind_item now i k) rest)) (λ js. Ok (typed.MoreItems k js))))) h
+    sym w.gives ∙ ap (λ o. with_front view_item typed.MoreItems made (and_then o (λ k. and_then (run (rule_items (following_item now i k) rest)) (λ js. Ok (typed.MoreItems k js))))) h
 
 onto_items : (is : List ItemCode) → onto view_item typed.MoreItems is typed.NoItems ≡ items_of is
 onto_items [] = refl
@@ -100,38 +100,38 @@ onto_items (i ∷ is) = ap (typed.MoreItems (view_item i)) (onto_items is)
 pub walk_gives : (start now : Scope) (made : List ItemCode) (whole : Items) → Walked start now made NoItems whole → run (rule_items start whole) ≡ Ok (items_of made)
 walk_gives start now made whole w = sym w.gives ∙ ap Ok (onto_items made)
 
--- ---- blocks that are left
+-- ---- leaving a block
 
-pub block_left : (g n : Scope) (is : Items) → IsBehindItems (in_block g) is n → left_to (mark_of g) n ≡ behind_block g is
+pub block_left : (g n : Scope) (is : Items) → IsAfterItems (in_block g) is n → left_to (mark_of g) n ≡ following_block g is
 block_left g n is b =
     let count : n.next_region ≡ g.next_region + suc (item_regions is) = omega (arith, b.regions) in
     left_numbered g n (inside_through g (in_block g) n (inside_block g) b.inside)
     ∙ ap (λ (k : ℕ). record (numbered_as g n) { next_local = k }) b.numbers
     ∙ ap (λ (k : ℕ). record (numbered_as g n) { next_local = g.next_local + item_locals is; next_region = k }) count
-    ∙ ap (λ (ns : List ℕ). record (behind_block g is) { taken = ns }) b.taken
+    ∙ ap (λ (ns : List ℕ). record (following_block g is) { taken = ns }) b.taken
 
-pub labelled_left : (g n : Scope) (l : Named) (is : Items) → IsBehindItems (in_labelled l g) is n → left_to (mark_of g) n ≡ behind_labelled g l is
+pub labelled_left : (g n : Scope) (l : Named) (is : Items) → IsAfterItems (in_labelled l g) is n → left_to (mark_of g) n ≡ after_labelled g l is
 labelled_left g n l is b =
     let count : n.next_region ≡ g.next_region + suc (item_regions is) = omega (arith, b.regions) in
     left_numbered g n (inside_through g (in_labelled l g) n (inside_labelled l g) b.inside)
     ∙ ap (λ (k : ℕ). record (numbered_as g n) { next_local = k }) b.numbers
     ∙ ap (λ (k : ℕ). record (numbered_as g n) { next_local = g.next_local + item_locals is; next_region = k }) count
-    ∙ ap (λ (ns : List ℕ). record (behind_labelled g l is) { taken = ns }) (b.taken ∙ sym (append_assoc (item_names is) (l.name ∷ []) g.taken))
+    ∙ ap (λ (ns : List ℕ). record (after_labelled g l is) { taken = ns }) (b.taken ∙ sym (append_assoc (item_names is) (l.name ∷ []) g.taken))
 
--- ---- the same by the scopes and the mark that the code holds
+-- ---- the entries and exits of scopes, by the scopes and the mark in the code
 
-pub block_is_left : (g h n : Scope) (m : Mark) (is : Items) → m ≡ mark_of g → h ≡ in_block g → IsBehindItems h is n → left_to m n ≡ behind_block g is
-block_is_left g h n m is at entered b = ap (λ (x : Mark). left_to x n) at ∙ block_left g n is (subst (λ x. IsBehindItems x is n) entered b)
+pub block_is_left : (g h n : Scope) (m : Mark) (is : Items) → m ≡ mark_of g → h ≡ in_block g → IsAfterItems h is n → left_to m n ≡ following_block g is
+block_is_left g h n m is at entered b = ap (λ (x : Mark). left_to x n) at ∙ block_left g n is (subst (λ x. IsAfterItems x is n) entered b)
 
-pub labelled_is_left : (g h n : Scope) (m : Mark) (l : Named) (is : Items) → m ≡ mark_of g → h ≡ in_labelled l g → IsBehindItems h is n → left_to m n ≡ behind_labelled g l is
-labelled_is_left g h n m l is at entered b = ap (λ (x : Mark). left_to x n) at ∙ labelled_left g n l is (subst (λ x. IsBehindItems x is n) entered b)
+pub labelled_is_left : (g h n : Scope) (m : Mark) (l : Named) (is : Items) → m ≡ mark_of g → h ≡ in_labelled l g → IsAfterItems h is n → left_to m n ≡ after_labelled g l is
+labelled_is_left g h n m l is at entered b = ap (λ (x : Mark). left_to x n) at ∙ labelled_left g n l is (subst (λ x. IsAfterItems x is n) entered b)
 
--- ---- both sides of an `if`
+-- ---- the two branches of an `if`
 
-pub if_behind : (g : Scope) (p : Place) (c : Expression) (s t : Statement) → behind (behind g s) t ≡ behind g (IfElse p c s t)
-if_behind g p c s t =
+pub if_after : (g : Scope) (p : Place) (c : Expression) (s t : Statement) → following (following g s) t ≡ following g (IfElse p c s t)
+if_after g p c s t =
     let n : g.next_local + locals_in s + locals_in t ≡ g.next_local + (locals_in s + locals_in t) = omega arith in
     let r : g.next_region + regions_in s + regions_in t ≡ g.next_region + (regions_in s + regions_in t) = omega arith in
-    ap (λ (k : ℕ). record (behind (behind g s) t) { next_local = k }) n
-    ∙ ap (λ (k : ℕ). record (behind (behind g s) t) { next_local = g.next_local + (locals_in s + locals_in t); next_region = k }) r
-    ∙ ap (λ (ns : List ℕ). record (behind g (IfElse p c s t)) { taken = ns }) (sym (append_assoc (names_in t) (names_in s) g.taken))
+    ap (λ (k : ℕ). record (following (following g s) t) { next_local = k }) n
+    ∙ ap (λ (k : ℕ). record (following (following g s) t) { next_local = g.next_local + (locals_in s + locals_in t); next_region = k }) r
+    ∙ ap (λ (ns : List ℕ). record (following g (IfElse p c s t)) { taken = ns }) (sym (append_assoc (names_in t) (names_in s) g.taken))

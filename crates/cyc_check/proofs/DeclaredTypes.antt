@@ -1,4 +1,4 @@
--- How the code reads off what a typed body declares: item by item, clause by clause.
+-- How the code collects the declarations of a typed body: item by item, clause by clause.
 use Rattle.std.proofs.Common.{◌≡◌, ◌+◌, List, [], ◌∷◌, ◌++◌, Option, None, Some, refl, sym, ap, ◌∙◌, append_assoc}
 use Rattle.std.specs.declared.vec.Vec.{Vec}
 use Rattle.std.specs.declared.boxed.Box.{Box}
@@ -15,7 +15,7 @@ use Rattle.cyc_types.specs.TypedTreeView.{view_statement, items_of, default_of, 
 use Rattle.cyc_types.specs.Declarations.{declared_types, item_types, clause_types, caught_types}
 use Rattle.cyc_types.proofs.TypedTreeViewLemmas.{view_typed_try}
 
--- clauses with a default behind them
+-- clauses followed by a default clause
 pub types_with_default : (cs : List Clause) (d : Clauses) → clause_types (clauses_of cs d) ≡ clause_types (clauses_of cs NoClauses) ++ clause_types d
 types_with_default [] d = refl
 types_with_default (c ∷ cs) d =
@@ -23,7 +23,7 @@ types_with_default (c ∷ cs) d =
     ∙ ap (λ ts. caught_types c.number ++ ts) (sym (append_assoc (item_types (items_of c.items.items)) (clause_types (clauses_of cs NoClauses)) (clause_types d)))
     ∙ sym (append_assoc (caught_types c.number) (item_types (items_of c.items.items) ++ clause_types (clauses_of cs NoClauses)) (clause_types d))
 
--- ---- a catch, with and without a default clause
+-- ---- a catch with and without a default clause
 
 pub try_viewed : (s : StmtCode) {w : Span} (b : Box StmtCode Heap) (v : Vec Clause Heap) (d : Option Body) → s ≡ stmt.Try w b v d → view_statement s ≡ Try (view_statement b.value) (clauses_of v.items (default_of d))
 try_viewed s {w} b v d is = ap view_statement is ∙ view_typed_try w b v d

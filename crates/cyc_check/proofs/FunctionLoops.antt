@@ -1,4 +1,4 @@
--- How the code walks the declarations of a program, of which only the functions have bodies.
+-- The walk of the code over the declarations of a program, of which only the functions have bodies.
 use Rattle.std.proofs.Common.{◌≡◌, List, [], ◌∷◌, ◌++◌, Option, map, Ok, refl, sym, ap, ◌∙◌}
 use Rattle.cyc_syntax.specs.Symbols.{Place}
 use Rattle.cyc_syntax.specs.Trees.{Named, WrittenType, Member, Items, Braces, Body, Parameters, Declaration, StructType, Exceptions, Global, Function}
@@ -9,7 +9,7 @@ use Rattle.cyc_types.specs.Rules.{Checked, and_then, run}
 use Rattle.cyc_types.specs.TypedTrees.{Signature}
 use Rattle.cyc_types.specs.typing.Scopes.{RegionName, Scope}
 use Rattle.cyc_types.specs.typing.Statements.{rule_items}
-use Rattle.cyc_types.specs.typing.Heads.{members_of, parameter_naming, signature_of}
+use Rattle.cyc_types.specs.typing.DeclarationRules.{members_of, parameter_naming, signature_of}
 use Rattle.cyc_types.specs.typing.Programs.{Program, body_scope, function_of, rule_function, rule_functions}
 use Rattle.cyc_scope.specs.inside.Bodies.{body_with}
 use Rattle.cyc_scope.specs.declared.stop.Stop.{Stop}
@@ -17,7 +17,7 @@ use Rattle.cyc_scope.specs.declared.stop.Stop.TheVariants as stops
 use Rattle.cyc_scope.specs.inside.Code.{Stops}
 use Rattle.cyc_expressions.proofs.Loops.{onto, with_front, regroup}
 
--- functions in front of those that are still checked
+-- the functions so far, followed by the remaining ones
 abbrev pub with_functions : List FunctionCode → Checked (List typed.Function) → Checked (List typed.Function)
 with_functions front o = with_front view_function (λ f fs. f ∷ fs) front o
 
@@ -34,7 +34,7 @@ passes_declaration front p (Exceptions cs) zs tree whole is u so_far = sym (ap (
 passes_declaration front p (Global w x v) zs tree whole is u so_far = sym (ap (λ us. with_functions front (run (rule_functions p us))) is) ∙ so_far
 passes_declaration front p (Function r x ps b) zs tree whole is u so_far = absurd u
 
--- a function of this declaration
+-- the function of this declaration
 abbrev pub one_function : Program → Option WrittenType → Named → Parameters → Body → Checked typed.Function
 one_function p r x ps b = run (rule_function p (signature_of p.known r ps) x ps b)
 

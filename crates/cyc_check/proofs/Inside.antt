@@ -1,10 +1,10 @@
--- A scope inside another: what was declared there stands in front of what was there before, so that leaving it takes that away.
+-- A scope inside another: its declarations come before the outer ones, so leaving it removes them.
 use Rattle.std.proofs.Common.{◌≡◌, ◌-◌, ◌≤◌, List, [], ◌∷◌, ◌++◌, length, drop, refl, sym, ap, subst, ◌∙◌, arith}
 use Rattle.std.proofs.lemmas.List.{append_assoc}
 use Rattle.cyc_words.proofs.Lists.{drop_to_last}
 use Rattle.cyc_types.specs.declared.scope.Scope.{Scope as Opened}
 use Rattle.cyc_syntax.specs.Trees.{Named, Statement}
-use Rattle.cyc_types.specs.typing.Scopes.{Scope, RegionName, LocalVariable, Sort, behind, in_block, in_labelled, with_local, with_opened, with_region, with_key_opened}
+use Rattle.cyc_types.specs.typing.Scopes.{Scope, RegionName, LocalVariable, Sort, following, in_block, in_labelled, with_local, with_opened, with_region, with_key_opened}
 use Rattle.cyc_types.specs.declared.region.Region.TheVariants as regions
 use Rattle.cyc_types.specs.declared.scope.Kind.{Kind}
 use Rattle.cyc_types.specs.declared.scope.Kind.TheVariants as kinds
@@ -28,7 +28,7 @@ inside_through g m n i j = record {
       ∙ ap (λ (os : List Opened). record (extended g (j.locals ++ i.locals) (j.names ++ i.names) (j.opened ++ i.opened) n) { regions = record g.regions { opened = os } }) (sym (append_assoc j.opened i.opened g.regions.opened));
 }
 
--- ---- each way to enter one
+-- ---- the ways to enter an inner scope
 
 pub inside_local : (k : Sort) (x : Named) (t : Ty) (g : Scope) → Inside g (with_local k x t g)
 inside_local k x t g = record { locals = record { name = x.name; number = g.next_local; of_type = t; region = g.region; sort = k } ∷ []; names = []; opened = []; same = refl }
@@ -58,12 +58,12 @@ inside_labelled l g = record {
   same = refl;
 }
 
-pub inside_behind : (g : Scope) (s : Statement) → Inside g (behind g s)
-inside_behind g s = record { locals = []; names = []; opened = []; same = refl }
+pub inside_after : (g : Scope) (s : Statement) → Inside g (following g s)
+inside_after g s = record { locals = []; names = []; opened = []; same = refl }
 
 -- ---- leaving
 
--- what stays: the numbers that were used, and the names of regions that were taken
+-- the state after a function: the used numbers and the names of regions
 abbrev pub numbered_as : Scope → Scope → Scope
 numbered_as g n = record g { taken = n.taken; next_local = n.next_local; next_region = n.next_region }
 
@@ -74,6 +74,6 @@ left_numbered g n i =
     ∙ ap (λ (ns : List RegionName). record (numbered_as g n) { names = ns; regions = record g.regions { opened = drop (length (i.opened ++ g.regions.opened) - length g.regions.opened) (i.opened ++ g.regions.opened) } }) (drop_to_last i.names g.names)
     ∙ ap (λ (os : List Opened). record (numbered_as g n) { regions = record g.regions { opened = os } }) (drop_to_last i.opened g.regions.opened)
 
--- regions stay in order
+-- regions remain in order
 pub order_left : (g n : Scope) → IsInOrder g → Inside g n → g.next_region ≤ n.next_region → IsInOrder (left_to (mark_of g) n)
 order_left g n o i le = subst IsInOrder (sym (left_numbered g n i)) (record { locals = o.locals; inside = omega (arith, o.inside, le) })

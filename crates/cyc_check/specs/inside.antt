@@ -1,5 +1,5 @@
--- The contract of `check` rests on the definitions of `cyc_types` alone. This is what the functions inside the crate promise each
--- other.
+-- The contract of `check` refers only to the definitions of `cyc_types`. The modules below are the contracts between the functions of the
+-- crate.
 pub mod Inside
 pub mod Walks
 pub mod FunctionParts

@@ -1,4 +1,4 @@
-//! What is known where a refused program's fault stands, for who says a person why it is refused.
+//! The facts at the fault of a rejected program, for the explanation of the fault.
 ghost use Rattle.std.specs.Prelude.{◌≡◌, ◌⊎◌, map, IfSome};
 ghost use Rattle.cyc_words.specs.Fault.{memory_fault};
 ghost use Rattle.cyc_syntax.specs.inside.TreeView.{view_declaration};
@@ -6,9 +6,9 @@ ghost use Rattle.cyc_types.specs.typing.Programs.{IsRefusedProgram};
 
 use crate::statements::check_items;
 use crate::tree::check;
+use cyc_declarations::{members, signature_of};
 use cyc_expressions::{check_expression, check_looked, check_place};
-use cyc_forms::{Given, span_of, type_of_side};
-use cyc_heads::{members, signature_of};
+use cyc_operands::{Given, span_of, type_of_side};
 use cyc_scope::{Program, Scope, Stop, Tables};
 use cyc_syntax::{Block, Expr, Ident, Parameters, Tree, WrittenType};
 use cyc_types::Ty;
@@ -16,9 +16,9 @@ use cyc_types::typed::ValueType;
 use cyc_words::Fault;
 use std::alloc::Global;
 
-/// The fault that `check` refuses a tree with.
+/// Returns the fault with which `check` rejects a tree.
 pub fn refusal(alloc: Global, tree: &Tree) -> Option<Fault>
-    // Only what is refused has one, unless memory ran out.
+    // Only a rejected program has a fault, unless memory ran out.
     ensures { IfSome result (λ f. (f ≡ memory_fault) ⊎ IsRefusedProgram tree.now.names (map view_declaration tree.now.declarations.items) f) }
 {
     match check(alloc, tree) {
@@ -27,7 +27,7 @@ pub fn refusal(alloc: Global, tree: &Tree) -> Option<Fault>
     }
 }
 
-/// The scope where a body begins.
+/// Returns the scope at the beginning of a body.
 fn scope_of<'p>(
     alloc: Global,
     program: &'p Program,
@@ -48,12 +48,12 @@ fn scope_of<'p>(
     )
 }
 
-/// The scope where the first fault of a function's body stands: of a part that is refused nothing is left again. Where the body has none,
-/// that at its end.
+/// Returns the scope at the first fault of the body of a function; a rejected part is not left again. For a body without a fault, returns
+/// the scope at its end.
 ///
 /// # Errors
 ///
-/// Where memory ran out before the body began.
+/// Memory ran out before the body began.
 pub fn scope_at_fault<'p>(
     alloc: Global,
     program: &'p Program,
@@ -80,7 +80,7 @@ fn kept(given: Given<'_>) -> Option<ValueType> {
     }
 }
 
-/// The type of an expression, whose value is used or only looked at; none where it is refused.
+/// Returns the type of an expression, as a used value or as a peek; none if it is rejected.
 pub fn value_type(
     scope: &mut Scope<'_>,
     expression: &Expr,
@@ -97,7 +97,7 @@ pub fn value_type(
     }
 }
 
-/// The type of what is at a place; none where it is refused.
+/// Returns the type of the content of a place; none if it is rejected.
 pub fn place_type(scope: &mut Scope<'_>, expression: &Expr) -> Option<Ty> {
     match check_place(scope, expression, span_of(expression)) {
         Ok(found) => type_of_side(&found.side).share().ok(),

@@ -4,21 +4,21 @@ ghost use Rattle.cyc_syntax.specs.inside.TreeView.{place_of_span, view_name, vie
 ghost use Rattle.cyc_types.specs.inside.SignatureView.{view_signature};
 ghost use Rattle.cyc_types.specs.TypedTreeView as typed_view;
 ghost use Rattle.cyc_types.specs.Rules.{run};
-ghost use Rattle.cyc_types.specs.typing.Heads.{signature_of};
+ghost use Rattle.cyc_types.specs.typing.DeclarationRules.{signature_of};
 ghost use Rattle.cyc_types.specs.typing.Programs.{rule_function, rule_functions};
 ghost use Rattle.cyc_scope.specs.inside.Code.{Gives};
 ghost use Rattle.cyc_check.specs.inside.FunctionParts.{function_with};
 
 use crate::declared_types::add_item_types;
 use crate::statements::check_items;
-use cyc_heads::{members, signature_of};
+use cyc_declarations::{members, signature_of};
 use cyc_scope::{Program, Scope, Stop, Tables};
 use cyc_syntax::{Block, Declaration, Ident, Parameters, WrittenType};
 use cyc_types::{Signature, typed};
 use cyc_words::Span;
 use std::alloc::{AllocError, Global};
 
-/// The function of this signature with these items and so many regions, whose body ends at this place.
+/// Returns the function with this signature, these items and this number of regions, whose body ends at this place.
 fn function_with(
     alloc: Global,
     signature: Signature,
@@ -27,7 +27,8 @@ fn function_with(
     regions: usize,
     end: Span,
 ) -> Result<typed::Function, AllocError>
-    ensures { IfOk result (λ f. typed_view.view_function f ≡ function_with (view_signature signature) (view_name name) regions (place_of_span end) (typed_view.items_of body.items)) }
+    ensures { IfOk result (λ f. typed_view.view_function f
+        ≡ function_with (view_signature signature) (view_name name) regions (place_of_span end) (typed_view.items_of body.items)) }
 {
     let mut locals = Vec::new(alloc);
     add_item_types(&body, &mut locals)?;
@@ -63,7 +64,9 @@ fn check_function(
     parameters: &Parameters,
     block: &Block,
 ) -> Result<Checked, Stop>
-    ensures { Gives (λ k. typed_view.view_function k.function) result (run (rule_function program.now (signature_of program.now.known (option_map view_type returned.now) (view_parameters parameters.now)) (view_name name) (view_parameters parameters.now) (view_block block.now))) }
+    ensures { Gives (λ k. typed_view.view_function k.function) result
+        (run (rule_function program.now (signature_of program.now.known (option_map view_type returned.now) (view_parameters parameters.now))
+        (view_name name) (view_parameters parameters.now) (view_block block.now))) }
 {
     let mut tables = tables;
     let signature = signature_of(
@@ -84,7 +87,7 @@ fn check_function(
     })
 }
 
-/// The functions of a program.
+/// Returns the functions of a program.
 pub(crate) fn functions_of(
     alloc: Global,
     program: &Program,

@@ -1,4 +1,4 @@
-//! The checker: the typed tree of an abstract syntax tree, exactly where the typing rules derive one.
+//! The checker: it returns the typed tree of an abstract syntax tree, exactly if the typing rules derive one.
 #![tactic(auto)]
 
 pub use at_fault::{place_type, refusal, scope_at_fault, value_type};
@@ -7,5 +7,6 @@ pub use tree::check;
 mod at_fault;
 mod declared_types;
 mod functions;
+mod simple_statements;
 mod statements;
 mod tree;

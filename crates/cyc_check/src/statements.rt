@@ -1,23 +1,23 @@
-//! The walk over statements, the items of blocks and the clauses of catches.
+//! The walk over statements, the items of blocks and the clauses of a catch.
 ghost use Rattle.std.specs.Prelude.{◌≡◌, [], ◌∷◌, Ok, OnOk, IfOk};
 ghost use Rattle.cyc_syntax.specs.inside.TreeView.{view_name, view_statement, view_item, items_of, clauses_of};
 ghost use Rattle.cyc_syntax.specs.Trees.{NoClauses};
 ghost use Rattle.cyc_types.specs.TypedTrees as nodes;
 ghost use Rattle.cyc_types.specs.TypedTreeView as typed_view;
 ghost use Rattle.cyc_types.specs.Rules.{and_then, demands, run};
-ghost use Rattle.cyc_types.specs.typing.Scopes.{in_block, in_labelled, in_body, behind};
-ghost use Rattle.cyc_types.specs.typing.Statements.{new_name_demanded, behind_item, rule_statement, rule_items, rule_item, rule_clauses};
+ghost use Rattle.cyc_types.specs.typing.Scopes.{in_block, in_labelled, in_body, following};
+ghost use Rattle.cyc_types.specs.typing.Statements.{new_name_demanded, following_item, rule_statement, rule_items, rule_item, rule_clauses};
 ghost use Rattle.cyc_scope.specs.inside.Code.{Gives};
-ghost use Rattle.cyc_check.specs.inside.Walks.{IsBehindItems, behind_block, behind_labelled, behind_clauses, view_clause};
+ghost use Rattle.cyc_check.specs.inside.Walks.{IsAfterItems, following_block, after_labelled, after_clauses, view_clause};
 ghost use Rattle.cyc_statements.specs.inside.Nodes.{view_boxed_statement};
 
-use cyc_scope::{Scope, Stop};
-use cyc_statements::forms::{
-    caught, check_condition, check_evaluation, check_return, check_swap, check_throw, leaves_loop,
+use crate::simple_statements::{
+    check_condition, check_evaluation, check_local, check_return, check_swap, check_throw,
 };
+use cyc_scope::{Scope, Stop};
+use cyc_statements::forms::{caught, leaves_loop};
 use cyc_statements::items::{
-    declare_alias, declare_caught, declare_dynamic, declare_local, is_region_new, open_dynamic,
-    open_lexical,
+    declare_alias, declare_caught, declare_dynamic, is_region_new, open_dynamic, open_lexical,
 };
 use cyc_statements::nodes::{block_of, choice, empty, execution, repetition, try_of};
 use cyc_syntax::{Clause, Ident, Item, Stmt};
@@ -29,7 +29,7 @@ pub(crate) fn check_statement(
     statement: &Stmt,
 ) -> Result<Box<typed::Stmt>, Stop>
     ensures gives { Gives view_boxed_statement result (run (rule_statement scope.old (view_statement statement.now))) }
-    ensures behind { OnOk result (scope.new ≡ behind scope.old (view_statement statement.now)) }
+    ensures following { OnOk result (scope.new ≡ following scope.old (view_statement statement.now)) }
 {
     match statement {
         Stmt::Block { block } => check_block(scope, &block.items),
@@ -95,11 +95,11 @@ pub(crate) fn check_statement(
     }
 }
 
-/// The body of a loop.
+/// Checks the body of a loop.
 #[cycle(statement)]
 fn check_body(scope: &mut Scope<'_>, statement: &Stmt) -> Result<Box<typed::Stmt>, Stop>
     ensures gives { Gives view_boxed_statement result (run (rule_statement (in_body scope.old) (view_statement statement.now))) }
-    ensures behind { OnOk result (scope.new ≡ behind scope.old (view_statement statement.now)) }
+    ensures following { OnOk result (scope.new ≡ following scope.old (view_statement statement.now)) }
 {
     let mark = scope.mark();
     scope.enter_loop();
@@ -108,11 +108,12 @@ fn check_body(scope: &mut Scope<'_>, statement: &Stmt) -> Result<Box<typed::Stmt
     Ok(body)
 }
 
-/// The block of these items.
+/// Checks the block of these items.
 #[cycle(statement)]
 fn check_block(scope: &mut Scope<'_>, items: &[Item]) -> Result<Box<typed::Stmt>, Stop>
-    ensures gives { Gives view_boxed_statement result (and_then (run (rule_items (in_block scope.old) (items_of items.now))) (λ js. Ok (nodes.Block scope.old.next_region js))) }
-    ensures behind { OnOk result (scope.new ≡ behind_block scope.old (items_of items.now)) }
+    ensures gives { Gives view_boxed_statement result (and_then (run (rule_items (in_block scope.old) (items_of items.now)))
+        (λ js. Ok (nodes.Block scope.old.next_region js))) }
+    ensures following { OnOk result (scope.new ≡ following_block scope.old (items_of items.now)) }
 {
     let mark = scope.mark();
     let region = scope.next_region();
@@ -122,15 +123,17 @@ fn check_block(scope: &mut Scope<'_>, items: &[Item]) -> Result<Box<typed::Stmt>
     block_of(scope.alloc(), region, items)
 }
 
-/// The block of these items with a label.
+/// Checks the block of these items with a label.
 #[cycle(statement)]
 fn check_labelled(
     scope: &mut Scope<'_>,
     items: &[Item],
     label: Ident,
 ) -> Result<Box<typed::Stmt>, Stop>
-    ensures gives { Gives view_boxed_statement result (and_then (run (demands (new_name_demanded scope.old (view_name label) ∷ []))) (λ u. and_then (run (rule_items (in_labelled (view_name label) scope.old) (items_of items.now))) (λ js. Ok (nodes.Block scope.old.next_region js)))) }
-    ensures behind { OnOk result (scope.new ≡ behind_labelled scope.old (view_name label) (items_of items.now)) }
+    ensures gives { Gives view_boxed_statement result (and_then (run (demands (new_name_demanded scope.old (view_name label) ∷ [])))
+        (λ u. and_then (run (rule_items (in_labelled (view_name label) scope.old) (items_of items.now)))
+        (λ js. Ok (nodes.Block scope.old.next_region js)))) }
+    ensures following { OnOk result (scope.new ≡ after_labelled scope.old (view_name label) (items_of items.now)) }
 {
     is_region_new(scope, label)?;
     let mark = scope.mark();
@@ -141,11 +144,11 @@ fn check_labelled(
     block_of(scope.alloc(), region, items)
 }
 
-/// The items of a block, which stays open.
+/// Checks the items of a block, which stays open.
 #[cycle(statement)]
 pub(crate) fn check_items(scope: &mut Scope<'_>, items: &[Item]) -> Result<Vec<typed::Item>, Stop>
     ensures gives { Gives (λ v. typed_view.items_of v.items) result (run (rule_items scope.old (items_of items.now))) }
-    ensures inside { OnOk result (IsBehindItems scope.old (items_of items.now) scope.new) }
+    ensures inside { OnOk result (IsAfterItems scope.old (items_of items.now) scope.new) }
 {
     let mut all = Vec::with_capacity(scope.alloc(), items.len())?;
     for item in items {
@@ -158,7 +161,7 @@ pub(crate) fn check_items(scope: &mut Scope<'_>, items: &[Item]) -> Result<Vec<t
 #[cycle(statement)]
 fn check_item(scope: &mut Scope<'_>, item: &Item) -> Result<typed::Item, Stop>
     ensures gives { Gives typed_view.view_item result (run (rule_item scope.old (view_item item.now))) }
-    ensures behind { IfOk result (λ j. scope.new ≡ behind_item scope.old (view_item item.now) (typed_view.view_item j)) }
+    ensures following { IfOk result (λ j. scope.new ≡ following_item scope.old (view_item item.now) (typed_view.view_item j)) }
 {
     match item {
         Item::Statement { statement } => {
@@ -169,7 +172,7 @@ fn check_item(scope: &mut Scope<'_>, item: &Item) -> Result<typed::Item, Stop>
             of_type,
             name,
             value,
-        } => declare_local(scope, of_type, *name, value),
+        } => check_local(scope, of_type, *name, value),
         Item::Region {
             region,
             handle,
@@ -190,11 +193,11 @@ fn check_item(scope: &mut Scope<'_>, item: &Item) -> Result<typed::Item, Stop>
     }
 }
 
-/// The clauses of a catch but for a default one.
+/// Checks the clauses of a catch except a default one.
 #[cycle(statement)]
 fn check_clauses(scope: &mut Scope<'_>, clauses: &[Clause]) -> Result<Vec<typed::Clause>, Stop>
     ensures gives { Gives (λ v. typed_view.clauses_of v.items nodes.NoClauses) result (run (rule_clauses scope.old [] (clauses_of clauses.now NoClauses))) }
-    ensures behind { OnOk result (scope.new ≡ behind_clauses scope.old (clauses_of clauses.now NoClauses)) }
+    ensures following { OnOk result (scope.new ≡ after_clauses scope.old (clauses_of clauses.now NoClauses)) }
 {
     let mut before = NameSet::new(scope.alloc());
     let mut all = Vec::new(scope.alloc());
@@ -205,7 +208,7 @@ fn check_clauses(scope: &mut Scope<'_>, clauses: &[Clause]) -> Result<Vec<typed:
     Ok(all)
 }
 
-/// A clause behind those for exceptions of these names, which gets one more.
+/// Checks a clause after those for exceptions with these names, and adds its name.
 #[cycle(statement)]
 fn check_clause(
     scope: &mut Scope<'_>,
@@ -213,7 +216,7 @@ fn check_clause(
     before: &mut NameSet,
 ) -> Result<typed::Clause, Stop>
     ensures gives { Gives view_clause result (run (rule_clauses scope.old before.old (clauses_of (clause.now ∷ []) NoClauses))) }
-    ensures behind { OnOk result (scope.new ≡ behind_clauses scope.old (clauses_of (clause.now ∷ []) NoClauses)) }
+    ensures following { OnOk result (scope.new ≡ after_clauses scope.old (clauses_of (clause.now ∷ []) NoClauses)) }
     ensures before { OnOk result (before.new ≡ clause.now.exception.name.number ∷ before.old) }
 {
     let tag = caught(scope, before, clause.exception, clause.variable)?;
@@ -232,11 +235,12 @@ fn check_clause(
     })
 }
 
-/// The items of a default clause.
+/// Checks the items of a default clause.
 #[cycle(statement)]
 fn check_default(scope: &mut Scope<'_>, items: &[Item]) -> Result<typed::Body, Stop>
-    ensures gives { Gives (λ b. nodes.Default b.region (typed_view.items_of b.items.items)) result (and_then (run (rule_items (in_block scope.old) (items_of items.now))) (λ js. Ok (nodes.Default scope.old.next_region js))) }
-    ensures behind { OnOk result (scope.new ≡ behind_block scope.old (items_of items.now)) }
+    ensures gives { Gives (λ b. nodes.Default b.region (typed_view.items_of b.items.items)) result
+        (and_then (run (rule_items (in_block scope.old) (items_of items.now))) (λ js. Ok (nodes.Default scope.old.next_region js))) }
+    ensures following { OnOk result (scope.new ≡ following_block scope.old (items_of items.now)) }
 {
     let mark = scope.mark();
     let region = scope.next_region();

@@ -1,4 +1,4 @@
-//! From a tree to its typed tree, or to its fault.
+//! The typed tree of a tree, or its fault.
 ghost use Rattle.std.specs.Prelude.{◌≡◌, map};
 ghost use Rattle.cyc_words.specs.Decision.{Decides};
 ghost use Rattle.cyc_syntax.specs.inside.TreeView.{view_declaration};
@@ -7,30 +7,32 @@ ghost use Rattle.cyc_types.specs.typing.Programs.{IsTypedProgram, IsRefusedProgr
 ghost use Rattle.cyc_scope.specs.inside.Code.{Gives};
 
 use crate::functions::functions_of;
-use cyc_heads::{heads, parts_of};
+use cyc_declarations::{collect, parts_of};
 use cyc_scope::Stop;
 use cyc_syntax::Tree;
 use cyc_types::TypedTree;
 use cyc_words::Fault;
 use std::alloc::Global;
 
-/// The typed tree of a tree, exactly where the typing rules derive one.
+/// Returns the typed tree of a tree, exactly if the typing rules derive one.
 ///
-/// Otherwise the first fault is the answer: in the heads of all declarations in order, then for a `main` that is missing, at 1:1, and then
-/// in the bodies in order. Of all that one construct breaks, the lowest code counts. Any table and any node may be refused for want of
-/// memory.
+/// If the tree is not well-typed, `check` returns the first fault: in the declarations in order, then for a missing `main`, at 1:1, and
+/// then in the bodies in order. Of all faults of one construct, the one with the lowest code is returned. Any table and any node may be
+/// rejected for lack of memory.
 pub fn check(alloc: Global, tree: &Tree) -> Result<TypedTree, Fault>
-    // What is accepted has this typed tree, and what is refused has this fault.
-    ensures decides { Decides (IsTypedProgram tree.now.names (map view_declaration tree.now.declarations.items)) (λ program typed. view_program typed ≡ program) (IsRefusedProgram tree.now.names (map view_declaration tree.now.declarations.items)) (IsRefusedProgram tree.now.names (map view_declaration tree.now.declarations.items)) result }
+    // An accepted program has this typed tree, and a rejected one has this fault.
+    ensures decides { Decides (IsTypedProgram tree.now.names (map view_declaration tree.now.declarations.items))
+        (λ program typed. view_program typed ≡ program) (IsRefusedProgram tree.now.names (map view_declaration tree.now.declarations.items))
+        (IsRefusedProgram tree.now.names (map view_declaration tree.now.declarations.items)) result }
 {
     Ok(typed_tree(alloc, tree)?)
 }
 
-/// What the rules answer.
+/// Returns the result of the rules.
 fn typed_tree(alloc: Global, tree: &Tree) -> Result<TypedTree, Stop>
     ensures { Gives view_program result (check_of tree.now.names (map view_declaration tree.now.declarations.items)) }
 {
-    let program = heads(alloc, tree)?;
+    let program = collect(alloc, tree)?;
     let declarations = tree.declarations.as_slice();
     let parts = parts_of(alloc, program.known(), declarations)?;
     let functions = functions_of(alloc, &program, declarations)?;

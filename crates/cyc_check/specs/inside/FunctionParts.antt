@@ -1,4 +1,4 @@
--- A function by the number of its regions.
+-- A function by its number of regions.
 use Rattle.std.specs.Prelude.{ℕ}
 use Rattle.cyc_syntax.specs.Symbols.{Place}
 use Rattle.cyc_syntax.specs.Trees.{Named}

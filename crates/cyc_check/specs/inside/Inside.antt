@@ -1,9 +1,9 @@
--- A scope inside another: what was declared there stands in front of what was there before, so that leaving it takes that away.
+-- A scope inside another: its declarations come before the outer ones, so leaving it removes them.
 use Rattle.std.specs.Prelude.{◌≡◌, List, ◌++◌}
 use Rattle.cyc_types.specs.declared.scope.Scope.{Scope as Opened}
 use Rattle.cyc_types.specs.typing.Scopes.{Scope, RegionName, LocalVariable}
 
--- a scope with these in front, and else as another one
+-- a scope with these declarations in front, and otherwise equal to another scope
 abbrev pub extended : Scope → List LocalVariable → List RegionName → List Opened → Scope → Scope
 extended g ls ns os n = record g {
   names = ns ++ g.names;

@@ -2,7 +2,7 @@ use Rattle.std.proofs.Common.{map, option_map, ap, ◌∙◌}
 use Rattle.std.proofs.lemmas.Result.{err_from_is_err_and}
 use Rattle.cyc_syntax.specs.inside.TreeView.{place_of_span, view_name, view_type, view_member, view_parameters, items_of}
 use Rattle.cyc_types.specs.inside.SignatureView.{view_signature}
-use Rattle.cyc_types.specs.typing.Heads.{parameter_naming, signature_of}
+use Rattle.cyc_types.specs.typing.DeclarationRules.{parameter_naming, signature_of}
 use Rattle.cyc_check.proofs.FunctionLoops.{scope_of_body, body_stops}
 use Rattle.cyc_check.proofs.functions.check_function.Goals as goal
 

@@ -5,15 +5,15 @@ use Rattle.cyc_types.specs.TypedTreeView.{view_function}
 use Rattle.cyc_types.specs.Rules.{run}
 use Rattle.cyc_types.specs.typing.Programs.{known_of, program_of, rule_functions}
 use Rattle.cyc_scope.specs.inside.Code.{Stops}
-use Rattle.cyc_heads.specs.inside.Parts.{program_made}
-use Rattle.cyc_heads.proofs.HeadLemmas.{declared_is, made_is}
-use Rattle.cyc_check.proofs.ProgramLemmas.{heads_stop, bodies_stop, made}
+use Rattle.cyc_declarations.specs.inside.Parts.{program_made}
+use Rattle.cyc_declarations.proofs.DeclarationLemmas.{declared_is, made_is}
+use Rattle.cyc_check.proofs.ProgramLemmas.{declarations_stop, bodies_stop, made}
 use Rattle.cyc_check.proofs.tree.typed_tree.Goals as goal
 
 pub returns-in_err-program : goal.returns-in_err-program
 returns-in_err-program c =
     let p = err_from_is_err_and (c.from_residual).result (c.from_residual).ensures.1 in
-    rw (p.1, p.2) (heads_stop c.in_err-program.field-0.0 c.args.tree.now.names (map view_declaration c.args.tree.now.declarations.items) c.in_err-program.ensures)
+    rw (p.1, p.2) (declarations_stop c.in_err-program.field-0.0 c.args.tree.now.names (map view_declaration c.args.tree.now.declarations.items) c.in_err-program.ensures)
 
 pub returns-in_err-functions : goal.returns-in_err-functions
 returns-in_err-functions c =
