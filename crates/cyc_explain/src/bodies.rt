@@ -1,23 +1,23 @@
-//! The words for a fault in a function's body. The scope at the fault is the checker's own: it stops there. The forms of the body are asked
-//! in the order of the text, each behind its parts, where they stand at the fault.
+//! Explains a fault in a function's body. The scope at the fault is the one at which the checker stopped. The items, statements and
+//! expressions of the body are examined in the order of the text, each after its parts.
 use crate::calls::explain_call;
 use crate::expressions::{
     explain_address, explain_binary, explain_chain, explain_key, explain_name, explain_place,
     explain_target,
 };
-use crate::forms::{Form, Forms, forms_of};
-use crate::homes::Origin;
-use crate::messages::Message;
-use crate::names::explain_region_twice;
-use crate::objects::explain_made;
 use crate::statements::{
     explain_alias, explain_exception, explain_opened, explain_return, explain_swap,
     explain_written_here,
 };
-use crate::teller::Teller;
 use crate::values::explain_value;
 use cyc_check::scope_at_fault;
-use cyc_heads::{heads, members};
+use cyc_declarations::{collect, members};
+use cyc_explain_texts::forms::{Form, Forms, forms_of};
+use cyc_explain_texts::homes::Origin;
+use cyc_explain_texts::messages::Message;
+use cyc_explain_texts::names::explain_region_twice;
+use cyc_explain_texts::objects::explain_made;
+use cyc_explain_texts::teller::Teller;
 use cyc_scope::{Program, Scope};
 use cyc_syntax::{
     Block, Clause, Declaration, Expr, Ident, Item, Member, Parameters, PrefixOperator, Stmt, Tree,
@@ -28,11 +28,11 @@ use std::mem::ManuallyDrop;
 
 // ---- functions
 
-/// The words for a fault in the body of a declaration, if it stands there.
+/// Explains a fault in the body of a declaration, if it is there.
 pub(crate) fn explain_body(teller: &mut Teller, tree: &Tree, declaration: &Declaration) {
     if let Declaration::Function { body, .. } = declaration {
         if teller.is_from(body.span) && !teller.is_from(body.end) {
-            let program = ManuallyDrop::new(heads(teller.alloc, tree));
+            let program = ManuallyDrop::new(collect(teller.alloc, tree));
             if let Ok(program) = &*program {
                 explain_function(teller, program, &tree.declarations, declaration);
             }
@@ -40,7 +40,7 @@ pub(crate) fn explain_body(teller: &mut Teller, tree: &Tree, declaration: &Decla
     }
 }
 
-/// The words for a fault in the body of a function, where this is known of the program.
+/// Explains a fault in the body of a function, if the declarations of the program are valid.
 fn explain_function(
     teller: &mut Teller,
     program: &Program,
@@ -62,7 +62,7 @@ fn explain_function(
     }
 }
 
-/// The same, in the scope where the fault stands.
+/// Explains a fault in the body of a function, in the scope at the fault.
 fn explain_at_fault(
     teller: &mut Teller,
     scope: &mut Scope<'_>,
@@ -77,7 +77,7 @@ fn explain_at_fault(
     explain_forms(teller, scope, declarations, &forms);
 }
 
-/// Notes what the head of a function tells, and declares its parameters.
+/// Notes the regions and names of a function's signature, and declares its parameters.
 fn note_head(teller: &mut Teller, names: &RegionNames, name: Ident, members: &[Member]) {
     teller.notes.function = name.name.number;
     teller.notes.homes.add_parameters(names, name, members);
@@ -88,7 +88,7 @@ fn note_head(teller: &mut Teller, names: &RegionNames, name: Ident, members: &[M
     }
 }
 
-/// Asks the forms of a body, the last one first.
+/// Explains the fault in the forms of a body, which are listed last one first.
 fn explain_forms(
     teller: &mut Teller,
     scope: &mut Scope<'_>,
@@ -124,7 +124,7 @@ fn explain_form(
     }
 }
 
-/// Adds the region of a block.
+/// Adds the region of a block to the known regions.
 fn explain_begin(teller: &mut Teller, label: Option<Ident>, span: Span) {
     match label {
         Some(label) => add_region(teller, label, Origin::Block),
@@ -134,7 +134,8 @@ fn explain_begin(teller: &mut Teller, label: Option<Ident>, span: Span) {
 
 // ---- items
 
-/// The words where these items declare a local twice, or one that is declared already; behind them nothing is.
+/// Explains a local that these items declare twice or that is already declared. The names that the items declare are out of scope after the
+/// items.
 fn explain_declared(teller: &mut Teller, items: &Vec<Item>) {
     for item in items {
         match item {
@@ -148,7 +149,7 @@ fn explain_declared(teller: &mut Teller, items: &Vec<Item>) {
     teller.declared.clear();
 }
 
-/// Asks an item of a block that ends there.
+/// Explains a fault in an item of a block that ends there.
 fn explain_item(teller: &mut Teller, scope: &mut Scope<'_>, item: &Item, end: Option<Span>) {
     match item {
         Item::Statement { .. } => {}
@@ -169,7 +170,7 @@ fn explain_item(teller: &mut Teller, scope: &mut Scope<'_>, item: &Item, end: Op
     }
 }
 
-/// Asks an item that opens a region, by a key or as a new one, in a block that ends there.
+/// Explains a fault in an item that opens a region, by a key or as a new one, in a block that ends there.
 fn explain_region_item(
     teller: &mut Teller,
     scope: &Scope<'_>,
@@ -186,7 +187,7 @@ fn explain_region_item(
     }
 }
 
-/// Adds a region that has a name, which is to be new.
+/// Adds a named region, whose name must be new.
 fn add_region(teller: &mut Teller, name: Ident, origin: Origin) {
     explain_region_twice(teller, name);
     teller.notes.homes.add(Some(name), name.span, origin);
@@ -205,7 +206,7 @@ fn explain_statement(teller: &mut Teller, scope: &mut Scope<'_>, statement: &Stm
     }
 }
 
-/// Asks what stands before the items of a clause, and whether they declare its variable a second time.
+/// Explains a fault before the items of a clause, or a second declaration of its variable.
 fn explain_clause(teller: &mut Teller, scope: &Scope<'_>, clause: &Clause) {
     explain_exception(teller, scope, clause.exception);
     teller
@@ -220,7 +221,7 @@ fn explain_clause(teller: &mut Teller, scope: &Scope<'_>, clause: &Clause) {
 
 // ---- expressions
 
-/// Asks an expression, its parts and what is wanted of it apart.
+/// Explains a fault in the demands of an expression's own form, apart from its parts and from the demand on its value.
 fn explain_expression(
     teller: &mut Teller,
     scope: &mut Scope<'_>,
@@ -247,7 +248,7 @@ fn explain_expression(
     }
 }
 
-/// The same of one that asks nothing of the type of a value in it.
+/// Explains a fault in an expression that demands nothing of the type of a part.
 fn explain_plain(teller: &mut Teller, scope: &Scope<'_>, expression: &Expr) {
     match expression {
         Expr::UniqueRegion { span } => teller.tell(Message::UniqueRegionAlone, *span),

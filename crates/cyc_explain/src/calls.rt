@@ -1,13 +1,13 @@
-//! What a call asks, in the words of the caller and of the function that is called.
-use crate::conversions::{explain_conversion, say_closed, say_shorter};
-use crate::homes::Homes;
-use crate::lexicon::NO_NAME;
-use crate::messages::Message;
-use crate::names::{Sort, explain_unknown};
-use crate::teller::Teller;
+//! Explains faults in a call, in terms of the caller and of the called function.
 use cyc_check::value_type;
-use cyc_forms::types::region_of;
-use cyc_heads::members;
+use cyc_declarations::members;
+use cyc_explain_texts::conversions::{explain_conversion, say_closed, say_shorter};
+use cyc_explain_texts::homes::Homes;
+use cyc_explain_texts::lexicon::NO_NAME;
+use cyc_explain_texts::messages::Message;
+use cyc_explain_texts::names::{Sort, explain_unknown};
+use cyc_explain_texts::teller::Teller;
+use cyc_operands::types::region_of;
 use cyc_scope::{Meaning, Scope};
 use cyc_syntax::{Declaration, Expr, Ident};
 use cyc_types::typed::ValueType;
@@ -16,9 +16,9 @@ use cyc_words::{Code, Span};
 use std::alloc::Global;
 use std::mem::ManuallyDrop;
 
-// ---- regions at the call
+// ---- regions of the call
 
-/// Notes the name of a function, its regions, as its own head names them, and the name of its parameter of this number.
+/// Notes the name of a function, its regions as its own signature names them, and the name of its parameter of this number.
 fn note_theirs(
     teller: &mut Teller,
     declarations: &[Declaration],
@@ -47,7 +47,7 @@ fn note_theirs(
     }
 }
 
-/// The region at the first place of a region variable.
+/// Returns the given region that corresponds to the first occurrence of a region variable.
 fn region_among(variables: &[Region], given: &[Region], variable: Region) -> Option<Region> {
     let mut found = None;
     for i in 0..variables.len() {
@@ -58,7 +58,7 @@ fn region_among(variables: &[Region], given: &[Region], variable: Region) -> Opt
     found
 }
 
-/// The same, where the variables stand in a parameter's type.
+/// Returns the given region that corresponds to a region variable in a parameter's type.
 fn region_in(parameter: &Ty, given: &Ty, variable: Region) -> Option<Region> {
     match (parameter, given) {
         (
@@ -85,7 +85,7 @@ fn region_in(parameter: &Ty, given: &Ty, variable: Region) -> Option<Region> {
     }
 }
 
-/// The same, where the variable is the region of a pointer, a handle or a key itself.
+/// Returns the given region of a pointer, a handle or a key, if the parameter's region is this variable.
 fn region_outside(parameter: &Ty, given: &Ty, variable: Region) -> Option<Region> {
     if region_of(parameter) == variable {
         Some(region_of(given))
@@ -94,7 +94,7 @@ fn region_outside(parameter: &Ty, given: &Ty, variable: Region) -> Option<Region
     }
 }
 
-/// The same of all parameters; the heap where there is none.
+/// Returns the given region that corresponds to a region variable in all parameters; the heap if there is none.
 fn region_given(parameters: &[Ty], values: &[ValueType], variable: Region) -> Region {
     let mut found = None;
     for i in 0..parameters.len() {
@@ -105,7 +105,7 @@ fn region_given(parameters: &[Ty], values: &[ValueType], variable: Region) -> Re
     found.unwrap_or(Region::Heap)
 }
 
-/// What the region variables of a function are at a call with these values, by their numbers.
+/// Returns the regions bound to the region variables of a function, at a call with these values.
 fn instance_of(alloc: Global, signature: &Signature, values: &[ValueType]) -> Vec<Region> {
     let mut instance = Vec::new(alloc);
     for number in 0..signature.variables.saturating_add(1) {
@@ -115,9 +115,9 @@ fn instance_of(alloc: Global, signature: &Signature, values: &[ValueType]) -> Ve
     instance
 }
 
-// ---- what is asked
+// ---- demands of the called function
 
-/// The types of the values of expressions, up to one that is refused.
+/// Returns the types of the values of expressions, up to the first invalid one.
 fn values_of(scope: &mut Scope<'_>, expressions: &[Expr]) -> Vec<ValueType> {
     let mut values = Vec::new(scope.alloc());
     let mut is_known = true;
@@ -132,7 +132,7 @@ fn values_of(scope: &mut Scope<'_>, expressions: &[Expr]) -> Vec<ValueType> {
     values
 }
 
-/// The name of a region, if it has one.
+/// Returns the name of a region, if it has one.
 fn name_of(homes: &Homes, region: Region) -> Option<usize> {
     match homes.find(region) {
         Some(home) => home.name,
@@ -140,7 +140,7 @@ fn name_of(homes: &Homes, region: Region) -> Option<usize> {
     }
 }
 
-/// What a region of the function that is called is at the call.
+/// Writes the caller's region for a region of the called function.
 fn say_here(teller: &mut Teller, own: Region, here: Region) {
     teller.notes.their_regions.0 = own;
     teller.notes.regions.0 = here;
@@ -158,7 +158,7 @@ fn say_here(teller: &mut Teller, own: Region, here: Region) {
     }
 }
 
-/// The words for a constraint that a call does not keep, where the regions are these.
+/// Explains a constraint that a call violates, given these regions.
 fn explain_constraint(
     teller: &mut Teller,
     scope: &Scope<'_>,
@@ -175,7 +175,7 @@ fn explain_constraint(
     }
 }
 
-/// Says the effect of a function.
+/// Writes the effect of a function.
 fn say_effect(teller: &mut Teller, effect: &[Region]) {
     teller.say(Message::Effect);
     let mut is_first = true;
@@ -191,7 +191,7 @@ fn say_effect(teller: &mut Teller, effect: &[Region]) {
     teller.say(Message::EffectEnd);
 }
 
-/// The words for a region of an effect that is not live, where it is this one.
+/// Explains a region of an effect that is not live.
 fn explain_effect(
     teller: &mut Teller,
     scope: &Scope<'_>,
@@ -208,8 +208,7 @@ fn explain_effect(
     }
 }
 
-/// The words for an argument at this place, which is found, that is not converted to the type of its parameter, or that is a unique pointer
-/// where that is none.
+/// Explains an argument that cannot be converted to its parameter's type, or a unique pointer passed where none is expected.
 fn explain_argument(
     teller: &mut Teller,
     scope: &Scope<'_>,
@@ -218,7 +217,7 @@ fn explain_argument(
     instance: &[Region],
 ) {
     if teller.want_type(parameter.substituted(teller.alloc, instance).ok()) {
-        // What the language has beforehand names no parameter.
+        // The declaration of a built-in function names no parameter.
         let lead = if teller.notes.name == NO_NAME {
             Message::OtherType
         } else {
@@ -232,7 +231,7 @@ fn explain_argument(
     }
 }
 
-/// The words for what a function asks of regions, where its region variables are these.
+/// Explains a violated constraint of a function, given the regions bound to its variables.
 fn explain_constraints(
     teller: &mut Teller,
     scope: &Scope<'_>,
@@ -246,7 +245,7 @@ fn explain_constraints(
     }
 }
 
-/// The same of its effect.
+/// Explains a violated effect of a function, given the regions bound to its variables.
 fn explain_effects(
     teller: &mut Teller,
     scope: &Scope<'_>,
@@ -260,7 +259,7 @@ fn explain_effects(
     }
 }
 
-/// The words for a call of a function with this signature, with these values, or for the argument of this number that stands there.
+/// Explains a fault in a call of a function with this signature and these values, or in its argument of this number.
 fn explain_called(
     teller: &mut Teller,
     scope: &Scope<'_>,
@@ -284,14 +283,43 @@ fn explain_called(
     }
 }
 
-/// The words for another number of arguments than the function has parameters.
-fn explain_number(teller: &mut Teller, wanted: usize, found: usize) {
+/// Says the head of a function as it is declared; a built-in one has no declaration.
+fn say_declared(teller: &mut Teller, declarations: &[Declaration], function: Ident) {
+    for declaration in declarations {
+        if let Declaration::Function {
+            name,
+            parameters,
+            ..
+        } = declaration
+        {
+            if name.name == function.name {
+                teller.say(Message::HeadOf);
+                let members = members(parameters);
+                teller
+                    .words
+                    .put_head(&teller.notes.lexicon, function, members);
+                return;
+            }
+        }
+    }
+    teller.say(Message::PassSo);
+}
+
+/// Explains a wrong number of arguments.
+fn explain_number(
+    teller: &mut Teller,
+    declarations: &[Declaration],
+    function: Ident,
+    wanted: usize,
+    found: usize,
+) {
     if wanted != found && teller.fault.code == Code::TypeMismatch {
         teller.say_count(Message::ArgumentCount, wanted, found);
+        say_declared(teller, declarations, function);
     }
 }
 
-/// The words for a call whose name, or whose argument of this number at this place, stands at the fault.
+/// Explains a fault at the name of a call, or at its argument of this number.
 pub(crate) fn explain_call(
     teller: &mut Teller,
     scope: &mut Scope<'_>,
@@ -307,10 +335,11 @@ pub(crate) fn explain_call(
     };
     note_theirs(teller, declarations, scope.names(), function, number);
     match scope.meaning(function) {
-        Meaning::Unknown => explain_unknown(teller, scope, Sort::Value, function),
+        Meaning::Unknown => explain_unknown(teller, scope, Sort::Function, function),
         Meaning::Routine { signature, .. } => {
             if argument.is_none() {
-                explain_number(teller, signature.parameters.len(), arguments.len());
+                let (wanted, found) = (signature.parameters.len(), arguments.len());
+                explain_number(teller, declarations, function, wanted, found);
             }
             explain_called(teller, scope, function, argument, &values, signature);
         }

@@ -1,11 +1,12 @@
-//! What the forms of an expression ask of their parts, in words where that is the fault.
-use crate::messages::Message;
-use crate::names::{Sort, explain_struct_name, explain_unknown};
-use crate::teller::Teller;
-use crate::wanted::{Wanted, explain_content, explain_found, wanted_by};
-use crate::words::given;
+//! Explains violated demands of expressions on their parts.
+use crate::types::find;
 use cyc_check::value_type;
-use cyc_forms::{is_looking, span_inside, span_of};
+use cyc_explain_texts::messages::Message;
+use cyc_explain_texts::names::{Sort, explain_struct_name, explain_unknown};
+use cyc_explain_texts::teller::Teller;
+use cyc_explain_texts::wanted::{Wanted, explain_content, explain_found, wanted_by};
+use cyc_explain_texts::words::given;
+use cyc_operands::{is_looking, span_inside, span_of};
 use cyc_scope::{Meaning, Scope};
 use cyc_syntax::{BinaryOperator, Expr, Ident, Operation, Postfix, PrefixOperator};
 use cyc_types::Ty;
@@ -14,7 +15,7 @@ use cyc_words::{Code, Span};
 
 // ---- names and places
 
-/// The words for a name that is no value, or none that is read.
+/// Explains a name that is no value, or that cannot be read.
 pub(crate) fn explain_name(teller: &mut Teller, scope: &Scope<'_>, name: Ident) {
     match scope.meaning(name) {
         Meaning::Unknown => {
@@ -30,7 +31,7 @@ pub(crate) fn explain_name(teller: &mut Teller, scope: &Scope<'_>, name: Ident) 
     }
 }
 
-/// The words for what a name means at a place where a key is wanted.
+/// Explains a name that is used as a key but is none.
 pub(crate) fn explain_key(teller: &mut Teller, scope: &Scope<'_>, name: Ident) {
     explain_name(teller, scope, name);
     let of_type = match scope.meaning(name) {
@@ -42,7 +43,7 @@ pub(crate) fn explain_key(teller: &mut Teller, scope: &Scope<'_>, name: Ident) {
     }
 }
 
-/// The words for an expression that is no place.
+/// Explains an expression that is not an lvalue.
 pub(crate) fn explain_place(teller: &mut Teller, scope: &Scope<'_>, expression: &Expr) {
     let span = span_of(expression);
     if teller.is_fault(Code::NotAPlace, span) {
@@ -57,7 +58,7 @@ pub(crate) fn explain_place(teller: &mut Teller, scope: &Scope<'_>, expression: 
     }
 }
 
-/// Why an expression that is reached through no variable is no place.
+/// Returns the reason why an expression that is reached through no variable is not an lvalue.
 fn message_on_value(expression: &Expr) -> Message {
     match expression {
         Expr::Bracketed { inner, .. } => message_on_value(inner),
@@ -67,7 +68,7 @@ fn message_on_value(expression: &Expr) -> Message {
     }
 }
 
-/// The function that an expression is a call of.
+/// Returns the function that an expression calls.
 fn called(expression: &Expr) -> Option<Ident> {
     match expression {
         Expr::Bracketed { inner, .. } => called(inner),
@@ -76,7 +77,7 @@ fn called(expression: &Expr) -> Option<Ident> {
     }
 }
 
-/// Why a name that means this is no place.
+/// Returns the reason why a name with this meaning is not an lvalue.
 fn message_on_place(meaning: Meaning<'_>) -> Message {
     match meaning {
         Meaning::Fixed { .. } => Message::HandleAssigned,
@@ -85,7 +86,7 @@ fn message_on_place(meaning: Meaning<'_>) -> Message {
     }
 }
 
-/// The variable that a place is, or is reached through.
+/// Returns the variable that an lvalue is, or is reached through.
 fn root_of(expression: &Expr) -> Option<Ident> {
     match expression {
         Expr::Variable { name } => Some(*name),
@@ -100,7 +101,7 @@ fn root_of(expression: &Expr) -> Option<Ident> {
     }
 }
 
-/// The words for a place whose address is taken.
+/// Explains an lvalue whose address must not be taken.
 pub(crate) fn explain_address(teller: &mut Teller, scope: &Scope<'_>, operand: &Expr) {
     let span = span_inside(operand);
     explain_place(teller, scope, operand);
@@ -111,21 +112,21 @@ pub(crate) fn explain_address(teller: &mut Teller, scope: &Scope<'_>, operand: &
     }
 }
 
-/// The words for what a pointer leads to, where it is read at this place.
+/// Explains a fault in reading the target of a pointer at this place.
 pub(crate) fn explain_target(
     teller: &mut Teller,
     scope: &mut Scope<'_>,
     span: Span,
     pointer: &Expr,
 ) {
-    if teller.is_at(span) && teller.find(scope, pointer, true) {
-        explain_behind(teller, scope, span, None);
+    if teller.is_at(span) && find(teller, scope, pointer, true) {
+        explain_after(teller, scope, span, None);
     }
 }
 
-// ---- what a pointer leads to
+// ---- targets of pointers
 
-/// What a pointer leads to.
+/// Returns the target type of a pointer.
 fn target_of(value: &Option<ValueType>) -> Option<&Ty> {
     match value {
         Some(
@@ -137,7 +138,7 @@ fn target_of(value: &Option<ValueType>) -> Option<&Ty> {
     }
 }
 
-/// The type of the field of this name, where this is a struct that has it.
+/// Returns the type of the field with this name, if the type is a struct with such a field.
 fn type_of_field(scope: &Scope<'_>, of_type: &Ty, name: Ident) -> Option<Ty> {
     if let Ty::Struct { number, regions } = of_type {
         for field in scope.fields(*number) {
@@ -149,8 +150,8 @@ fn type_of_field(scope: &Scope<'_>, of_type: &Ty, name: Ident) -> Option<Ty> {
     None
 }
 
-/// The type of what a pointer leads to, or of the field of this name there.
-fn type_behind(scope: &Scope<'_>, pointer: &Option<ValueType>, field: Option<Ident>) -> Option<Ty> {
+/// Returns the type of a pointer's target, or of the field of this name there.
+fn type_after(scope: &Scope<'_>, pointer: &Option<ValueType>, field: Option<Ident>) -> Option<Ty> {
     let target = target_of(pointer)?;
     match field {
         Some(name) => type_of_field(scope, target, name),
@@ -158,17 +159,17 @@ fn type_behind(scope: &Scope<'_>, pointer: &Option<ValueType>, field: Option<Ide
     }
 }
 
-/// Goes on from the pointer that is found to what it leads to, or to a field there, and says what that is read for at this place.
-fn explain_behind(teller: &mut Teller, scope: &Scope<'_>, start: Span, field: Option<Ident>) {
-    let behind = type_behind(scope, &teller.notes.found, field);
-    if teller.find_type(behind) {
+/// Continues from the pointer found to its target, or to a field there, and explains a fault in reading it.
+fn explain_after(teller: &mut Teller, scope: &Scope<'_>, start: Span, field: Option<Ident>) {
+    let following = type_after(scope, &teller.notes.found, field);
+    if teller.find_type(following) {
         explain_content(teller, field, start);
     }
 }
 
 // ---- postfixes
 
-/// The field that a postfix names; an index names none.
+/// Returns the field that a postfix names; an index names none.
 fn field_of(postfix: &Postfix) -> Option<Ident> {
     match postfix {
         Postfix::Field { name } => Some(*name),
@@ -176,7 +177,7 @@ fn field_of(postfix: &Postfix) -> Option<Ident> {
     }
 }
 
-/// What the postfixes behind an operand ask, one after the other.
+/// Explains violated demands of the postfixes after an operand, in order.
 pub(crate) fn explain_chain(
     teller: &mut Teller,
     scope: &mut Scope<'_>,
@@ -185,7 +186,7 @@ pub(crate) fn explain_chain(
 ) {
     let start = span_of(base);
     if is_in_chain(teller, start, postfixes) {
-        teller.find(scope, base, true);
+        find(teller, scope, base, true);
         for postfix in postfixes {
             if matches!(teller.notes.found, Some(_)) {
                 explain_postfix(teller, scope, start, field_of(postfix));
@@ -194,7 +195,7 @@ pub(crate) fn explain_chain(
     }
 }
 
-/// Whether the fault is at the place where a chain of postfixes begins, or at a field's name.
+/// Returns true if the fault is at the beginning of a chain of postfixes, or at a field's name.
 fn is_in_chain(teller: &Teller, start: Span, postfixes: &[Postfix]) -> bool {
     let mut is_here = teller.is_at(start);
     for postfix in postfixes {
@@ -205,8 +206,8 @@ fn is_in_chain(teller: &Teller, start: Span, postfixes: &[Postfix]) -> bool {
     is_here
 }
 
-/// What a postfix asks, which names this field or is an index, of the pointer that is found, which begins at this place, and of what it
-/// leads to, which then is found.
+/// Explains a violated demand of a postfix, which names this field or is an index, on the pointer found and on its target. The target then
+/// becomes the value found.
 fn explain_postfix(teller: &mut Teller, scope: &Scope<'_>, start: Span, field: Option<Ident>) {
     match field {
         Some(name) => {
@@ -215,10 +216,10 @@ fn explain_postfix(teller: &mut Teller, scope: &Scope<'_>, start: Span, field: O
         }
         None => explain_found(teller, scope, Wanted::Fat, start),
     }
-    explain_behind(teller, scope, start, field);
+    explain_after(teller, scope, start, field);
 }
 
-/// The words for a field that the struct does not have to which the pointer that is found leads.
+/// Explains the use of a field that the pointer's struct does not have.
 fn explain_field_name(teller: &mut Teller, scope: &Scope<'_>, name: Ident) {
     let number = match target_of(&teller.notes.found) {
         Some(Ty::Struct { number, .. }) => *number,
@@ -227,9 +228,9 @@ fn explain_field_name(teller: &mut Teller, scope: &Scope<'_>, name: Ident) {
     explain_unknown(teller, scope, Sort::Field(number), name);
 }
 
-// ---- operators of two operands
+// ---- binary operators
 
-/// What the operators of a chain ask of what stands to the left of each. All but sums of pointers give ints.
+/// Explains violated demands of the operators of a chain on the value to the left of each. All results except pointer sums are ints.
 pub(crate) fn explain_binary(
     teller: &mut Teller,
     scope: &mut Scope<'_>,
@@ -238,14 +239,15 @@ pub(crate) fn explain_binary(
 ) {
     let span = span_of(first);
     let is_seen = matches!(operations.first(), Some(operation) if is_looking(operation.operator));
-    if teller.is_at(span) && teller.find(scope, first, is_seen) {
+    if teller.is_at(span) && find(teller, scope, first, is_seen) {
         for operation in operations {
             explain_operation(teller, scope, span, operation);
         }
     }
 }
 
-/// What an operation asks of its left operand, in a chain that begins at this place; then its own type is found.
+/// Explains a violated demand of an operation on its left operand, in a chain that begins at this place. The operation's own type then
+/// becomes the type found.
 fn explain_operation(
     teller: &mut Teller,
     scope: &mut Scope<'_>,
@@ -267,7 +269,7 @@ fn is_null(found: &Option<ValueType>) -> bool {
     matches!(found, Some(ValueType::Null))
 }
 
-/// The words for two values that are not compared, if both are known.
+/// Explains two values that cannot be compared, if both types are known.
 fn explain_compared(teller: &mut Teller, span: Span) {
     if matches!(teller.notes.wanted, Some(_)) {
         let is_left = given(&teller.notes.found).is_pointer();
@@ -279,7 +281,7 @@ fn explain_compared(teller: &mut Teller, span: Span) {
         } else if is_null(&teller.notes.found) || is_null(&teller.notes.wanted) {
             Message::ZeroWanted
         } else {
-            Message::Nothing
+            Message::NoComparison
         };
         if teller.is_fault(Code::TypeMismatch, span) {
             teller.say(Message::NotCompared);

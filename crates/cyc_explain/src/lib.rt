@@ -1,25 +1,15 @@
-//! What a person reads of a refusal by names, types or regions, beside its code: the rule that is broken, with the two types or regions at
-//! hand, and what to write. It is worked out only once a program is refused, so that one that is accepted pays nothing for it. The program
-//! ends behind a refusal, so what is made for the words is not let go (`ManuallyDrop`): that is proved wherever it stands.
+//! Explanations of faults in names, types or regions, in addition to the code: the violated rule, with the names and types involved, and
+//! how to repair the program. Explanations are computed only for a rejected program, so an accepted one pays nothing. The process exits
+//! after a fault, so nothing allocated for the words is dropped (`ManuallyDrop`), since every drop would have to be proved.
 #![tactic(auto)]
 
-pub use explanation::{Explanation, explain};
+pub use cyc_explain_texts::Explanation;
+pub use explanation::explain;
 
 mod bodies;
 mod calls;
-mod conversions;
-mod declarations;
 mod explanation;
 mod expressions;
-mod forms;
-mod homes;
-mod lexicon;
-mod messages;
-mod names;
-mod objects;
 mod statements;
-mod teller;
+mod types;
 mod values;
-mod wanted;
-mod words;
-mod written;

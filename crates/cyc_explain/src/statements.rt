@@ -1,13 +1,13 @@
-//! What items and statements ask of their parts, in words where that is the fault.
+//! Explains violated demands of items and statements on their parts.
 use crate::expressions::{explain_key, explain_name, explain_place};
-use crate::messages::Message;
-use crate::names::{Sort, explain_region, explain_unknown};
-use crate::teller::Teller;
-use crate::wanted::explain_content;
-use crate::written::explain_written;
 use cyc_check::place_type;
-use cyc_forms::span_of;
-use cyc_forms::types::{is_unique, region_of as region_of_type};
+use cyc_explain_texts::messages::Message;
+use cyc_explain_texts::names::{Sort, explain_region, explain_unknown};
+use cyc_explain_texts::teller::Teller;
+use cyc_explain_texts::wanted::explain_content;
+use cyc_explain_texts::written::explain_written;
+use cyc_operands::span_of;
+use cyc_operands::types::{is_unique, region_of as region_of_type};
 use cyc_scope::{Meaning, Scope};
 use cyc_syntax::{BaseType, Expr, Ident, WrittenType};
 use cyc_types::formation::{region_of, type_written};
@@ -17,7 +17,7 @@ use cyc_words::{Code, Span};
 
 // ---- statements
 
-/// The words for an exception that is not declared, or that is written with an int where it has none, or the other way round.
+/// Explains an exception that is not declared, or that is written with an int although it has none, or without although it has one.
 pub(crate) fn explain_exception(teller: &mut Teller, scope: &Scope<'_>, exception: Ident) {
     explain_unknown(teller, scope, Sort::Exception, exception);
     if let Some(known) = scope.exception(exception.name.number) {
@@ -31,7 +31,7 @@ pub(crate) fn explain_exception(teller: &mut Teller, scope: &Scope<'_>, exceptio
     teller.tell_name(Message::ClauseBefore, exception);
 }
 
-/// The type that the function at hand returns, if it returns any.
+/// Returns the result type of the current function, if it has one.
 pub(crate) fn result_type(scope: &Scope<'_>) -> Option<Ty> {
     match scope.result_type() {
         Some(of_type) => of_type.share().ok(),
@@ -39,7 +39,7 @@ pub(crate) fn result_type(scope: &Scope<'_>) -> Option<Ty> {
     }
 }
 
-/// The words for a `return` at this place without a value, or with one where the function has none.
+/// Explains a `return` without a value, or with one in a function without result.
 pub(crate) fn explain_return(teller: &mut Teller, scope: &Scope<'_>, span: Span, has_value: bool) {
     if has_value {
         if matches!(scope.result_type(), None) {
@@ -50,7 +50,7 @@ pub(crate) fn explain_return(teller: &mut Teller, scope: &Scope<'_>, span: Span,
     }
 }
 
-/// The words for a swap of what are no places, or of places of two types.
+/// Explains a swap of expressions that are not lvalues, or of lvalues of different types.
 pub(crate) fn explain_swap(teller: &mut Teller, scope: &mut Scope<'_>, left: &Expr, right: &Expr) {
     explain_place(teller, scope, left);
     explain_place(teller, scope, right);
@@ -69,13 +69,13 @@ pub(crate) fn explain_swap(teller: &mut Teller, scope: &mut Scope<'_>, left: &Ex
 
 // ---- items
 
-/// A written type in which this is left out.
+/// Returns a written type in which omitted regions become `left_out`.
 pub(crate) fn type_here(scope: &Scope<'_>, written: &WrittenType, left_out: Region) -> Option<Ty> {
     let (structs, names) = (scope.structs(), scope.names());
     type_written(scope.alloc(), structs, names, left_out, written).ok()
 }
 
-/// The words for a type that is written in a body.
+/// Explains a fault in a type that is written in a body.
 pub(crate) fn explain_written_here(teller: &mut Teller, scope: &Scope<'_>, written: &WrittenType) {
     explain_written(teller, written);
     if let BaseType::Struct { name, .. } = &written.base {
@@ -83,7 +83,7 @@ pub(crate) fn explain_written_here(teller: &mut Teller, scope: &Scope<'_>, writt
     }
 }
 
-/// The words for a region that is opened by a key.
+/// Explains a fault in a region opened by a key.
 pub(crate) fn explain_opened(teller: &mut Teller, scope: &Scope<'_>, region: Ident, key: Ident) {
     teller.notes.other = key.name.number;
     teller.tell_name(Message::KeyOfAnother, region);
@@ -91,7 +91,7 @@ pub(crate) fn explain_opened(teller: &mut Teller, scope: &Scope<'_>, region: Ide
     explain_key(teller, scope, key);
 }
 
-/// The words for an alias, whose type is that of its source but for the region.
+/// Explains a fault in an alias, whose type is that of its source except for the region.
 pub(crate) fn explain_alias(
     teller: &mut Teller,
     scope: &Scope<'_>,
@@ -121,7 +121,7 @@ pub(crate) fn explain_alias(
     }
 }
 
-/// The type of an alias with this region of a pointer of this type.
+/// Returns the type of an alias with this region, for a pointer of this type.
 fn type_lent(of_type: &Ty, region: Region) -> Option<Ty> {
     match of_type.share() {
         Ok(Ty::Pointer { kind, target, .. }) => Some(Ty::Pointer {
@@ -133,7 +133,7 @@ fn type_lent(of_type: &Ty, region: Region) -> Option<Ty> {
     }
 }
 
-/// The words for the type of an alias of a unique pointer of this type.
+/// Explains a fault in the type of an alias of a unique pointer of this type.
 fn explain_lent_type(
     teller: &mut Teller,
     scope: &Scope<'_>,

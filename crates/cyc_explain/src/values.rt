@@ -1,21 +1,22 @@
-//! What becomes of a value, in words where it may not become that.
+//! Explains values that may not be used in their role.
 use crate::calls::explain_call;
-use crate::conversions::explain_conversion;
-use crate::forms::Role;
-use crate::messages::Message;
-use crate::objects::{field_name, field_type};
 use crate::statements::{result_type, type_here};
-use crate::teller::Teller;
-use crate::wanted::explain_found;
-use crate::words::{Notes, given};
+use crate::types::find;
 use cyc_check::place_type;
-use cyc_forms::{Given, span_of};
+use cyc_explain_texts::conversions::explain_conversion;
+use cyc_explain_texts::forms::Role;
+use cyc_explain_texts::messages::Message;
+use cyc_explain_texts::objects::{field_name, field_type};
+use cyc_explain_texts::teller::Teller;
+use cyc_explain_texts::wanted::explain_found;
+use cyc_explain_texts::words::{Notes, given};
+use cyc_operands::{Given, span_of};
 use cyc_scope::Scope;
 use cyc_syntax::{Declaration, Expr, Ident, Postfix, PrefixOperator};
 use cyc_types::{Region, Ty};
 use cyc_words::Span;
 
-/// What is left out of the type of a local with this initial value.
+/// Returns the region of the type of a local with this initial value if the type omits it.
 fn left_out_of(value: Given<'_>) -> Region {
     match value {
         Given::Value(Ty::Pointer { region, .. }) => *region,
@@ -23,7 +24,7 @@ fn left_out_of(value: Given<'_>) -> Region {
     }
 }
 
-/// The type that a value is converted to, where this was found.
+/// Returns the type that a value is converted to, if it is known.
 fn type_wanted(scope: &mut Scope<'_>, role: &Role<'_>, found: Given<'_>) -> Option<Ty> {
     match role {
         Role::Operand(_) | Role::Argument(..) => None,
@@ -34,7 +35,7 @@ fn type_wanted(scope: &mut Scope<'_>, role: &Role<'_>, found: Given<'_>) -> Opti
     }
 }
 
-/// The words where a value may not become what becomes of it.
+/// Explains a value that may not be used in its role.
 pub(crate) fn explain_value(
     teller: &mut Teller,
     scope: &mut Scope<'_>,
@@ -44,7 +45,7 @@ pub(crate) fn explain_value(
 ) {
     let span = span_of(expression);
     if role.is_asked() && teller.is_at(span) {
-        if teller.find(scope, expression, role.is_looked_at()) {
+        if find(teller, scope, expression, role.is_looked_at()) {
             match role {
                 Role::Operand(wanted) => explain_found(teller, scope, *wanted, span),
                 Role::Argument(function, arguments, number) => {
@@ -57,7 +58,7 @@ pub(crate) fn explain_value(
     }
 }
 
-/// The words for a value that is found at this place, and converted to a type.
+/// Explains a fault in the conversion of the value at this place to a type.
 fn explain_converted(teller: &mut Teller, scope: &mut Scope<'_>, role: &Role<'_>, span: Span) {
     let wanted = type_wanted(scope, role, given(&teller.notes.found));
     if teller.want_type(wanted) {
@@ -66,7 +67,7 @@ fn explain_converted(teller: &mut Teller, scope: &mut Scope<'_>, role: &Role<'_>
     }
 }
 
-/// How it is said what a value becomes, whose names are noted.
+/// Returns the message on the role of a value, and notes its names.
 fn note_target(notes: &mut Notes, scope: &Scope<'_>, role: &Role<'_>) -> Message {
     match role {
         Role::Local(name, _) => {
@@ -84,7 +85,7 @@ fn note_target(notes: &mut Notes, scope: &Scope<'_>, role: &Role<'_>) -> Message
     }
 }
 
-/// The same of what is assigned to this place.
+/// Returns the message on a value assigned to this lvalue, and notes its names.
 fn note_assigned(notes: &mut Notes, target: &Expr) -> Message {
     match target {
         Expr::Bracketed { inner, .. } => note_assigned(notes, inner),
@@ -104,7 +105,7 @@ fn note_assigned(notes: &mut Notes, target: &Expr) -> Message {
     }
 }
 
-/// The name of a variable with one postfix behind it at most.
+/// Returns the name of a variable with at most one postfix.
 fn only_name(base: &Expr, postfixes: &[Postfix]) -> Option<Ident> {
     match base {
         Expr::Variable { name } if postfixes.len() < 2 => Some(*name),
@@ -112,7 +113,7 @@ fn only_name(base: &Expr, postfixes: &[Postfix]) -> Option<Ident> {
     }
 }
 
-/// Notes a name that this speaks of; where there is none, that is not said.
+/// Notes the name that a message refers to, and returns the message; without a name, `Nothing`.
 fn note_name(notes: &mut Notes, name: Option<Ident>, message: Message) -> Message {
     match name {
         Some(name) => {

@@ -1,10 +1,10 @@
-//! Words for values that are converted to a type, and for regions: that are not live, or do not outlive each other.
+//! Explains values that cannot be converted to a type, and regions that are not live or do not outlive each other.
 use crate::homes::{Home, Homes, Origin};
 use crate::lexicon::NO_NAME;
 use crate::messages::Message;
 use crate::teller::Teller;
 use crate::words::{Notes, given};
-use cyc_forms::{Given, convert};
+use cyc_operands::{Given, convert};
 use cyc_scope::{Scope, Settled};
 use cyc_types::typed::ValueType;
 use cyc_types::{Region, Ty};
@@ -12,7 +12,7 @@ use cyc_words::{Code, Span};
 
 // ---- regions that are not live
 
-/// The last end, before the fault, of a block that opens the dynamic region of this name.
+/// Returns the last end, before the fault, of a block that opens the dynamic region of this name.
 fn last_end(teller: &Teller, name: usize) -> Option<Span> {
     let mut last = None;
     for ending in &teller.endings {
@@ -23,8 +23,8 @@ fn last_end(teller: &Teller, name: usize) -> Option<Span> {
     last
 }
 
-/// Says why a region is not live.
-pub(crate) fn say_closed(teller: &mut Teller, region: Region) {
+/// Writes why a region is not live.
+pub fn say_closed(teller: &mut Teller, region: Region) {
     teller.notes.regions.0 = region;
     match teller.notes.homes.find(region) {
         Some(
@@ -59,8 +59,8 @@ pub(crate) fn say_closed(teller: &mut Teller, region: Region) {
     }
 }
 
-/// The words for a pointer or a handle that is found at this place, whose region is not live.
-pub(crate) fn explain_closed(teller: &mut Teller, scope: &Scope<'_>, span: Span) {
+/// Explains a pointer or a handle at this place whose region is not live.
+pub fn explain_closed(teller: &mut Teller, scope: &Scope<'_>, span: Span) {
     let region = given(&teller.notes.found).region();
     if teller.is_fault(Code::RegionNotLive, span) && !scope.is_live(region) {
         teller.say(Message::ClosedRegion);
@@ -70,7 +70,7 @@ pub(crate) fn explain_closed(teller: &mut Teller, scope: &Scope<'_>, span: Span)
 
 // ---- regions that do not outlive others
 
-/// Where a region begins that has this home, if there is more to say of that than what it is called.
+/// Returns the message on the origin of a region with this home, if there is more to say than its name.
 fn beginning_of(region: Region, home: Option<Home>) -> Option<Message> {
     match home {
         Some(home) => match home.origin {
@@ -87,7 +87,7 @@ fn beginning_of(region: Region, home: Option<Home>) -> Option<Message> {
     }
 }
 
-/// Says where a region begins behind a mark, if there is anything to say.
+/// Writes the origin of a region after a mark. Returns true if the region's origin gives anything to write.
 fn say_beginning(teller: &mut Teller, mark: Message, region: Region) -> bool {
     let home = teller.notes.homes.find(region);
     let beginning = beginning_of(region, home);
@@ -105,8 +105,8 @@ fn say_beginning(teller: &mut Teller, mark: Message, region: Region) -> bool {
     }
 }
 
-/// Says in a line of its own which region does not outlive which, and where each begins, and then what to do.
-pub(crate) fn say_shorter(teller: &mut Teller, region: Region, other: Region) {
+/// Writes on a separate line which region does not outlive which other one, and where both begin, and then the advice.
+pub fn say_shorter(teller: &mut Teller, region: Region, other: Region) {
     teller.notes.regions = (region, other);
     teller.say(Message::NotOutlived);
     let is_begun = say_beginning(teller, Message::FirstBeginning, region);
@@ -137,7 +137,7 @@ pub(crate) fn say_shorter(teller: &mut Teller, region: Region, other: Region) {
     }
 }
 
-/// What to do about a region of the function at hand that does not outlive another.
+/// Returns the advice about a region of the current function that does not outlive another.
 fn advice_on_regions(home: Home, other: Region, other_home: Option<Home>) -> Message {
     match other {
         Region::Unique => Message::Nothing,
@@ -153,7 +153,7 @@ fn advice_on_regions(home: Home, other: Region, other_home: Option<Home>) -> Mes
     }
 }
 
-/// The same, where the other one is of the function at hand too.
+/// Returns the advice about two regions of the current function, the first of which does not outlive the second.
 fn advice_between(home: Home, other: Home) -> Message {
     match (home.origin, other.origin) {
         (_, Origin::Dynamic) => Message::DynamicEnds,
@@ -168,7 +168,7 @@ fn advice_between(home: Home, other: Home) -> Message {
 
 // ---- conversions
 
-/// Whether two types are the same but for regions.
+/// Returns true if two types are equal except for regions.
 fn has_shape(of_type: &Ty, wanted: &Ty) -> bool {
     match (of_type, wanted) {
         (Ty::Int, Ty::Int)
@@ -194,7 +194,7 @@ fn has_shape(of_type: &Ty, wanted: &Ty) -> bool {
     }
 }
 
-/// What more there is to say of a value of another type than this.
+/// Returns a further message about a value whose type differs from the wanted one.
 fn more_on(given: Given<'_>, wanted: &Ty) -> Message {
     match (given, wanted) {
         (Given::Void, _) => Message::VoidUsed,
@@ -214,7 +214,8 @@ fn more_on(given: Given<'_>, wanted: &Ty) -> Message {
     }
 }
 
-/// The same of pointers that lead to two types. Their own marks differ as they like: it is what they lead to that is not converted.
+/// Returns a further message about pointers to different types. The outer marks of the pointer types do not matter, since only the targets
+/// cannot be converted.
 fn more_on_targets(target: &Ty, wanted: &Ty) -> Message {
     match (target, wanted) {
         _ if has_shape(target, wanted) => Message::OtherRegions,
@@ -226,7 +227,7 @@ fn more_on_targets(target: &Ty, wanted: &Ty) -> Message {
     }
 }
 
-/// Whether each region of a type has a name.
+/// Returns true if each region of a type has a name.
 fn has_names(homes: &Homes, of_type: &Ty) -> bool {
     match of_type {
         Ty::Int | Ty::Char => true,
@@ -255,7 +256,7 @@ fn is_named(homes: &Homes, region: Region) -> bool {
     }
 }
 
-/// What to write, where what is found is known to become what this lead tells and there is more to say of it.
+/// Returns the advice if the type found differs from the wanted one, for this first message and a further one, if there is any.
 fn better(notes: &Notes, lead: Message, more: Message) -> Message {
     match more {
         Message::OtherRegions | Message::OtherTarget => better_on_regions(notes, lead, more),
@@ -266,8 +267,8 @@ fn better(notes: &Notes, lead: Message, more: Message) -> Message {
     }
 }
 
-/// The struct that a pointer leads to, by its number.
-fn struct_behind(value: &Option<ValueType>) -> Option<usize> {
+/// Returns the number of the struct that a pointer refers to.
+fn struct_after(value: &Option<ValueType>) -> Option<usize> {
     match value {
         Some(
             ValueType::Value {
@@ -278,18 +279,19 @@ fn struct_behind(value: &Option<ValueType>) -> Option<usize> {
     }
 }
 
-/// Whether what is wanted is made of a new struct at this place; or what is found, for a field of one, leads to such a struct itself.
+/// Returns true if the wanted type is that of a new struct at this place. Returns true also if the value found, for a field of a new
+/// struct, refers to a new struct itself.
 fn is_of_new(notes: &Notes, lead: Message) -> bool {
     match lead {
-        Message::FieldType => struct_behind(&notes.found).is_some_and(|number| notes
+        Message::FieldType => struct_after(&notes.found).is_some_and(|number| notes
             .lexicon
             .struct_name(number)
             == notes.other),
-        _ => notes.is_new && struct_behind(&notes.wanted).is_some() && is_of_heap(&notes.found),
+        _ => notes.is_new && struct_after(&notes.wanted).is_some() && is_of_heap(&notes.found),
     }
 }
 
-/// Whether what a pointer leads to is a struct whose regions are all the heap, as where they are left out.
+/// Returns true if a pointer refers to a struct whose regions are all the heap, as when they are omitted.
 fn is_of_heap(value: &Option<ValueType>) -> bool {
     match value {
         Some(
@@ -317,7 +319,7 @@ fn are_heap(regions: &[Region]) -> bool {
     true
 }
 
-/// The number of the struct that a type is.
+/// Returns the number of the struct that a type is.
 fn struct_of(of_type: &Ty) -> Option<usize> {
     match of_type {
         Ty::Struct { number, .. } => Some(*number),
@@ -325,7 +327,7 @@ fn struct_of(of_type: &Ty) -> Option<usize> {
     }
 }
 
-/// Whether two types are pointers of any kinds to the same type but for regions.
+/// Returns true if two types are pointers of any kind to targets that are equal except for regions.
 fn lead_alike(of_type: &Ty, wanted: &Ty) -> bool {
     match (of_type, wanted) {
         (
@@ -339,7 +341,7 @@ fn lead_alike(of_type: &Ty, wanted: &Ty) -> bool {
     }
 }
 
-/// Whether what is found and what is wanted lead to pointers that differ by their marks alone.
+/// Returns true if the targets of the types found and wanted are pointers that differ only in their marks.
 fn is_of_other_mark(notes: &Notes) -> bool {
     match (&notes.found, &notes.wanted) {
         (
@@ -361,7 +363,7 @@ fn is_of_other_mark(notes: &Notes) -> bool {
     }
 }
 
-/// The same where the regions inside of a type are others, or it leads to another type.
+/// Returns the advice if regions inside the types differ, or the targets do.
 fn better_on_regions(notes: &Notes, lead: Message, more: Message) -> Message {
     let is_written = match &notes.found {
         Some(ValueType::Value { of_type }) => has_names(&notes.homes, of_type),
@@ -385,7 +387,7 @@ fn better_on_regions(notes: &Notes, lead: Message, more: Message) -> Message {
     }
 }
 
-/// The same where a new object is given for an int.
+/// Returns the advice if a new object is given for an int.
 fn better_on_made(lead: Message) -> Message {
     match lead {
         Message::LocalType | Message::VariableType => Message::PointerMade,
@@ -393,7 +395,7 @@ fn better_on_made(lead: Message) -> Message {
     }
 }
 
-/// The same where an int is given for a pointer.
+/// Returns the advice if an int is given for a pointer.
 fn better_on_null(notes: &Notes, lead: Message) -> Message {
     match lead {
         Message::VariableType => Message::ThroughWanted,
@@ -402,7 +404,7 @@ fn better_on_null(notes: &Notes, lead: Message) -> Message {
     }
 }
 
-/// The demand that is broken where what is found is converted to what is wanted; and what more there is to say of the types.
+/// Returns the demand that is violated when the type found is converted to the wanted one, and a further message about the types.
 fn broken(notes: &Notes, scope: &Scope<'_>, span: Span) -> Option<(Code, Message)> {
     if let Some(ValueType::Value { of_type }) = &notes.wanted {
         let found = given(&notes.found);
@@ -415,18 +417,15 @@ fn broken(notes: &Notes, scope: &Scope<'_>, span: Span) -> Option<(Code, Message
     None
 }
 
-/// The words for a value at this place whose type, which is found, is not converted to the one that is wanted; the lead tells what it
-/// becomes.
-pub(crate) fn explain_conversion(
-    teller: &mut Teller,
-    scope: &Scope<'_>,
-    span: Span,
-    lead: Message,
-) {
+/// Explains a value at this place whose type cannot be converted to the wanted one. `lead` is the message on the value's role.
+pub fn explain_conversion(teller: &mut Teller, scope: &Scope<'_>, span: Span, lead: Message) {
     if let Some((code, more)) = broken(&teller.notes, scope, span) {
         if teller.is_fault(code, span) {
             let more = better(&teller.notes, lead, more);
             teller.notes.lead = lead;
+            if code == Code::NotOutlived {
+                teller.say(Message::MayOutlive);
+            }
             teller.say(lead);
             match code {
                 Code::TypeMismatch => teller.say(more),

@@ -1,4 +1,4 @@
-//! What a new struct asks of its values, in words where that is the fault.
+//! Explains violated demands of a new struct on its values.
 use crate::lexicon::NO_NAME;
 use crate::messages::Message;
 use crate::names::{Sort, explain_unknown};
@@ -11,8 +11,8 @@ use cyc_types::formation::arguments_or;
 use cyc_words::Code;
 use std::mem::ManuallyDrop;
 
-/// What stands behind `new` asks, the values in it apart.
-pub(crate) fn explain_made(teller: &mut Teller, scope: &Scope<'_>, initial: &Initial) {
+/// Explains a violated demand of an initial value after `new`, except those of its parts.
+pub fn explain_made(teller: &mut Teller, scope: &Scope<'_>, initial: &Initial) {
     if let Initial::Fields {
         name,
         regions,
@@ -27,7 +27,7 @@ pub(crate) fn explain_made(teller: &mut Teller, scope: &Scope<'_>, initial: &Ini
     }
 }
 
-/// The words for a struct of this name with another number of regions or of values, which are these.
+/// Explains a struct of this name with a wrong number of regions or of values.
 fn explain_counts(
     teller: &mut Teller,
     scope: &Scope<'_>,
@@ -43,12 +43,16 @@ fn explain_counts(
             teller.say_count(Message::RegionCount, count, regions);
         } else if wanted != values {
             teller.say_count(Message::ValueCount, wanted, values);
+            teller.say(Message::ValuesOf);
+            teller
+                .words
+                .put_fields(&teller.notes.lexicon, scope.fields(number));
         }
     }
 }
 
-/// The number of the name of the field of this number, in a struct of this name.
-pub(crate) fn field_name(scope: &Scope<'_>, name: Ident, number: usize) -> usize {
+/// Returns the number of the name of the field of this number, in the struct of this name.
+pub fn field_name(scope: &Scope<'_>, name: Ident, number: usize) -> usize {
     match scope
         .fields(scope.structs().number(name.name.number))
         .get(number)
@@ -58,13 +62,8 @@ pub(crate) fn field_name(scope: &Scope<'_>, name: Ident, number: usize) -> usize
     }
 }
 
-/// The type of the field of this number, in a struct of this name with these regions.
-pub(crate) fn field_type(
-    scope: &Scope<'_>,
-    name: Ident,
-    regions: &[Ident],
-    number: usize,
-) -> Option<Ty> {
+/// Returns the type of the field of this number, in a struct of this name with these regions.
+pub fn field_type(scope: &Scope<'_>, name: Ident, regions: &[Ident], number: usize) -> Option<Ty> {
     let of_struct = scope.structs().number(name.name.number);
     let count = scope.structs().parameters(name.name.number);
     match (count, scope.fields(of_struct).get(number)) {

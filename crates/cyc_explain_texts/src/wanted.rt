@@ -1,45 +1,45 @@
-//! What is asked of one value, and how that is said.
+//! The demand on a single value, and the message about a violation.
 use crate::conversions::explain_closed;
 use crate::homes::{Home, Origin};
 use crate::messages::Message;
 use crate::teller::Teller;
 use crate::words::{Notes, given};
-use cyc_forms::Given;
-use cyc_forms::types::is_struct;
+use cyc_operands::Given;
+use cyc_operands::types::is_struct;
 use cyc_scope::Scope;
 use cyc_syntax::{BinaryOperator, Ident, PointerKind, PrefixOperator};
 use cyc_types::Ty;
 use cyc_words::{Code, Span};
 
 #[derive(Clone, Copy)]
-pub(crate) enum Wanted {
-    /// What is asked of it, if anything, hangs on more than the value.
+pub enum Wanted {
+    /// No demand, or one that depends on more than the value.
     Nothing,
-    /// A value with a type, to be put into a new object.
+    /// A value with a type, to initialise a new object.
     Content,
     Int,
-    /// What has a minus before it.
+    /// The operand of a unary minus.
     Negated,
-    /// What is added to what stands left of it.
+    /// A right operand of an addition.
     Added,
-    /// What is compared by size, or subtracted.
+    /// A value that is compared by size, or subtracted.
     Measured,
-    /// What is tested against zero or null.
+    /// A value that is tested for zero or null.
     Tested,
-    /// What is compared for equality.
+    /// A value that is compared for equality.
     Compared,
-    /// An int, or a fat pointer that moves by one.
+    /// An int, or a fat pointer that pointer arithmetic moves.
     Moved,
     Pointer,
     Fat,
-    /// A thin pointer to a struct.
+    /// A thin pointer to a struct, whose field is accessed.
     Members,
-    /// A pointer that is given back.
+    /// The expression must be a pointer that is freed.
     Freed,
     Handle,
 }
 
-/// Whether a value is an int, or a char that serves as one.
+/// Returns true if a value is an int, or a char that is used as one.
 fn is_number(given: Given<'_>) -> bool {
     given.is_int() || given.is_char()
 }
@@ -64,7 +64,7 @@ fn has_members(given: Given<'_>) -> bool {
 }
 
 impl Wanted {
-    /// What is said of a value of another type.
+    /// Returns the message on a value that violates the demand.
     fn message(self) -> Message {
         match self {
             Wanted::Nothing => Message::Nothing,
@@ -80,7 +80,7 @@ impl Wanted {
         }
     }
 
-    /// What to do about it, if there is anything to say.
+    /// Returns the advice on a value that violates the demand, if there is any.
     fn advice(self, given: Given<'_>) -> Message {
         match (self, given) {
             (_, Given::Void) => Message::VoidUsed,
@@ -115,15 +115,15 @@ impl Wanted {
         }
     }
 
-    /// Whether an operand of which this is asked is only looked at, so that a unique pointer stays where it is.
-    pub(crate) fn is_looked_at(self) -> bool {
+    /// Returns true if an operand with this demand is only examined, so that a unique pointer is not moved.
+    pub fn is_looked_at(self) -> bool {
         matches!(
             self,
             Wanted::Tested | Wanted::Compared | Wanted::Pointer | Wanted::Fat | Wanted::Members
         )
     }
 
-    /// Whether a value of this type will do.
+    /// Returns true if a value of this type satisfies the demand.
     fn allows(self, given: Given<'_>) -> bool {
         match self {
             Wanted::Nothing => true,
@@ -143,8 +143,8 @@ impl Wanted {
     }
 }
 
-/// What a prefix operator asks of its operand.
-pub(crate) fn wanted_of(operator: PrefixOperator) -> Wanted {
+/// Returns the demand of a prefix operator on its operand.
+pub fn wanted_of(operator: PrefixOperator) -> Wanted {
     match operator {
         PrefixOperator::Negate => Wanted::Negated,
         PrefixOperator::Complement => Wanted::Int,
@@ -154,8 +154,8 @@ pub(crate) fn wanted_of(operator: PrefixOperator) -> Wanted {
     }
 }
 
-/// What an operator asks of its left operand and of its right one.
-pub(crate) fn wanted_by(operator: BinaryOperator) -> (Wanted, Wanted) {
+/// Returns the demands of an operator on its left and right operands.
+pub fn wanted_by(operator: BinaryOperator) -> (Wanted, Wanted) {
     match operator {
         BinaryOperator::OrElse | BinaryOperator::AndThen => (Wanted::Tested, Wanted::Tested),
         BinaryOperator::Equal | BinaryOperator::NotEqual => (Wanted::Compared, Wanted::Compared),
@@ -169,7 +169,7 @@ pub(crate) fn wanted_by(operator: BinaryOperator) -> (Wanted, Wanted) {
     }
 }
 
-/// What is said of a region or a key that may not be what is wanted.
+/// Returns the message on a region or a key that may not be used in this way.
 fn misused(teller: &Teller, wanted: Wanted) -> Message {
     match wanted {
         Wanted::Freed => {
@@ -188,8 +188,8 @@ fn misused(teller: &Teller, wanted: Wanted) -> Message {
     }
 }
 
-/// The words where the type that is found at this place is not what is wanted, or its region is not live.
-pub(crate) fn explain_found(teller: &mut Teller, scope: &Scope<'_>, wanted: Wanted, span: Span) {
+/// Explains a value at this place whose type violates the demand, or whose region is not live.
+pub fn explain_found(teller: &mut Teller, scope: &Scope<'_>, wanted: Wanted, span: Span) {
     let found = given(&teller.notes.found);
     if teller.is_fault(Code::TypeMismatch, span) && !wanted.allows(found) {
         let advice = wanted.advice(found);
@@ -201,9 +201,9 @@ pub(crate) fn explain_found(teller: &mut Teller, scope: &Scope<'_>, wanted: Want
     explain_closed(teller, scope, span);
 }
 
-/// The words for a cell of the type that is found, the field of this name if it is one, where it is read at this place and is a struct or a
-/// unique pointer.
-pub(crate) fn explain_content(teller: &mut Teller, field: Option<Ident>, span: Span) {
+/// Explains a cell that is read as a whole at this place although it is a struct or a unique pointer. The cell is the field of this name if
+/// there is one.
+pub fn explain_content(teller: &mut Teller, field: Option<Ident>, span: Span) {
     let found = given(&teller.notes.found);
     let is_struct = matches!(found, Given::Value(Ty::Struct { .. }));
     let is_unique = found.is_unique() || found.is_key();
@@ -216,7 +216,7 @@ pub(crate) fn explain_content(teller: &mut Teller, field: Option<Ident>, span: S
     }
 }
 
-/// What is said of a unique pointer that is read where it is, in the field of this name if it is one.
+/// Returns the message on a unique pointer that is read in place, in the field of this name if there is one.
 fn message_on_unique(notes: &mut Notes, field: Option<Ident>) -> Message {
     match field {
         Some(name) => {

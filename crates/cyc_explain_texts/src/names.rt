@@ -1,4 +1,4 @@
-//! Words for names: that are not declared, where another one is near, and that are declared twice.
+//! Explains names that are not declared, possibly with a similar one nearby, and names that are declared twice.
 use crate::lexicon::Lexicon;
 use crate::messages::Message;
 use crate::teller::Teller;
@@ -6,21 +6,22 @@ use cyc_scope::{Field, Meaning, Scope};
 use cyc_syntax::{Ident, Name};
 use cyc_words::Code;
 
-/// What a name is wanted for.
+/// The kind of use of a name.
 #[derive(Clone, Copy)]
-pub(crate) enum Sort {
+pub enum Sort {
     Value,
+    Function,
     Struct,
     Exception,
     /// A field of the struct of this number.
     Field(usize),
 }
 
-/// Whether a name that stands here is declared.
+/// Returns true if a name used in this way is declared.
 fn is_known(scope: &Scope<'_>, sort: Sort, name: Ident) -> bool {
     let number = name.name.number;
     match sort {
-        Sort::Value => !matches!(scope.meaning(name), Meaning::Unknown),
+        Sort::Value | Sort::Function => !matches!(scope.meaning(name), Meaning::Unknown),
         Sort::Struct => matches!(scope.structs().parameters(number), Some(_)),
         Sort::Exception => matches!(scope.exception(number), Some(_)),
         Sort::Field(of_struct) => is_among(scope.fields(of_struct), number),
@@ -36,9 +37,9 @@ fn is_among(fields: &[Field], name: usize) -> bool {
     false
 }
 
-/// Whether texts of at least three bytes differ in one place: by a byte that is another, is missing or is too many, or by two
-/// that stand the other way round.
-pub(crate) fn is_near(a: &[u8], b: &[u8]) -> bool {
+/// Returns true if two texts of at least three bytes differ by one edit: a replaced, missing or additional byte, or two exchanged
+/// neighbours.
+pub fn is_near(a: &[u8], b: &[u8]) -> bool {
     let shortest = a.len().min(b.len());
     let mut from_start = 0usize;
     let mut from_end = 0usize;
@@ -59,7 +60,7 @@ pub(crate) fn is_near(a: &[u8], b: &[u8]) -> bool {
     shortest > 2 && alike.saturating_add(most) >= a.len().max(b.len())
 }
 
-/// A declared name that is near to this one.
+/// Returns a declared name that is similar to this one.
 fn near(lexicon: &Lexicon, scope: &Scope<'_>, sort: Sort, name: Ident) -> Option<Ident> {
     let text = lexicon.text(name.name.number);
     for number in 0..lexicon.len() {
@@ -76,20 +77,53 @@ fn near(lexicon: &Lexicon, scope: &Scope<'_>, sort: Sort, name: Ident) -> Option
     None
 }
 
-/// The words for a name that is not declared.
-pub(crate) fn explain_unknown(teller: &mut Teller, scope: &Scope<'_>, sort: Sort, name: Ident) {
+/// Returns the message on a name of this use that is not declared.
+fn message_on_unknown(sort: Sort) -> Message {
+    match sort {
+        Sort::Value => Message::NoName,
+        Sort::Function => Message::NoFunction,
+        Sort::Struct => Message::NoStruct,
+        Sort::Exception => Message::NoException,
+        Sort::Field(_) => Message::NoField,
+    }
+}
+
+/// Explains a name that is not declared.
+pub fn explain_unknown(teller: &mut Teller, scope: &Scope<'_>, sort: Sort, name: Ident) {
     if teller.is_fault(Code::UnknownName, name.span) {
-        if let Some(other) = near(&teller.notes.lexicon, scope, sort, name) {
-            teller.tell_name(Message::NearName, other);
+        teller.notes.name = name.name.number;
+        if let Sort::Field(of_struct) = sort {
+            teller.notes.other = teller.notes.lexicon.struct_name(of_struct);
         }
-        if let Sort::Value = sort {
-            let message = near_of_each(&teller.notes.lexicon, name);
-            teller.tell(message, name.span);
+        teller.say(message_on_unknown(sort));
+        match near(&teller.notes.lexicon, scope, sort, name) {
+            Some(other) => {
+                teller.notes.name = other.name.number;
+                teller.say(Message::NearName);
+            }
+            None => say_known(teller, scope, sort, name),
         }
     }
 }
 
-/// What is said where one of the functions that are there beforehand, which a text need not name elsewhere, is near.
+/// Says the names that could stand in place of this one, which is near to none that the program declares.
+fn say_known(teller: &mut Teller, scope: &Scope<'_>, sort: Sort, name: Ident) {
+    match sort {
+        Sort::Value | Sort::Function => {
+            let message = near_of_each(&teller.notes.lexicon, name);
+            teller.say(message);
+        }
+        Sort::Field(of_struct) => {
+            teller.say(Message::FieldsOf);
+            teller
+                .words
+                .put_fields(&teller.notes.lexicon, scope.fields(of_struct));
+        }
+        Sort::Struct | Sort::Exception => {}
+    }
+}
+
+/// Returns a message if the name is similar to a built-in function, which a text need not mention elsewhere.
 fn near_of_each(lexicon: &Lexicon, name: Ident) -> Message {
     let text = lexicon.text(name.name.number);
     if is_near(text, b"putchar") {
@@ -101,15 +135,15 @@ fn near_of_each(lexicon: &Lexicon, name: Ident) -> Message {
     }
 }
 
-/// The words for the name of a struct where a value is wanted.
-pub(crate) fn explain_struct_name(teller: &mut Teller, scope: &Scope<'_>, name: Ident) {
+/// Explains the name of a struct used as a value.
+pub fn explain_struct_name(teller: &mut Teller, scope: &Scope<'_>, name: Ident) {
     if is_known(scope, Sort::Struct, name) {
         teller.tell_name(Message::StructAsValue, name);
     }
 }
 
-/// The words for a region that is declared in a function which has one of this name.
-pub(crate) fn explain_region_twice(teller: &mut Teller, name: Ident) {
+/// Explains a region that is declared in a function which already has one of this name.
+pub fn explain_region_twice(teller: &mut Teller, name: Ident) {
     if teller.is_fault(Code::DeclaredTwice, name.span) {
         explain_own_region(teller, name);
         if let Some(first) = teller.notes.homes.find_named(name.name.number) {
@@ -120,15 +154,15 @@ pub(crate) fn explain_region_twice(teller: &mut Teller, name: Ident) {
     }
 }
 
-/// The words for a region that is declared with the name of its function.
+/// Explains a region that is declared with the name of its function.
 fn explain_own_region(teller: &mut Teller, name: Ident) {
     if teller.notes.function == name.name.number {
         teller.tell_name(Message::RegionOfFunction, name);
     }
 }
 
-/// The words for a region that is named where it is not in scope, or where it has the name of the function at hand.
-pub(crate) fn explain_region(teller: &mut Teller, name: Ident) {
+/// Explains a region name that is not in scope, or that equals the current function's name.
+pub fn explain_region(teller: &mut Teller, name: Ident) {
     teller.tell_name(teller.unknown, name);
     explain_own_region(teller, name);
 }

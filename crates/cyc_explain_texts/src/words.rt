@@ -1,10 +1,11 @@
-//! Lines of words: a text, in whose gaps names, places, regions and types stand as a program writes them. Where memory runs out nothing is
-//! said. No call here stops, so who says something has no way out.
+//! Lines of words: texts whose placeholders are filled with names, places, regions and types in the program's notation. If memory runs out
+//! nothing is written. The writing functions of this file never fail, so callers need no error path.
 use crate::homes::{Home, Homes, Origin};
 use crate::lexicon::{Lexicon, NO_NAME};
 use crate::messages::{Message, TEXTS};
-use cyc_forms::Given;
-use cyc_syntax::{BaseType, Ident, PointerKind, WrittenType};
+use cyc_operands::Given;
+use cyc_scope::Field;
+use cyc_syntax::{BaseType, Ident, Member, PointerKind, WrittenType};
 use cyc_types::typed::ValueType;
 use cyc_types::{Region, Ty};
 use cyc_words::Span;
@@ -12,61 +13,61 @@ use std::mem::replace;
 
 const DIGITS: &[u8] = b"0123456789";
 
-/// How many bytes fill a gap at most: a name or a type that is longer is cut, and three dots stand for the rest of it.
+/// The most bytes that fill a placeholder: a longer name or type is cut and ends in three dots.
 const MOST_FILLED: usize = 160;
 
-/// The same behind so many bytes as `MOST_WHOLE`, so that lines with many gaps stay short too.
+/// The most bytes that fill a placeholder once `MOST_WHOLE` bytes are written, so that lines with many placeholders stay short.
 const LEAST_FILLED: usize = 12;
 
-/// How many bytes there may be before gaps get fewer.
+/// The number of bytes after which placeholders get less room.
 const MOST_WHOLE: usize = 1200;
 
-/// What the gaps of a text are filled with, as it was noted last.
+/// The contents of the placeholders, as last recorded.
 #[derive(Drop)]
-pub(crate) struct Notes {
-    pub(crate) lexicon: Lexicon,
-    /// The number of the name of the function at hand; no name has that of none.
-    pub(crate) function: usize,
-    /// Its regions, and those of a function that is called.
-    pub(crate) homes: Homes,
-    pub(crate) theirs: Homes,
-    /// The number of a name, and of another one.
-    pub(crate) name: usize,
-    pub(crate) other: usize,
-    pub(crate) place: Span,
-    /// The type that is found, if it is known, and the one that is wanted.
-    pub(crate) found: Option<ValueType>,
-    /// How it is said what becomes of it.
-    pub(crate) lead: Message,
-    /// The variable whose value it is, if it is one's, and whether it is that of an object made there.
-    pub(crate) variable: usize,
-    pub(crate) is_new: bool,
-    pub(crate) wanted: Option<ValueType>,
-    /// Two regions of the function at hand, and two of the one that is called.
-    pub(crate) regions: (Region, Region),
-    pub(crate) their_regions: (Region, Region),
-    /// How many are wanted, and how many are found.
-    pub(crate) counts: (usize, usize),
+pub struct Notes {
+    pub lexicon: Lexicon,
+    /// The number of the current function's name; `NO_NAME` if there is none.
+    pub function: usize,
+    /// The regions of the current function, and those of the called one.
+    pub homes: Homes,
+    pub theirs: Homes,
+    /// The number of the current name, and of another one.
+    pub name: usize,
+    pub other: usize,
+    pub place: Span,
+    /// The type found, if it is known, and the wanted one.
+    pub found: Option<ValueType>,
+    /// The message on the role of the value found.
+    pub lead: Message,
+    /// The variable whose value was found, if any, and whether the value is a newly made object.
+    pub variable: usize,
+    pub is_new: bool,
+    pub wanted: Option<ValueType>,
+    /// Two regions of the current function, and two of the called one.
+    pub regions: (Region, Region),
+    pub their_regions: (Region, Region),
+    /// The numbers wanted and found.
+    pub counts: (usize, usize),
 }
 
-/// The lines that are said.
+/// The lines written so far.
 #[derive(Drop)]
-pub(crate) struct Words {
-    pub(crate) bytes: Vec<u8>,
-    /// What stands for each region, where anything does.
-    pub(crate) stand_in: &'static [u8],
-    /// How many bytes the gap that is filled may still take; outside of gaps any number.
-    pub(crate) room: usize,
-    /// Whether something was left out of it.
-    pub(crate) is_cut: bool,
-    /// The place that they name last, if they name one.
-    pub(crate) place: Option<Span>,
-    /// Whether memory did not run out.
-    pub(crate) is_whole: bool,
+pub struct Words {
+    pub bytes: Vec<u8>,
+    /// The text written for each region, if there is one.
+    pub stand_in: &'static [u8],
+    /// The number of bytes left for the current placeholder; unlimited outside placeholders.
+    pub room: usize,
+    /// True if a part of the placeholder's content was left out.
+    pub is_cut: bool,
+    /// The last place that the lines of this text name, if any.
+    pub place: Option<Span>,
+    /// True if memory did not run out.
+    pub is_whole: bool,
 }
 
-/// What the rules ask of a type; one that is not known has no value.
-pub(crate) fn given(value: &Option<ValueType>) -> Given<'_> {
+/// Returns a type as the typing rules see it; an unknown one has no value.
+pub fn given(value: &Option<ValueType>) -> Given<'_> {
     match value {
         Some(ValueType::Value { of_type }) => Given::Value(of_type),
         Some(ValueType::Null) => Given::Null,
@@ -90,10 +91,10 @@ fn text_on_place(origin: Origin) -> &'static [u8] {
 }
 
 impl Words {
-    // ---- texts
+    // ---- texts of messages
 
-    /// Says the text of a message, in which each `%` and the letter behind it are a gap.
-    pub(crate) fn say(&mut self, notes: &Notes, message: Message) {
+    /// Writes the text of a message, in which each `%` and the letter after it are a placeholder.
+    pub fn say(&mut self, notes: &Notes, message: Message) {
         let wanted = message as usize;
         let mut line = 0usize;
         let mut is_gap = false;
@@ -106,7 +107,7 @@ impl Words {
         }
     }
 
-    /// Says a byte of a text, which may be the letter of a gap; whether the next one is.
+    /// Writes a byte of a text, which may be the letter of a placeholder. Returns true if the next byte is one.
     fn say_byte(&mut self, notes: &Notes, byte: u8, is_gap: bool) -> bool {
         if is_gap {
             self.begin_gap();
@@ -118,13 +119,13 @@ impl Words {
         byte == b'%' && !is_gap
     }
 
-    /// From here on what is put fills a gap.
+    /// Begins a placeholder: the following bytes fill it.
     fn begin_gap(&mut self) {
         let is_long = self.bytes.len() > MOST_WHOLE;
         self.room = if is_long { LEAST_FILLED } else { MOST_FILLED };
     }
 
-    /// Here the gap ends, with dots for what was left out of it.
+    /// Ends a placeholder, with dots for the part that was left out.
     fn end_gap(&mut self) {
         self.room = usize::MAX;
         if replace(&mut self.is_cut, false) {
@@ -132,7 +133,7 @@ impl Words {
         }
     }
 
-    /// Fills the gap of this letter.
+    /// Fills the placeholder denoted by this letter.
     fn fill(&mut self, notes: &Notes, letter: u8) {
         match letter {
             b'n' => self.put_name(&notes.lexicon, notes.name),
@@ -147,7 +148,7 @@ impl Words {
         }
     }
 
-    /// The same of what is to be written.
+    /// Fills the placeholder of a text to be written.
     fn fill_written(&mut self, notes: &Notes, letter: u8) {
         match letter {
             b'g' => self.put_declared(notes),
@@ -161,7 +162,7 @@ impl Words {
         }
     }
 
-    /// The same of a region.
+    /// Fills the placeholder of a region.
     fn fill_region(&mut self, notes: &Notes, letter: u8) {
         match letter {
             b'r' => self.put_of(notes, &notes.homes, notes.regions.0),
@@ -171,7 +172,7 @@ impl Words {
         }
     }
 
-    /// The same of a number or a text.
+    /// Fills the placeholder of a number or a text.
     fn fill_plain(&mut self, notes: &Notes, letter: u8) {
         match letter {
             b'c' => self.put_number(notes.counts.0),
@@ -186,7 +187,7 @@ impl Words {
         self.put(&[byte]);
     }
 
-    /// Puts as much of some bytes as there is room for.
+    /// Writes as many bytes as there is room for.
     fn put(&mut self, bytes: &[u8]) {
         let length = bytes.len().min(self.room);
         self.is_cut = self.is_cut || length < bytes.len();
@@ -196,7 +197,7 @@ impl Words {
         }
     }
 
-    /// A number of at most ten digits.
+    /// Writes a number of at most ten digits.
     fn put_number(&mut self, number: usize) {
         let mut unit = 1_000_000_000usize;
         let mut is_begun = false;
@@ -218,14 +219,14 @@ impl Words {
         self.put_number(span.column as usize);
     }
 
-    /// The name of this number.
+    /// Writes the name of this number.
     fn put_name(&mut self, lexicon: &Lexicon, number: usize) {
         self.put(lexicon.text(number));
     }
 
     // ---- regions
 
-    /// A region by its name, or else, where that is asked for, by its place.
+    /// Writes a region by its name, or else, if requested, by its place.
     fn put_region(
         &mut self,
         lexicon: &Lexicon,
@@ -245,7 +246,7 @@ impl Words {
         }
     }
 
-    /// The same of one that begins there.
+    /// Writes the name of a region, which depends on its home.
     fn put_home(&mut self, lexicon: &Lexicon, home: Home, is_placed: bool) {
         if let Some(name) = home.name {
             self.put_byte(b'`');
@@ -256,12 +257,12 @@ impl Words {
         }
     }
 
-    /// A region of the function with these regions.
+    /// Writes a region of the function with these regions.
     fn put_of(&mut self, notes: &Notes, homes: &Homes, region: Region) {
         self.put_region(&notes.lexicon, region, homes.find(region), true);
     }
 
-    /// The regions of a type, one behind the other.
+    /// Writes the regions of a type, one after another.
     fn put_regions(&mut self, notes: &Notes, regions: &[Region]) {
         let mut is_first = true;
         for region in regions {
@@ -273,14 +274,14 @@ impl Words {
         }
     }
 
-    /// A region by its name, if it has one.
+    /// Writes a region by its name, if it has one.
     fn put_unplaced(&mut self, notes: &Notes, region: Region) {
         self.put_region(&notes.lexicon, region, notes.homes.find(region), false);
     }
 
     // ---- types
 
-    /// The type that is found, and the variable that has it.
+    /// Writes the type found, and the variable that has it.
     fn put_found(&mut self, notes: &Notes) {
         self.put_value(notes, &notes.found);
         if notes.variable != NO_NAME {
@@ -290,7 +291,7 @@ impl Words {
         }
     }
 
-    /// The type that is found, as a pointer of the kind that is wanted.
+    /// Writes the type found, as a pointer of the wanted kind.
     fn put_declared(&mut self, notes: &Notes) {
         match (&notes.found, &notes.wanted) {
             (
@@ -313,7 +314,7 @@ impl Words {
         }
     }
 
-    /// The struct that is to be made, as it stands behind `new`: the one that is wanted of what is made, or found for a field of one.
+    /// Writes the struct to be made, in the notation after `new`: the wanted one for the value itself, or the one found for a field.
     fn put_made(&mut self, notes: &Notes) {
         let made = if notes.is_new {
             &notes.wanted
@@ -336,7 +337,7 @@ impl Words {
         }
     }
 
-    /// A type in which this stands for each region.
+    /// Writes a type with this text for each region.
     fn put_in_one(&mut self, notes: &Notes, value: &Option<ValueType>, region: &'static [u8]) {
         self.stand_in = region;
         self.put_value(notes, value);
@@ -351,7 +352,7 @@ impl Words {
         }
     }
 
-    /// A type as it is written, where a region without a name is left out.
+    /// Writes a type in the program's notation, with nameless regions omitted.
     fn put_type(&mut self, notes: &Notes, of_type: &Ty) {
         match of_type {
             Ty::Pointer {
@@ -367,7 +368,7 @@ impl Words {
         }
     }
 
-    /// The same of what is no pointer.
+    /// Writes a type that is no pointer.
     fn put_base(&mut self, notes: &Notes, of_type: &Ty) {
         match of_type {
             Ty::Int | Ty::Pointer { .. } => self.put(b"int"),
@@ -383,7 +384,7 @@ impl Words {
         self.put_instance(notes, number, regions);
     }
 
-    /// A struct's name with regions, if it has any.
+    /// Writes a struct's name with its regions, if it has any.
     fn put_instance(&mut self, notes: &Notes, number: usize, regions: &[Region]) {
         self.put_name(&notes.lexicon, notes.lexicon.struct_name(number));
         if !regions.is_empty() {
@@ -399,8 +400,63 @@ impl Words {
         self.put_byte(b'>');
     }
 
-    /// A type of a global as it is written, in which what is left out is the heap.
-    pub(crate) fn put_written(&mut self, lexicon: &Lexicon, written: &WrittenType) {
+    // ---- what is declared
+
+    /// The names of some fields, one after the other.
+    pub fn put_fields(&mut self, lexicon: &Lexicon, fields: &[Field]) {
+        let mut is_first = true;
+        for field in fields {
+            self.begin_gap();
+            self.put_separated(lexicon, field.name, is_first);
+            self.end_gap();
+            is_first = false;
+        }
+    }
+
+    /// A name, after a comma if it is not the first.
+    fn put_separated(&mut self, lexicon: &Lexicon, name: usize, is_first: bool) {
+        if !is_first {
+            self.put(b", ");
+        }
+        self.put_name(lexicon, name);
+    }
+
+    /// The name of a function and its parameters, each with its type as it is written.
+    pub fn put_head(&mut self, lexicon: &Lexicon, function: Ident, members: &[Member]) {
+        self.begin_gap();
+        self.put_name(lexicon, function.name.number);
+        self.put_byte(b'(');
+        let mut is_first = true;
+        for member in members {
+            if !is_first {
+                self.put(b", ");
+            }
+            is_first = false;
+            self.put_parameter(lexicon, member);
+        }
+        self.put_byte(b')');
+        self.end_gap();
+    }
+
+    /// A parameter as it is written; the regions of a struct are left out.
+    fn put_parameter(&mut self, lexicon: &Lexicon, member: &Member) {
+        self.put_written_base(lexicon, &member.of_type.base);
+        if member.of_type.marks.is_empty() {
+            self.put_byte(b' ');
+        }
+        for mark in &member.of_type.marks {
+            self.put(mark_of(mark.kind));
+            if let Some(region) = mark.region {
+                self.put_byte(b'`');
+                self.put_name(lexicon, region.name.number);
+                self.put_byte(b' ');
+            }
+        }
+        self.put_name(lexicon, member.name.name.number);
+    }
+
+    /// Writes the type of a global in the program's notation, where omitted regions are the heap.
+    pub fn put_written(&mut self, lexicon: &Lexicon, written: &WrittenType) {
         self.begin_gap();
         self.put_written_base(lexicon, &written.base);
         for mark in &written.marks {
@@ -410,7 +466,7 @@ impl Words {
         self.end_gap();
     }
 
-    /// The same of what stands in front of its marks.
+    /// Writes the part of a written type before its marks.
     fn put_written_base(&mut self, lexicon: &Lexicon, base: &BaseType) {
         match base {
             BaseType::Int => self.put(b"int"),
@@ -427,7 +483,7 @@ impl Words {
         }
     }
 
-    /// The region behind a mark.
+    /// Writes the name of a region after a mark.
     fn put_mark_region(&mut self, lexicon: &Lexicon, region: Option<Ident>) {
         self.put_byte(b'`');
         match region {

@@ -1,7 +1,7 @@
-//! The forms of a body in the order of its text, each behind its parts, as a list: so what asks them knows of no order and calls itself
-//! nowhere.
+//! The forms of a body (items, statements, expressions) as a list in the order of the text, each after its parts; code that visits the list
+//! needs no recursion.
 use crate::wanted::{Wanted, wanted_by, wanted_of};
-use cyc_forms::span_of;
+use cyc_operands::span_of;
 use cyc_syntax::{
     Block, Clause, Expr, Ident, Initial, Item, Operation, Postfix, Stmt, WrittenType,
 };
@@ -11,30 +11,30 @@ use std::alloc::Global;
 /// More forms than any text has.
 const MOST: usize = 1_000_000;
 
-/// What becomes of the value of an expression.
+/// The position in which the value of an expression is used.
 #[derive(Clone, Copy)]
-pub(crate) enum Role<'b> {
-    /// It is what this asks for.
+pub enum Role<'b> {
+    /// The value is the operand of this demand.
     Operand(Wanted),
-    /// It is assigned to this place.
+    /// The value is assigned to this lvalue.
     Assigned(&'b Expr),
-    /// It is put into a local of this name and type.
+    /// The value initialises a local of this name and type.
     Local(Ident, &'b WrittenType),
     Returned,
-    /// It is put into the field of this number, of a struct of this name with these regions.
+    /// The value initialises the field of this number, of a struct of this name with these regions.
     Field(Ident, &'b [Ident], usize),
-    /// It is the argument of this number, of a call of this name with these.
+    /// The value is the argument of this number, in a call of this name with these arguments.
     Argument(Ident, &'b [Expr], usize),
 }
 
 impl Role<'_> {
-    /// Whether anything is asked of the value.
-    pub(crate) fn is_asked(&self) -> bool {
+    /// Returns true if there is a demand on the value.
+    pub fn is_asked(&self) -> bool {
         !matches!(self, Role::Operand(Wanted::Nothing))
     }
 
-    /// Whether the value is only looked at, so that a unique pointer stays where it is.
-    pub(crate) fn is_looked_at(&self) -> bool {
+    /// Returns true if the value is only examined, so that a unique pointer is not moved.
+    pub fn is_looked_at(&self) -> bool {
         match self {
             Role::Operand(wanted) => wanted.is_looked_at(),
             _ => false,
@@ -42,14 +42,14 @@ impl Role<'_> {
     }
 }
 
-/// What may ask something, its parts apart.
+/// A form that may have demands, without its parts.
 #[derive(Clone, Copy)]
-pub(crate) enum Form<'b> {
+pub enum Form<'b> {
     Expression {
         expression: &'b Expr,
         role: Role<'b>,
     },
-    /// A statement, and where the block around it ends; that of a function is not asked for.
+    /// A statement, and the end of the enclosing block; none for that of a function.
     Statement {
         statement: &'b Stmt,
         end: Option<Span>,
@@ -58,34 +58,34 @@ pub(crate) enum Form<'b> {
         item: &'b Item,
         end: Option<Span>,
     },
-    /// A block, in front of its items.
+    /// The beginning of a block's items.
     Items {
         items: &'b Vec<Item>,
     },
-    /// A clause, in front of its items.
+    /// The beginning of a clause's items.
     Clause {
         clause: &'b Clause,
     },
-    /// A block that begins, in front of its items: its name, or else its place.
+    /// The beginning of a block, with its name or else its place.
     Begin {
         label: Option<Ident>,
         span: Span,
     },
 }
 
-/// A list of forms that is being made.
+/// A list of forms under construction.
 #[derive(Drop)]
-pub(crate) struct Forms<'b> {
-    /// What is still to be taken apart, the next one last.
+pub struct Forms<'b> {
+    /// The forms still to be split into their parts, the next one last.
     pending: Vec<Form<'b>>,
-    /// What was taken apart: each form before its parts, and these from the last one to the first.
-    pub(crate) listed: Vec<Form<'b>>,
-    /// Whether memory did not run out, so that none is left out.
-    pub(crate) is_whole: bool,
+    /// The forms that were split: each form before its parts, and the parts from last to first.
+    pub listed: Vec<Form<'b>>,
+    /// True if memory did not run out, so that no form is missing.
+    pub is_whole: bool,
 }
 
-/// The forms of a function's body.
-pub(crate) fn forms_of<'b>(alloc: Global, body: &'b Block) -> Forms<'b> {
+/// Returns the forms of a function's body.
+pub fn forms_of<'b>(alloc: Global, body: &'b Block) -> Forms<'b> {
     let mut forms = Forms {
         pending: Vec::new(alloc),
         listed: Vec::new(alloc),
@@ -101,7 +101,7 @@ pub(crate) fn forms_of<'b>(alloc: Global, body: &'b Block) -> Forms<'b> {
 }
 
 impl<'b> Forms<'b> {
-    /// Lists the next form, if there is one, and adds its parts to what is pending.
+    /// Lists the next form, if there is one, and adds its parts to the pending ones.
     fn take_next(&mut self) -> bool {
         match self.pending.pop() {
             Some(form) => {
@@ -113,7 +113,7 @@ impl<'b> Forms<'b> {
         }
     }
 
-    /// Adds the parts of a form.
+    /// Adds the parts of a form to the list.
     fn add_parts_of(&mut self, form: &Form<'b>) {
         match form {
             Form::Expression { expression, .. } => self.add_parts(expression),
@@ -194,7 +194,7 @@ impl<'b> Forms<'b> {
         }
     }
 
-    /// Adds the parts of a statement that has no other in it, or a block of them.
+    /// Adds the parts of a statement that contains no other statement, or of a block.
     fn add_plain(&mut self, statement: &'b Stmt) {
         match statement {
             Stmt::Block { block } => self.add_block(None, block),
@@ -276,7 +276,7 @@ impl<'b> Forms<'b> {
         }
     }
 
-    /// Adds the operand of an expression that has one, and no other parts.
+    /// Adds the operand of an expression that has exactly one.
     fn add_only_operand(&mut self, expression: &'b Expr) {
         match expression {
             Expr::Bracketed { inner, .. } => self.add_operand(inner, Wanted::Nothing),
@@ -342,7 +342,7 @@ impl<'b> Forms<'b> {
     }
 }
 
-/// Where the items of a default clause begin. The clause has no place of its own; this is where its statement does.
+/// Returns the beginning of a default clause's items. A default clause stores no place, so the beginning of its statement is used.
 fn start_of(items: &Vec<Item>, around: Span) -> Span {
     match items.first() {
         Some(Item::Local { of_type, .. }) => of_type.span,

@@ -1,11 +1,11 @@
-//! Words for types as they are written.
+//! Explains faults in types as written.
 use crate::messages::Message;
 use crate::names::explain_region;
 use crate::teller::Teller;
 use cyc_syntax::{BaseType, Ident, PointerKind, WrittenType};
 use cyc_words::Code;
 
-/// The words for a struct that is written with another number of regions than it has.
+/// Explains a struct that is written with a wrong number of regions.
 fn explain_number(teller: &mut Teller, name: Ident, found: usize) {
     if let Some(count) = teller.notes.lexicon.region_count(name) {
         if found > 0 && found != count {
@@ -15,7 +15,7 @@ fn explain_number(teller: &mut Teller, name: Ident, found: usize) {
     }
 }
 
-/// What a type is that nothing has.
+/// Explains why no value can have the written type.
 fn explain_shape(teller: &mut Teller, written: &WrittenType) {
     match &written.base {
         BaseType::Int | BaseType::Char | BaseType::Handle { .. } => {}
@@ -34,15 +34,15 @@ fn explain_shape(teller: &mut Teller, written: &WrittenType) {
     }
 }
 
-/// The words for the region arguments of a struct.
-pub(crate) fn explain_arguments(teller: &mut Teller, regions: &[Ident]) {
+/// Explains a fault in the region arguments of a struct.
+pub fn explain_arguments(teller: &mut Teller, regions: &[Ident]) {
     for region in regions {
         explain_region(teller, *region);
         teller.tell_name(Message::NoArgument, *region);
     }
 }
 
-/// The words for a region of a type in front of its marks.
+/// Explains a fault in a region of a type before its marks.
 fn explain_base(teller: &mut Teller, base: &BaseType) {
     match base {
         BaseType::Int | BaseType::Char => {}
@@ -58,8 +58,8 @@ fn explain_base(teller: &mut Teller, base: &BaseType) {
     }
 }
 
-/// The words for a written type that is none.
-pub(crate) fn explain_written(teller: &mut Teller, written: &WrittenType) {
+/// Explains a written type that is invalid.
+pub fn explain_written(teller: &mut Teller, written: &WrittenType) {
     explain_base(teller, &written.base);
     for mark in &written.marks {
         if let Some(region) = mark.region {

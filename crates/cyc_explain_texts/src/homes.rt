@@ -1,58 +1,58 @@
-//! Where the regions of a function begin, and their names.
+//! The origins and names of a function's regions.
 use cyc_syntax::{BaseType, Ident, Member, WrittenType};
 use cyc_types::{Region, RegionNames};
 use cyc_words::Span;
 use std::alloc::Global;
 
-/// What makes a region.
+/// The origin of a region.
 #[derive(Clone, Copy)]
-pub(crate) enum Origin {
-    /// The caller.
+pub enum Origin {
+    /// The region is provided by the caller.
     Caller,
-    /// A block, the body of the function among them.
+    /// The region is opened by a block, possibly the function's body.
     Block,
-    /// An item that opens it.
+    /// The region is opened by an item.
     Item,
-    /// An alias.
+    /// The region is introduced by an alias.
     Alias,
-    /// An item that declares a dynamic region, or the caller that has one.
+    /// The region is dynamic: declared by an item, or provided by the caller.
     Dynamic,
 }
 
-/// A region: its name, if it has one, and where that is declared or else its block begins.
+/// A region: its name, if it has one, and the place of its declaration or of its block.
 #[derive(Clone, Copy)]
-pub(crate) struct Home {
-    pub(crate) name: Option<usize>,
-    pub(crate) span: Span,
-    pub(crate) origin: Origin,
+pub struct Home {
+    pub name: Option<usize>,
+    pub span: Span,
+    pub origin: Origin,
 }
 
-/// The regions of a function up to the fault, each at the place of its number.
+/// The regions of a function up to the fault, indexed by their numbers.
 #[derive(Drop)]
-pub(crate) struct Homes {
-    pub(crate) all: Vec<Home>,
-    /// Whether memory did not run out, so that none is left out.
-    pub(crate) is_whole: bool,
+pub struct Homes {
+    pub all: Vec<Home>,
+    /// True if memory did not run out, so that no region is missing.
+    pub is_whole: bool,
 }
 
 impl Homes {
-    pub(crate) fn new(alloc: Global) -> Homes {
+    pub fn new(alloc: Global) -> Homes {
         Homes {
             all: Vec::new(alloc),
             is_whole: true,
         }
     }
 
-    /// Where a region begins.
-    pub(crate) fn find(&self, region: Region) -> Option<Home> {
+    /// Returns the home of a region.
+    pub fn find(&self, region: Region) -> Option<Home> {
         match region {
             Region::Variable(number) => self.all.get(number).copied(),
             Region::Heap | Region::Unique => None,
         }
     }
 
-    /// Where the region of this name begins, the function's own apart.
-    pub(crate) fn find_named(&self, name: usize) -> Option<Span> {
+    /// Returns the place of the region of this name, except the function's own region.
+    pub fn find_named(&self, name: usize) -> Option<Span> {
         let mut found = None;
         for i in 1..self.all.len() {
             if self.all[i].name == Some(name) {
@@ -62,8 +62,8 @@ impl Homes {
         found
     }
 
-    /// Adds the next region.
-    pub(crate) fn add(&mut self, name: Option<Ident>, span: Span, origin: Origin) {
+    /// Adds the next region to the homes.
+    pub fn add(&mut self, name: Option<Ident>, span: Span, origin: Origin) {
         let name = match name {
             Some(name) => Some(name.name.number),
             None => None,
@@ -72,10 +72,10 @@ impl Homes {
         self.is_whole = is_added && self.is_whole;
     }
 
-    // ---- the head
+    // ---- the signature
 
-    /// Adds the regions of a function of this name: its own, and those that its parameters name or leave out.
-    pub(crate) fn add_parameters(&mut self, names: &RegionNames, own: Ident, members: &[Member]) {
+    /// Adds the regions of a function of this name: its own, and those that its parameters name or omit.
+    pub fn add_parameters(&mut self, names: &RegionNames, own: Ident, members: &[Member]) {
         self.add(Some(own), own.span, Origin::Block);
         for member in members {
             self.add_base(names, &member.of_type.base);
@@ -83,7 +83,7 @@ impl Homes {
         }
     }
 
-    /// Adds the regions of a type in front of its marks.
+    /// Adds the regions of a type before its marks.
     fn add_base(&mut self, names: &RegionNames, base: &BaseType) {
         match base {
             BaseType::Int | BaseType::Char => {}
@@ -109,7 +109,7 @@ impl Homes {
         }
     }
 
-    /// Adds the region of this name, where it is none that each function has, and not known yet.
+    /// Adds the region of this name, unless it is predefined or already known.
     fn add_named(&mut self, names: &RegionNames, name: Ident) {
         let number = name.name.number;
         let is_fixed = matches!(names.find(number), Some(Region::Heap | Region::Unique));
@@ -118,7 +118,7 @@ impl Homes {
         }
     }
 
-    /// A parameter is the key of the region of this name.
+    /// Notes that a parameter is the key of the region of this name.
     fn set_key(&mut self, name: Ident) {
         for i in 1..self.all.len() {
             if self.all[i].name == Some(name.name.number) {

@@ -1,18 +1,19 @@
-//! The names of a program, and its structs, apart from its tree: a struct with a reference to a tree makes whatever it is handed to dearer.
+//! The names and structs of a program, apart from its tree: a struct that refers to a tree would make every function that receives it more
+//! expensive to prove.
 use cyc_syntax::{Declaration, Ident, Name, Names, Tree};
 use std::alloc::Global;
 
-/// The number of no name.
-pub(crate) const NO_NAME: usize = usize::MAX;
+/// Stands for the absence of a name.
+pub const NO_NAME: usize = usize::MAX;
 
-/// Where a text begins and ends among all of them.
+/// The beginning and end of a text within the common buffer.
 #[derive(Clone, Copy)]
 struct Entry {
     start: usize,
     end: usize,
 }
 
-/// A struct: the number of its name, and how many region parameters it has.
+/// A struct: the number of its name, and its number of region parameters.
 #[derive(Clone, Copy)]
 struct Known {
     name: usize,
@@ -20,16 +21,16 @@ struct Known {
 }
 
 #[derive(Drop)]
-pub(crate) struct Lexicon {
+pub struct Lexicon {
     bytes: Vec<u8>,
     entries: Vec<Entry>,
     structs: Vec<Known>,
-    /// Whether memory did not run out.
-    pub(crate) is_whole: bool,
+    /// True if memory did not run out.
+    pub is_whole: bool,
 }
 
 impl Lexicon {
-    pub(crate) fn of(alloc: Global, tree: &Tree) -> Lexicon {
+    pub fn of(alloc: Global, tree: &Tree) -> Lexicon {
         let mut lexicon = Lexicon {
             bytes: Vec::new(alloc),
             entries: Vec::new(alloc),
@@ -51,8 +52,8 @@ impl Lexicon {
             let text = names.text(Name { number });
             let is_added = self.bytes.extend_from_slice(text).is_ok();
             let end = self.bytes.len();
-            let is_noted = self.entries.push(Entry { start, end }).is_ok();
-            self.is_whole = self.is_whole && is_added && is_noted;
+            let is_listed = self.entries.push(Entry { start, end }).is_ok();
+            self.is_whole = self.is_whole && is_added && is_listed;
         }
     }
 
@@ -61,13 +62,13 @@ impl Lexicon {
         self.is_whole = self.is_whole && is_added;
     }
 
-    /// How many names there are.
-    pub(crate) fn len(&self) -> usize {
+    /// Returns the number of names.
+    pub fn len(&self) -> usize {
         self.entries.len()
     }
 
-    /// The text of a name; that of no name is empty.
-    pub(crate) fn text(&self, number: usize) -> &[u8] {
+    /// Returns the text of a name; for `NO_NAME` it is empty.
+    pub fn text(&self, number: usize) -> &[u8] {
         match self.entries.get(number) {
             Some(entry) => match self.bytes.get(entry.start..entry.end) {
                 Some(text) => text,
@@ -77,16 +78,16 @@ impl Lexicon {
         }
     }
 
-    /// The number of the name of the struct of this number.
-    pub(crate) fn struct_name(&self, number: usize) -> usize {
+    /// Returns the number of the name of the struct of this number.
+    pub fn struct_name(&self, number: usize) -> usize {
         match self.structs.get(number) {
             Some(known) => known.name,
             None => NO_NAME,
         }
     }
 
-    /// How many region parameters the struct of this name has.
-    pub(crate) fn region_count(&self, name: Ident) -> Option<usize> {
+    /// Returns the number of region parameters of the struct of this name.
+    pub fn region_count(&self, name: Ident) -> Option<usize> {
         for known in &self.structs {
             if known.name == name.name.number {
                 return Some(known.regions);

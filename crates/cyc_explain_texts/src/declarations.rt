@@ -1,17 +1,17 @@
-//! Words for the heads of declarations, and for the values of globals.
+//! Explains faults in signatures, and in the initial values of globals.
 use crate::lexicon::NO_NAME;
 use crate::messages::Message;
 use crate::names::{explain_region, is_near};
 use crate::teller::Teller;
 use crate::written::explain_written;
-use cyc_heads::members;
+use cyc_declarations::members;
 use cyc_syntax::{
     BaseType, Constructor, Declaration, GlobalValue, Ident, Member, Parameters, WrittenType,
 };
 use cyc_words::{Code, Span};
 
-/// The words for a fault in the head of a declaration, or for a `main` that is missing.
-pub(crate) fn explain_heads(teller: &mut Teller, declarations: &[Declaration]) {
+/// Explains a fault in the signature of a declaration, or a missing `main`.
+pub fn explain_declarations(teller: &mut Teller, declarations: &[Declaration]) {
     explain_no_main(teller, declarations);
     explain_names(teller, declarations, true);
     explain_names(teller, declarations, false);
@@ -22,7 +22,7 @@ pub(crate) fn explain_heads(teller: &mut Teller, declarations: &[Declaration]) {
     }
 }
 
-/// The words for a `main` that is missing, where a function has a name that is near.
+/// Explains a missing `main` if some function has a similar name.
 fn explain_no_main(teller: &mut Teller, declarations: &[Declaration]) {
     let mut message = Message::MainMissing;
     for declaration in declarations {
@@ -36,7 +36,7 @@ fn explain_no_main(teller: &mut Teller, declarations: &[Declaration]) {
     teller.tell(message, Span { line: 1, column: 1 });
 }
 
-/// The words for structs of one name, or for globals and functions of one name.
+/// Explains structs with equal names, or globals and functions with equal names.
 fn explain_names(teller: &mut Teller, declarations: &[Declaration], is_struct: bool) {
     teller.declared.clear();
     for declaration in declarations {
@@ -51,7 +51,7 @@ fn explain_names(teller: &mut Teller, declarations: &[Declaration], is_struct: b
     }
 }
 
-/// The words for a fault in the head of a declaration.
+/// Explains a fault in the signature of a declaration.
 fn explain_head(teller: &mut Teller, declaration: &Declaration) {
     match declaration {
         Declaration::Struct {
@@ -84,7 +84,7 @@ fn explain_constructors(teller: &mut Teller, constructors: &[Constructor]) {
     }
 }
 
-/// The words for a struct, its own name apart.
+/// Explains a fault in a struct, apart from its name.
 fn explain_struct(teller: &mut Teller, regions: &[Ident], fields: &[Member]) {
     for region in regions {
         teller.declare(*region);
@@ -99,7 +99,7 @@ fn explain_struct(teller: &mut Teller, regions: &[Ident], fields: &[Member]) {
     explain_members(teller, fields);
 }
 
-/// The words for the types and names of members.
+/// Explains a fault in the types and names of members.
 fn explain_members(teller: &mut Teller, members: &[Member]) {
     for member in members {
         explain_written(teller, &member.of_type);
@@ -109,7 +109,7 @@ fn explain_members(teller: &mut Teller, members: &[Member]) {
 
 // ---- functions
 
-/// The words for a function's head.
+/// Explains a fault in a function's signature.
 fn explain_function(
     teller: &mut Teller,
     name: Ident,
@@ -126,7 +126,7 @@ fn explain_function(
     explain_asked(teller, parameters);
 }
 
-/// The words for what a function's effect and its constraints name.
+/// Explains a fault in the names of a function's effect and constraints.
 fn explain_asked(teller: &mut Teller, parameters: &Parameters) {
     for constraint in &parameters.constraints {
         explain_constrained(teller, constraint.longer);
@@ -140,13 +140,13 @@ fn explain_asked(teller: &mut Teller, parameters: &Parameters) {
     }
 }
 
-/// The words for a region of a constraint.
+/// Explains a fault in a region of a constraint.
 fn explain_constrained(teller: &mut Teller, region: Ident) {
     explain_region(teller, region);
     teller.tell_name(Message::NoConstraint, region);
 }
 
-/// What a `main` with this head has that it may not have.
+/// Returns the message on the part of a declaration of `main` that is not allowed.
 fn message_on_main(returned: &Option<WrittenType>, parameters: &Parameters) -> Message {
     if !members(parameters).is_empty() {
         Message::MainParameters
@@ -161,7 +161,7 @@ fn message_on_main(returned: &Option<WrittenType>, parameters: &Parameters) -> M
 
 // ---- globals
 
-/// The place of what a global begins with, and what that is.
+/// Returns the place and the type message of a global's initial value.
 fn initial(written: &WrittenType, value: Option<GlobalValue>) -> (Span, Message) {
     match value {
         None => (written.span, Message::FoundNoValue),
@@ -174,7 +174,7 @@ fn initial(written: &WrittenType, value: Option<GlobalValue>) -> (Span, Message)
     }
 }
 
-/// The words for a global of a type that none has, or that does not begin with a value of its type.
+/// Explains a global of a type that no global may have, or whose initial value does not have its type.
 fn explain_global(
     teller: &mut Teller,
     name: Ident,

@@ -1,0 +1,28 @@
+//! The type of an expression, as the checker computes it.
+use cyc_check::value_type;
+use cyc_explain_texts::lexicon::NO_NAME;
+use cyc_explain_texts::teller::Teller;
+use cyc_scope::Scope;
+use cyc_syntax::Expr;
+
+/// Notes the type of an expression as the type found. Returns true if the type of the expression is known. `is_looked_at` tells whether the
+/// value is only examined or also used.
+pub(crate) fn find(
+    teller: &mut Teller,
+    scope: &mut Scope<'_>,
+    value: &Expr,
+    is_looked_at: bool,
+) -> bool {
+    teller.notes.found = value_type(scope, value, is_looked_at);
+    teller.notes.variable = variable_of(value);
+    teller.notes.is_new = matches!(value, Expr::New { .. } | Expr::RegionNew { .. });
+    matches!(teller.notes.found, Some(_))
+}
+
+/// Returns the number of the name of the variable that an expression is; `NO_NAME` if it is none.
+fn variable_of(value: &Expr) -> usize {
+    match value {
+        Expr::Variable { name } => name.name.number,
+        _ => NO_NAME,
+    }
+}

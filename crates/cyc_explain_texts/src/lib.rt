@@ -1,0 +1,19 @@
+//! The texts of explanations, the teller that fills in and writes them, and the demands that depend on no expression's type. No text in
+//! this crate depends on the checker's traversal.
+#![tactic(auto)]
+
+pub use explanation::Explanation;
+
+pub mod conversions;
+pub mod declarations;
+mod explanation;
+pub mod forms;
+pub mod homes;
+pub mod lexicon;
+pub mod messages;
+pub mod names;
+pub mod objects;
+pub mod teller;
+pub mod wanted;
+pub mod words;
+pub mod written;
