@@ -1,11 +1,11 @@
 //! The values of constant expressions.
 use cyc_syntax::{BinaryOperator, Expr, Operation, PrefixOperator};
 
-/// How many expressions stand in each other at most where a value is worked out: each that has one is asked for it anew, so that without
-/// a limit the work would grow with the square of the depth.
+/// The deepest nesting of expressions that are evaluated. Each level evaluates its parts again, so without a limit the work would grow with
+/// the square of the depth.
 const DEEPEST: u32 = 12;
 
-/// The value of an expression of constants. What a run works out with signs, as a quotient of a negative number, is not worked out here.
+/// Returns the value of a constant expression. `None` if the sign of a value would matter, as in a quotient of a negative number.
 pub(crate) fn constant_of(expression: &Expr) -> Option<u32> {
     match expression {
         Expr::Number { value, .. } => Some(*value),
@@ -14,7 +14,7 @@ pub(crate) fn constant_of(expression: &Expr) -> Option<u32> {
     }
 }
 
-/// The same of one in which no more than so many expressions stand in each other.
+/// Returns the value of a constant expression nested at most `levels` deep.
 fn constant_within(expression: &Expr, levels: u32) -> Option<u32> {
     if levels == 0 {
         return None;
@@ -50,7 +50,7 @@ fn constant_within(expression: &Expr, levels: u32) -> Option<u32> {
     }
 }
 
-/// Whether there is a value behind all these operators: `computed` has none of conditions.
+/// Returns true if all these operators can be evaluated; `computed` handles no conditions.
 fn are_worked_out(operations: &[Operation]) -> bool {
     for operation in operations {
         if is_condition(operation.operator) {
@@ -60,7 +60,7 @@ fn are_worked_out(operations: &[Operation]) -> bool {
     true
 }
 
-/// Whether an operator compares, or is one of truths.
+/// Returns true if an operator is a comparison or a logical one.
 fn is_condition(operator: BinaryOperator) -> bool {
     match operator {
         BinaryOperator::OrElse
@@ -75,7 +75,7 @@ fn is_condition(operator: BinaryOperator) -> bool {
     }
 }
 
-/// What an operator makes of a value.
+/// Applies an operator to a value.
 fn changed(operator: PrefixOperator, value: u32) -> Option<u32> {
     match operator {
         PrefixOperator::Negate => Some(value.wrapping_neg()),
@@ -85,13 +85,13 @@ fn changed(operator: PrefixOperator, value: u32) -> Option<u32> {
     }
 }
 
-/// The least number that is negative as an int.
+/// The least word that is negative as an int.
 const SIGN: u32 = 1 << 31;
 
-/// The number of bits of an int, by which the count of a shift is taken.
+/// The number of bits of an int, modulo which shift counts are taken.
 const WIDTH: u32 = 32;
 
-/// What an operator makes of two values.
+/// Applies an operator to two values.
 fn computed(operator: BinaryOperator, left: u32, right: u32) -> Option<u32> {
     match operator {
         BinaryOperator::Or => Some(left | right),
@@ -110,12 +110,12 @@ fn computed(operator: BinaryOperator, left: u32, right: u32) -> Option<u32> {
     }
 }
 
-/// Whether a number of bits is no count of a shift.
+/// Returns true if a number of bits is too large or negative as a shift count.
 pub(crate) fn is_past_width(expression: &Expr) -> bool {
     is_more_than(expression, WIDTH - 1)
 }
 
-/// Whether an expression is a constant that is negative or more than this.
+/// Returns true if an expression is a constant that is negative or greater than `most`.
 pub(crate) fn is_more_than(expression: &Expr, most: u32) -> bool {
     match constant_of(expression) {
         Some(value) => value > most,

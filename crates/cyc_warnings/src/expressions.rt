@@ -1,4 +1,4 @@
-//! What expressions are warned of, and their parts.
+//! Finds warnings in expressions and their parts.
 use crate::constants::{constant_of, is_more_than, is_past_width};
 use crate::finder::Finder;
 use crate::locals::{Local, Use};
@@ -11,10 +11,10 @@ use cyc_syntax::{
 };
 use cyc_words::Span;
 
-/// The largest char.
+/// The largest value of type char.
 const LARGEST_CHAR: u32 = 255;
 
-// ---- what an expression is
+// ---- kinds of expressions
 
 pub(crate) fn is_null(expression: &Expr) -> bool {
     match expression {
@@ -24,7 +24,7 @@ pub(crate) fn is_null(expression: &Expr) -> bool {
     }
 }
 
-/// The variable that an expression is, in brackets or not.
+/// Returns the variable that an expression is, possibly in parentheses.
 fn named(expression: &Expr) -> Option<Ident> {
     match expression {
         Expr::Variable { name } => Some(*name),
@@ -33,8 +33,8 @@ fn named(expression: &Expr) -> Option<Ident> {
     }
 }
 
-/// Whether an expression does nothing but to have a value, its parts aside. What a pointer leads to, and a quotient, may throw; two minus
-/// signs have a warning of their own.
+/// Returns true if an expression has no effect apart from those of its parts. Dereferences and divisions may throw, so they do not count;
+/// two minus signs have their own warning.
 pub(crate) fn is_bare(expression: &Expr) -> bool {
     match expression {
         Expr::Number { .. }
@@ -69,7 +69,7 @@ fn is_quotient(operations: &[Operation]) -> bool {
     }
 }
 
-/// Whether this is the operand of a minus sign at this place, and begins with one that stands together with it.
+/// Returns true if this operand of a minus sign begins with another minus sign directly after it.
 fn is_double(span: Span, operand: &Expr) -> bool {
     match minus_of(operand) {
         Some(second) => is_next(span, second),
@@ -91,12 +91,12 @@ fn is_comparison(operator: BinaryOperator) -> bool {
     matches!(operator, BinaryOperator::Equal | BinaryOperator::NotEqual) || is_order(operator)
 }
 
-/// Whether an expression is a constant that is neither of the two truth values.
+/// Returns true if an expression is a constant other than 0 and 1.
 fn is_no_truth(expression: &Expr) -> bool {
     is_more_than(expression, 1)
 }
 
-/// Whether an expression is a comparison with no brackets round it.
+/// Returns true if an expression is a comparison without parentheses.
 fn is_compared(expression: &Expr) -> bool {
     match expression {
         Expr::Binary { rest, .. } => match rest.last() {
@@ -107,7 +107,7 @@ fn is_compared(expression: &Expr) -> bool {
     }
 }
 
-/// Whether an expression has a truth value, 0 or 1, as it is written.
+/// Returns true if an expression has the form of a truth value, 0 or 1.
 fn is_truth(expression: &Expr) -> bool {
     match expression {
         Expr::Bracketed { inner, .. } => is_truth(inner),
@@ -134,7 +134,7 @@ fn is_bits(operator: BinaryOperator) -> bool {
     )
 }
 
-/// What becomes of the operands of an operator.
+/// Returns how a binary operator uses its operands.
 fn use_by(operator: BinaryOperator) -> Use {
     match operator {
         BinaryOperator::OrElse
@@ -145,7 +145,7 @@ fn use_by(operator: BinaryOperator) -> Use {
     }
 }
 
-/// What becomes of the first operand of operators of one level.
+/// Returns the use of the first operand of operators of one level.
 fn use_in(operations: &[Operation]) -> Use {
     match operations.first() {
         Some(operation) => use_by(operation.operator),
@@ -153,12 +153,12 @@ fn use_in(operations: &[Operation]) -> Use {
     }
 }
 
-/// What becomes of the place that is assigned, where this becomes of the value of the assignment.
+/// Returns the use of the assigned lvalue, given the use of the assignment's value.
 fn use_of_target(use_of: Use) -> Use {
     Use::Assigned(!matches!(use_of, Use::Dropped))
 }
 
-/// What becomes of the operand of an operator.
+/// Returns how a prefix operator uses its operand.
 fn use_of_prefix(operator: PrefixOperator) -> Use {
     match operator {
         PrefixOperator::Dereference | PrefixOperator::Not => Use::Looked,
@@ -167,7 +167,7 @@ fn use_of_prefix(operator: PrefixOperator) -> Use {
     }
 }
 
-/// Where an operator of bits stands that has a comparison and something else than a truth value as its operands.
+/// Returns the place of a bitwise operator one of whose operands is an unparenthesised comparison and the other no truth value.
 fn loose_bits(first: &Expr, rest: &[Operation]) -> Option<Span> {
     let mut place = None;
     let mut is_other = !is_truth(first);
@@ -182,8 +182,8 @@ fn loose_bits(first: &Expr, rest: &[Operation]) -> Option<Span> {
     if is_other { place } else { None }
 }
 
-/// How many elements of a type are 1,000 words: four chars take one word, a fat pointer takes three. A type that is not known may be that
-/// of chars.
+/// Returns the number of elements of a type in 1,000 words: four chars take one word, a fat pointer takes three. For an unknown type it is
+/// that of chars.
 fn most_elements(element: Option<Shape>) -> u32 {
     match element {
         Some(shape) if shape.is_fat => 333,
@@ -192,7 +192,7 @@ fn most_elements(element: Option<Shape>) -> u32 {
     }
 }
 
-/// The type of a sum that begins with a value of this type, and of what else an operator works out.
+/// Returns the type of a sum that begins with a value of this type, and int for other operators.
 fn shape_of_result(first: Option<Shape>, rest: &[Operation]) -> Option<Shape> {
     match rest.last() {
         Some(operation) if is_sum(operation.operator) => match first {
@@ -208,10 +208,18 @@ fn is_sum(operator: BinaryOperator) -> bool {
     matches!(operator, BinaryOperator::Add | BinaryOperator::Subtract)
 }
 
+/// Returns true if an expression has no parts, so that a walk over it, as over most operands, takes no call.
+fn is_leaf(expression: &Expr) -> bool {
+    matches!(
+        expression,
+        Expr::Variable { .. } | Expr::Number { .. } | Expr::Character { .. } | Expr::Null { .. }
+    )
+}
+
 impl Finder {
     // ---- types
 
-    /// The type of an expression, if it is told by names.
+    /// Returns the type of an expression, if the declarations of its names determine it.
     fn shape_of(&self, expression: &Expr) -> Option<Shape> {
         match expression {
             Expr::Variable { name } => {
@@ -223,7 +231,7 @@ impl Finder {
             Expr::Call { function, .. } => self.known.result(function.name.number),
             Expr::Bracketed { inner, .. } => self.shape_of(inner),
             Expr::Assign { target, .. } => self.shape_of(target),
-            Expr::Chained { base, postfixes } => self.shape_behind(self.shape_of(base), postfixes),
+            Expr::Chained { base, postfixes } => self.shape_after(self.shape_of(base), postfixes),
             Expr::Prefixed {
                 operator: PrefixOperator::Dereference,
                 operand,
@@ -246,14 +254,14 @@ impl Finder {
         }
     }
 
-    /// The type of what postfixes lead to.
-    fn shape_behind(&self, base: Option<Shape>, postfixes: &[Postfix]) -> Option<Shape> {
+    /// Returns the type of an expression after these postfixes.
+    fn shape_after(&self, base: Option<Shape>, postfixes: &[Postfix]) -> Option<Shape> {
         let mut shape = base;
         for postfix in postfixes {
             if let Some(pointer) = shape {
                 shape = match postfix {
                     Postfix::Index { .. } => pointer.target(),
-                    Postfix::Field { name } => match pointer.struct_behind() {
+                    Postfix::Field { name } => match pointer.struct_after() {
                         Some(owner) => self.known.field(owner, name.name.number),
                         None => None,
                     },
@@ -263,7 +271,7 @@ impl Finder {
         shape
     }
 
-    /// Whether the value of an expression is a unique pointer.
+    /// Returns true if the value of an expression is a unique pointer.
     pub(crate) fn is_unique(&self, expression: &Expr) -> bool {
         match expression {
             Expr::Bracketed { inner, .. } => self.is_unique(inner),
@@ -276,21 +284,16 @@ impl Finder {
         }
     }
 
-    // ---- parts
+    // ---- parts of expressions
 
-    /// Notes what becomes of an expression that has no parts. Answers whether it has none, so that most expressions take no call.
-    fn is_noted(&mut self, expression: &Expr, use_of: Use) -> bool {
-        match expression {
-            Expr::Variable { name } => {
-                self.note(*name, use_of);
-                true
-            }
-            Expr::Number { .. } | Expr::Character { .. } | Expr::Null { .. } => true,
-            _ => false,
+    /// Notes what becomes of an expression that has no parts.
+    fn note_leaf(&mut self, expression: &Expr, use_of: Use) {
+        if let Expr::Variable { name } = expression {
+            self.note(*name, use_of);
         }
     }
 
-    /// Looks at an expression and its parts.
+    /// Examines an expression and its parts.
     #[cycle(expressions)]
     pub(crate) fn look_at(&mut self, expression: &Expr, use_of: Use) {
         match expression {
@@ -305,7 +308,9 @@ impl Finder {
             Expr::LowByteOf { value, .. } => self.look_at(value, Use::Value),
             Expr::Chained { base, postfixes } => {
                 self.look_at_first(base, postfixes);
-                if !self.is_noted(base, Use::Looked) {
+                if is_leaf(base) {
+                    self.note_leaf(base, Use::Looked);
+                } else {
                     self.look_at(base, Use::Looked);
                 }
                 for postfix in postfixes {
@@ -324,12 +329,16 @@ impl Finder {
             }
             Expr::Binary { first, rest } => {
                 self.look_at_operators(first, rest);
-                if !self.is_noted(first, use_in(rest)) {
+                if is_leaf(first) {
+                    self.note_leaf(first, use_in(rest));
+                } else {
                     self.look_at(first, use_in(rest));
                 }
                 for operation in rest {
                     let use_of = use_by(operation.operator);
-                    if !self.is_noted(&operation.operand, use_of) {
+                    if is_leaf(&operation.operand) {
+                        self.note_leaf(&operation.operand, use_of);
+                    } else {
                         self.look_at(&operation.operand, use_of);
                     }
                 }
@@ -340,7 +349,9 @@ impl Finder {
             } => {
                 self.look_at_call(*function, arguments);
                 for argument in arguments {
-                    if !self.is_noted(argument, Use::Value) {
+                    if is_leaf(argument) {
+                        self.note_leaf(argument, Use::Value);
+                    } else {
                         self.look_at(argument, Use::Value);
                     }
                 }
@@ -360,7 +371,9 @@ impl Finder {
             }
             Expr::Assign { target, value } => {
                 self.look_at_assigned(target, value);
-                if !self.is_noted(target, use_of_target(use_of)) {
+                if is_leaf(target) {
+                    self.note_leaf(target, use_of_target(use_of));
+                } else {
                     self.look_at(target, use_of_target(use_of));
                 }
                 self.look_at(value, Use::Value);
@@ -368,7 +381,7 @@ impl Finder {
         }
     }
 
-    /// Looks at what a new object begins with.
+    /// Examines the initial value of a new object.
     #[cycle(expressions)]
     fn look_at_initial(&mut self, initial: &Initial) {
         self.count_effect();
@@ -398,19 +411,19 @@ impl Finder {
         }
     }
 
-    /// One more call, assignment or object that is made or freed.
+    /// Counts one more call, assignment, allocation or deallocation.
     fn count_effect(&mut self) {
         self.effects = self.effects.saturating_add(1);
     }
 
-    /// Looks at a value that becomes a char.
+    /// Examines a value that is converted to a char.
     pub(crate) fn look_at_byte(&mut self, value: &Expr) {
         if is_more_than(value, LARGEST_CHAR) {
             self.warn(span_of(value), Warning::CharConstant);
         }
     }
 
-    /// Looks at what a global begins with.
+    /// Examines the initial value of a global.
     pub(crate) fn look_at_global(&mut self, of_type: &WrittenType, value: GlobalValue) {
         if Shape::written(of_type, self.known.unique).is_char() {
             match value {
@@ -462,7 +475,7 @@ impl Finder {
         }
     }
 
-    /// Looks at the first postfix, where it is an index of what a local may have been declared with.
+    /// Examines the first postfix, if it is an index of a local whose array length may be known.
     fn look_at_first(&mut self, base: &Expr, postfixes: &[Postfix]) {
         if let Expr::Variable { name } = base {
             if let Some(Postfix::Index { index }) = postfixes.first() {
@@ -481,7 +494,7 @@ impl Finder {
         }
     }
 
-    /// Looks at an index of the local of this number, which was declared with so many elements.
+    /// Examines an index of the local of this number, which was declared with `length` elements.
     fn look_at_number(&mut self, local: usize, length: u32, index: &Expr) {
         if let Some(value) = constant_of(index) {
             if value >= length {
@@ -490,9 +503,9 @@ impl Finder {
         }
     }
 
-    // ---- operators of two operands
+    // ---- binary operators
 
-    /// Looks at operators of one level.
+    /// Examines operators of one precedence level.
     fn look_at_operators(&mut self, first: &Expr, rest: &[Operation]) {
         let mut left = Some(first);
         let mut is_ordered = false;
@@ -517,7 +530,7 @@ impl Finder {
         }
     }
 
-    /// Looks at an operator and its right operand, and its left one where that is the first of the chain.
+    /// Examines an operator and its right operand, and also its left operand if the operator is the first of a chain.
     fn look_at_operation(&mut self, left: Option<&Expr>, operation: &Operation) {
         let (span, operand) = (operation.span, &operation.operand);
         match operation.operator {
@@ -548,7 +561,7 @@ impl Finder {
         }
     }
 
-    /// Looks at an operand of `||` or `&&`, and at the one on its left where that is the first of the chain.
+    /// Examines the right operand of `||` or `&&`, and also the left one if the operator is the first of a chain.
     fn look_at_truths(&mut self, left: Option<&Expr>, operand: &Expr) {
         if let Some(left) = left {
             if is_no_truth(left) {
@@ -560,7 +573,7 @@ impl Finder {
         }
     }
 
-    /// Whether a comparison is that of a char with a constant that no char is.
+    /// Returns true if a comparison is that of a char with a constant outside the range of chars.
     fn is_settled(&self, one: &Expr, other: &Expr) -> bool {
         is_more_than(other, LARGEST_CHAR) && self.is_char(one)
     }
@@ -573,7 +586,7 @@ impl Finder {
     }
 }
 
-/// Whether a minus sign at this place stands together with the one that its operand begins with.
+/// Returns true if a minus sign at this place is directly followed by the one that its operand begins with.
 fn is_added(span: Span, operand: &Expr) -> bool {
     match leading_minus(operand) {
         Some(second) => is_next(span, second),

@@ -1,4 +1,4 @@
-//! Who goes through a program: what names mean, what becomes of locals, and what was found.
+//! The state of the walk over a program: the meaning of names, the uses of locals, and the findings.
 use crate::known::Known;
 use crate::locals::{Local, Locals, Use};
 use crate::shapes::{OTHER, Shape};
@@ -13,9 +13,9 @@ pub(crate) struct Finder {
     pub(crate) known: Known,
     pub(crate) locals: Locals,
     found: Findings,
-    /// Whether the function gives a char.
+    /// True if the function returns a char.
     pub(crate) gives_char: bool,
-    /// How many calls, assignments and objects that are made or freed were met.
+    /// The number of calls, assignments, allocations and deallocations so far.
     pub(crate) effects: usize,
 }
 
@@ -31,7 +31,7 @@ impl Finder {
         }
     }
 
-    /// Takes what was found.
+    /// Takes the findings.
     pub(crate) fn take_found(&mut self) -> Vec<Found> {
         if self.known.is_whole && self.locals.is_whole && self.found.is_whole {
             self.found.take(self.alloc)
@@ -41,12 +41,21 @@ impl Finder {
     }
 
     pub(crate) fn warn(&mut self, span: Span, warning: Warning) {
-        self.found.add(span, warning);
+        self.warn_after(span, warning, span);
+    }
+
+    /// Adds a warning that names the word at another place.
+    pub(crate) fn warn_after(&mut self, span: Span, warning: Warning, named: Span) {
+        self.found.add(Found {
+            span,
+            warning,
+            named,
+        });
     }
 
     // ---- functions
 
-    /// Goes through a function.
+    /// Traverses a function.
     pub(crate) fn look_over(
         &mut self,
         returned: &Option<WrittenType>,
@@ -73,7 +82,7 @@ impl Finder {
         }
     }
 
-    /// Says what became of the locals of a function, and forgets them.
+    /// Reports the warnings about a function's locals, and forgets the locals.
     fn end_function(&mut self) {
         for i in 0..self.locals.all.len() {
             if let Some(local) = self.locals.all.get(i) {
@@ -107,14 +116,14 @@ impl Finder {
         self.declare(name, Local::new(name.span, OTHER));
     }
 
-    /// Notes what is done with the local of a name.
+    /// Notes a use of the local of a name.
     pub(crate) fn note(&mut self, name: Ident, use_of: Use) {
         if let Some(local) = self.locals.all.get_mut(self.known.local(name.name.number)) {
             local.note(use_of);
         }
     }
 
-    /// Notes that the local of a name gets a value.
+    /// Notes that the local of a name receives a value.
     pub(crate) fn fill(&mut self, name: Ident) {
         if let Some(local) = self.locals.all.get_mut(self.known.local(name.name.number)) {
             local.is_filled = true;

@@ -5,8 +5,8 @@ use crate::warning::{Found, Warning};
 use cyc_syntax::{Declaration, Tree};
 use std::alloc::Global;
 
-/// What a program is warned of, whose text is accepted: in the order of the places, the first ones, and one more than are said. Where memory
-/// runs out there is nothing.
+/// Returns the warnings of an accepted program, in the order of their places: the first ones, and one more than are shown. If memory runs
+/// out, no warnings are found.
 pub fn find_warnings(alloc: Global, tree: &Tree, text: &[u8]) -> Vec<Found> {
     let mut finder = Finder::new(alloc, tree);
     for declaration in &tree.declarations {

@@ -1,9 +1,9 @@
-//! Characters that a person does not see, or that turn the direction in which what stands round them is shown. In a text that is accepted
-//! they stand in comments alone, of which the tree has nothing: they are looked for in its bytes.
+//! Finds characters that are invisible or change the direction of the surrounding text. In an accepted text they can occur only in
+//! comments, which the tree does not contain, so the search reads the bytes.
 use cyc_words::Span;
 
-/// Whether the first three of some bytes are such a character in UTF-8, or begin one: a control character beyond ASCII, a mark, an embedding
-/// or an isolate of bidirectional text, a space or a joiner of no width, a separator of lines, the byte-order mark, a tag.
+/// Returns true if three bytes are, or begin, a hidden character in UTF-8. Hidden characters are control characters beyond ASCII;
+/// bidirectional marks, embeddings and isolates; zero-width spaces and joiners; line separators; the byte-order mark; and tags.
 fn is_hidden(bytes: [u8; 3]) -> bool {
     matches!(
         bytes,
@@ -16,7 +16,7 @@ fn is_hidden(bytes: [u8; 3]) -> bool {
     )
 }
 
-/// The byte at a place; 0 behind the last.
+/// Returns the byte at a position, or 0 past the end.
 fn byte_at(text: &[u8], place: usize) -> u8 {
     match text.get(place) {
         Some(byte) => *byte,
@@ -24,7 +24,7 @@ fn byte_at(text: &[u8], place: usize) -> u8 {
     }
 }
 
-/// Whether a text has a byte beyond ASCII, as most have not.
+/// Returns true if a text has a byte beyond ASCII, which most have not.
 fn has_other_than_ascii(text: &[u8]) -> bool {
     let mut all = 0_u8;
     for byte in text {
@@ -33,7 +33,7 @@ fn has_other_than_ascii(text: &[u8]) -> bool {
     !all.is_ascii()
 }
 
-/// The place of the first such character of a text.
+/// Returns the place of the first hidden character of a text.
 pub(crate) fn find_hidden(text: &[u8]) -> Option<Span> {
     if !has_other_than_ascii(text) {
         return None;

@@ -1,20 +1,20 @@
-//! What names mean: the declarations of a program, and the locals in scope, each found in constant time.
+//! The meaning of names: the declarations of a program and the locals in scope, each found in constant time.
 use crate::shapes::Shape;
 use cyc_syntax::{Declaration, Member, ParameterList, Tree, WrittenType};
 use std::alloc::Global;
 
-/// The number of no name, no local and no field.
+/// Stands for the absence of a name, a local or a field.
 const NONE: usize = usize::MAX;
 
-/// What a name means where it is no local.
+/// The meaning of a name other than a local.
 #[derive(Clone, Copy)]
 struct Entry {
     global: Option<Shape>,
-    /// The result of the function.
+    /// The type of the function's result.
     result: Option<Shape>,
-    /// Where the fields of the struct begin.
+    /// The index of the struct's first field.
     fields: usize,
-    /// Where the parameters of the function begin.
+    /// The index of the function's first parameter.
     parameters: usize,
 }
 
@@ -33,29 +33,29 @@ struct Field {
     shape: Shape,
 }
 
-/// A name that is in scope, and the local that it was before.
+/// A name in scope, and the local that it denoted before.
 #[derive(Clone, Copy)]
 struct Binding {
     name: usize,
     hidden: usize,
 }
 
-/// What names mean at a place of a program.
+/// The meaning of names at a place of a program.
 #[derive(Drop)]
 pub(crate) struct Known {
-    /// By the numbers of the names.
+    /// The meanings, indexed by name number.
     entries: Vec<Entry>,
-    /// By them too, the numbers of the locals.
+    /// The numbers of the locals, indexed by name number.
     locals: Vec<usize>,
-    /// Those of one struct stand together.
+    /// The fields; those of one struct are adjacent.
     fields: Vec<Field>,
-    /// Of each parameter whether it is a char; those of one function stand together.
+    /// For each parameter whether it is a char; those of one function are adjacent.
     parameters: Vec<bool>,
     /// The names of locals in scope, the newest last.
     bindings: Vec<Binding>,
-    /// The number of the name that the region of unique pointers has.
+    /// The name number of the region of unique pointers.
     pub(crate) unique: usize,
-    /// Whether memory did not run out.
+    /// True if memory did not run out.
     pub(crate) is_whole: bool,
 }
 
@@ -110,7 +110,7 @@ impl Known {
         }
     }
 
-    /// The type of what a function gives, if it gives something.
+    /// Returns the type of a function's result, if it has one.
     pub(crate) fn shape_of_result(&self, returned: &Option<WrittenType>) -> Option<Shape> {
         match returned {
             Some(written) => Some(Shape::written(written, self.unique)),
@@ -142,12 +142,12 @@ impl Known {
 
     // ---- locals
 
-    /// How many names of locals are in scope.
+    /// Returns the number of names of locals in scope.
     pub(crate) fn depth(&self) -> usize {
         self.bindings.len()
     }
 
-    /// From here on a name is the local of this number.
+    /// Binds a name to the local of this number.
     pub(crate) fn bind(&mut self, name: usize, number: usize) {
         if let Some(local) = self.locals.get_mut(name) {
             let hidden = *local;
@@ -156,7 +156,7 @@ impl Known {
         }
     }
 
-    /// Forgets all but so many of the oldest names of locals.
+    /// Unbinds all but the `depth` oldest names of locals.
     pub(crate) fn unbind(&mut self, depth: usize) {
         for _ in depth..self.bindings.len() {
             if let Some(binding) = self.bindings.pop() {
@@ -167,9 +167,9 @@ impl Known {
         }
     }
 
-    // ---- what a name means
+    // ---- meanings of names
 
-    /// The number of the local of a name, or that of none.
+    /// Returns the number of the local of a name, or `NONE`.
     pub(crate) fn local(&self, name: usize) -> usize {
         match self.locals.get(name) {
             Some(number) => *number,
@@ -177,7 +177,7 @@ impl Known {
         }
     }
 
-    /// The type of the global of a name.
+    /// Returns the type of the global of a name.
     pub(crate) fn global(&self, name: usize) -> Option<Shape> {
         match self.entries.get(name) {
             Some(entry) => entry.global,
@@ -185,7 +185,7 @@ impl Known {
         }
     }
 
-    /// The type of the result of the function of a name.
+    /// Returns the result type of the function of a name.
     pub(crate) fn result(&self, name: usize) -> Option<Shape> {
         match self.entries.get(name) {
             Some(entry) => entry.result,
@@ -193,7 +193,7 @@ impl Known {
         }
     }
 
-    /// Whether the parameter of this number is a char, of the function of a name.
+    /// Returns true if the parameter of this number, of the function of a name, is a char.
     pub(crate) fn takes_char(&self, function: usize, number: usize) -> bool {
         let start = match self.entries.get(function) {
             Some(entry) => entry.parameters,
@@ -205,7 +205,7 @@ impl Known {
         }
     }
 
-    /// Whether the field of this number is a char, of the struct of a name.
+    /// Returns true if the field of this number, of the struct of a name, is a char.
     pub(crate) fn keeps_char(&self, owner: usize, number: usize) -> bool {
         let start = match self.entries.get(owner) {
             Some(entry) => entry.fields,
@@ -217,7 +217,7 @@ impl Known {
         }
     }
 
-    /// The type of a field of the struct of a name.
+    /// Returns the type of a field of the struct of a name.
     pub(crate) fn field(&self, owner: usize, name: usize) -> Option<Shape> {
         let start = match self.entries.get(owner) {
             Some(entry) => entry.fields,

@@ -1,5 +1,5 @@
-//! What an accepted text has that most likely means something else than its author thinks. It is found on the tree that is written, with
-//! what the heads of its declarations say of types: no phase of the compiler knows of it, and it changes nothing of what they answer.
+//! Warnings: parts of an accepted text that most likely do not mean what their author intended. Warnings are found on the syntax tree with
+//! the types of its declarations. No phase of the compiler depends on warnings, and they change no result.
 #![tactic(auto)]
 
 pub use finding::find_warnings;

@@ -1,44 +1,44 @@
-//! The locals of a function, and what becomes of each.
+//! The locals of a function, and how each is used.
 use crate::shapes::Shape;
 use crate::warning::Warning;
 use cyc_words::Span;
 use std::alloc::Global;
 
-/// What becomes of the value of an expression, or what is done at a place.
+/// The use of an expression's value, or of an lvalue.
 #[derive(Clone, Copy)]
 pub(crate) enum Use {
-    /// The value is used, which moves a unique pointer.
+    /// The value is used; a unique pointer is moved by that.
     Value,
-    /// A unique pointer is only looked at or through.
+    /// The use only examines or dereferences a unique pointer.
     Looked,
-    /// The statement is the expression alone.
+    /// The expression is a whole statement.
     Dropped,
-    /// The place is assigned; whether the value of that is used.
+    /// The lvalue is assigned; the flag tells whether the value of the assignment is used.
     Assigned(bool),
-    /// The place is swapped, or its address is taken.
+    /// The lvalue is swapped, or its address is taken.
     Taken,
 }
 
-/// A local. What is said of it holds in the text that was gone through.
+/// A local variable, with facts that hold for the text traversed so far.
 #[derive(Clone, Copy)]
 pub(crate) struct Local {
     pub(crate) span: Span,
     pub(crate) shape: Shape,
-    /// Whether it is declared by its type, and is no parameter.
+    /// True if the local is declared with its type and is no parameter.
     pub(crate) is_ordinary: bool,
-    /// Whether something but NULL is put into it.
+    /// True if the local receives a value other than NULL.
     pub(crate) is_filled: bool,
-    /// Whether it has another value than its initial one.
+    /// True if the local receives a value other than its initial one.
     pub(crate) is_changed: bool,
     pub(crate) is_read: bool,
-    /// Whether its value goes elsewhere.
+    /// True if the local's value is moved elsewhere.
     pub(crate) is_moved: bool,
-    /// How many elements its initial value has.
+    /// The number of elements of the local's initial value.
     pub(crate) length: Option<u32>,
 }
 
 impl Local {
-    /// A local that nothing is done with yet.
+    /// Returns a local without uses.
     pub(crate) fn new(span: Span, shape: Shape) -> Local {
         Local {
             span,
@@ -52,7 +52,7 @@ impl Local {
         }
     }
 
-    /// Notes what is done with it.
+    /// Records a use of a local.
     pub(crate) fn note(&mut self, use_of: Use) {
         match use_of {
             Use::Value | Use::Dropped => {
@@ -72,12 +72,12 @@ impl Local {
         }
     }
 
-    /// Whether it has a unique object that goes nowhere.
+    /// Returns true if the local owns a unique object that is never moved or freed.
     fn is_kept(&self) -> bool {
         self.shape.is_unique() && self.is_filled && !self.is_moved
     }
 
-    /// What is warned of where it ends.
+    /// Returns the warning about a local at the end of its scope, if any.
     pub(crate) fn fault(&self) -> Option<Warning> {
         if self.is_kept() {
             Some(Warning::NeverGivenBack)
@@ -89,19 +89,19 @@ impl Local {
     }
 }
 
-/// An index behind the last element of the initial value of a local.
+/// An index past the last element of a local's initial value.
 #[derive(Clone, Copy)]
 pub(crate) struct Suspect {
     pub(crate) span: Span,
     pub(crate) local: usize,
 }
 
-/// The locals of a function by their numbers, and the indices that are wrong if these stay as they were declared.
+/// The locals of a function by their numbers, and the indices that are wrong unless their locals are changed.
 #[derive(Drop)]
 pub(crate) struct Locals {
     pub(crate) all: Vec<Local>,
     pub(crate) suspects: Vec<Suspect>,
-    /// Whether memory did not run out.
+    /// True if memory did not run out.
     pub(crate) is_whole: bool,
 }
 
@@ -114,7 +114,7 @@ impl Locals {
         }
     }
 
-    /// Adds a local, and answers its number.
+    /// Adds a local, and returns its number.
     pub(crate) fn add(&mut self, local: Local) -> usize {
         let number = self.all.len();
         self.is_whole = self.all.push(local).is_ok() && self.is_whole;
@@ -125,7 +125,7 @@ impl Locals {
         self.is_whole = self.suspects.push(Suspect { span, local }).is_ok() && self.is_whole;
     }
 
-    /// Whether a local is changed somewhere.
+    /// Returns true if a local is changed anywhere.
     pub(crate) fn is_changed(&self, number: usize) -> bool {
         match self.all.get(number) {
             Some(local) => local.is_changed,
@@ -133,7 +133,7 @@ impl Locals {
         }
     }
 
-    /// Forgets all of a function.
+    /// Forgets all locals of a function.
     pub(crate) fn clear(&mut self) {
         self.all.clear();
         self.suspects.clear();

@@ -1,8 +1,8 @@
-//! Where expressions, statements and items begin.
+//! The beginnings of expressions, statements and items.
 use cyc_syntax::{Expr, Item, PrefixOperator, Stmt};
 use cyc_words::Span;
 
-/// The place of an expression's first token.
+/// Returns the place of an expression's first token.
 pub(crate) fn span_of(expression: &Expr) -> Span {
     match expression {
         Expr::Number { span, .. }
@@ -26,7 +26,7 @@ pub(crate) fn span_of(expression: &Expr) -> Span {
     }
 }
 
-/// The place of a statement's first token.
+/// Returns the place of a statement's first token.
 fn span_of_statement(statement: &Stmt) -> Span {
     match statement {
         Stmt::Block { block } => block.span,
@@ -44,7 +44,7 @@ fn span_of_statement(statement: &Stmt) -> Span {
     }
 }
 
-/// The place of an item: its first token, or where that has none its first name.
+/// Returns the place of an item: its first token, or else its first name.
 pub(crate) fn span_of_item(item: &Item) -> Span {
     match item {
         Item::Statement { statement } => span_of_statement(statement),
@@ -55,12 +55,22 @@ pub(crate) fn span_of_item(item: &Item) -> Span {
     }
 }
 
-/// Whether a place is the next one on its line.
+/// The place of the word that names how an item leaves its block: the first one, or the brace that ends a block in it.
+pub(crate) fn span_of_leaving(item: &Item) -> Span {
+    match item {
+        Item::Statement {
+            statement: Stmt::Block { block } | Stmt::Labelled { block, .. },
+        } => block.end,
+        _ => span_of_item(item),
+    }
+}
+
+/// Returns true if the second place directly follows the first one on its line.
 pub(crate) fn is_next(first: Span, second: Span) -> bool {
     first.line == second.line && first.column.saturating_add(1) == second.column
 }
 
-/// The place of a minus sign that an expression begins with, if it is one alone.
+/// Returns the place of the single minus sign that an expression begins with, if it does.
 pub(crate) fn leading_minus(expression: &Expr) -> Option<Span> {
     match expression {
         Expr::Prefixed {
@@ -76,7 +86,7 @@ pub(crate) fn leading_minus(expression: &Expr) -> Option<Span> {
     }
 }
 
-/// The place of the minus sign that an expression is made with.
+/// Returns the place of the minus sign that is the expression's operator.
 pub(crate) fn minus_of(expression: &Expr) -> Option<Span> {
     match expression {
         Expr::Prefixed {

@@ -1,12 +1,12 @@
-//! What a type is made of, as far as a warning asks.
+//! The shape of a type: the parts that warnings need.
 use cyc_syntax::{BaseType, PointerKind, WrittenType};
 
-/// A type before its marks.
+/// A type as written before its pointer marks.
 #[derive(Clone, Copy)]
 pub(crate) enum Base {
     Int,
     Char,
-    /// By the number of its name.
+    /// A struct, by the number of its name.
     Struct(usize),
     /// A handle or a key.
     Other,
@@ -16,12 +16,12 @@ pub(crate) enum Base {
 #[derive(Clone, Copy)]
 pub(crate) enum Home {
     Unique,
-    /// None is written, so it may be that of an initial value.
+    /// No region is written, so it may be that of the initial value.
     LeftOut,
     Other,
 }
 
-/// A type: what stands before its marks, how many these are, and what the last one is.
+/// A type: its base, the number of its pointer marks, and the last mark.
 #[derive(Clone, Copy)]
 pub(crate) struct Shape {
     pub(crate) base: Base,
@@ -54,7 +54,7 @@ pub(crate) const OTHER: Shape = Shape {
 };
 
 impl Shape {
-    /// A type that is written, where the region of unique pointers has the name of this number.
+    /// Returns the shape of a written type, given the name number of the region of unique pointers.
     pub(crate) fn written(written: &WrittenType, unique: usize) -> Shape {
         let base = match &written.base {
             BaseType::Int => Base::Int,
@@ -88,7 +88,7 @@ impl Shape {
         matches!(self.home, Home::Unique)
     }
 
-    /// What a pointer leads to, of whose own mark nothing is known.
+    /// Returns the target of a pointer, whose own mark is unknown.
     pub(crate) fn target(self) -> Option<Shape> {
         if self.marks == 0 {
             return None;
@@ -101,8 +101,8 @@ impl Shape {
         })
     }
 
-    /// The number of the name of the struct that a pointer leads to.
-    pub(crate) fn struct_behind(self) -> Option<usize> {
+    /// Returns the name number of the struct that a pointer refers to.
+    pub(crate) fn struct_after(self) -> Option<usize> {
         match self.base {
             Base::Struct(name) if self.marks == 1 => Some(name),
             _ => None,

@@ -1,15 +1,15 @@
-//! What statements and items are warned of, and their parts.
+//! Finds warnings in statements, items and their parts.
 use crate::constants::constant_of;
 use crate::expressions::{is_bare, is_null};
 use crate::finder::Finder;
 use crate::locals::{Local, Use};
-use crate::places::{span_of, span_of_item};
+use crate::places::{span_of, span_of_item, span_of_leaving};
 use crate::shapes::{Home, INT, Shape};
 use crate::warning::Warning;
 use cyc_syntax::{Expr, Initial, Item, Stmt};
 use cyc_words::Span;
 
-/// Whether an item is a semicolon alone.
+/// Returns true if an item is only a semicolon.
 fn is_empty(item: &Item) -> bool {
     matches!(
         item,
@@ -19,7 +19,7 @@ fn is_empty(item: &Item) -> bool {
     )
 }
 
-/// How many elements an array has that an expression makes.
+/// Returns the number of elements of the array that an expression makes.
 fn length_of(expression: &Expr) -> Option<u32> {
     match expression {
         Expr::Bracketed { inner, .. } => length_of(inner),
@@ -34,18 +34,19 @@ fn length_of(expression: &Expr) -> Option<u32> {
 impl Finder {
     // ---- items
 
-    /// Looks at the items of a block. Answers whether the last of them leaves it, whatever comes. A loop is not asked.
+    /// Examines the items of a block. Returns true if the last item of the block always leaves the block. The analysis does not look into
+    /// loops.
     #[cycle(statements)]
     pub(crate) fn look_at_block(&mut self, items: &[Item]) -> bool {
         let depth = self.known.depth();
-        let mut is_left = false;
+        let mut left_by = None;
         let mut is_said = false;
         let mut leaves = false;
         for item in items {
             leaves = false;
             if !is_empty(item) {
-                if is_left && !is_said {
-                    self.warn(span_of_item(item), Warning::Unreachable);
+                if let (Some(last), false) = (left_by, is_said) {
+                    self.warn_after(span_of_item(item), Warning::Unreachable, last);
                     is_said = true;
                 }
                 if let Item::Statement { statement } = item {
@@ -53,7 +54,11 @@ impl Finder {
                 } else {
                     self.look_at_declaration(item);
                 }
-                is_left = leaves;
+                left_by = if leaves {
+                    Some(span_of_leaving(item))
+                } else {
+                    None
+                };
             }
         }
         self.known.unbind(depth);
@@ -97,7 +102,7 @@ impl Finder {
         }
     }
 
-    /// Looks at what a local of this type is declared with.
+    /// Examines the initial value of a local of this type.
     fn look_at_initial_value(&mut self, shape: Shape, value: &Expr) {
         if shape.is_char() {
             self.look_at_byte(value);
@@ -105,7 +110,7 @@ impl Finder {
         self.look_at(value, Use::Value);
     }
 
-    /// Notes of a local what the value is that it is declared with.
+    /// Records the form of a local's initial value.
     fn fill_from(&self, local: &mut Local, value: &Expr) {
         local.is_filled = !is_null(value);
         local.length = length_of(value);
@@ -116,7 +121,7 @@ impl Finder {
 
     // ---- statements
 
-    /// Looks at a statement. Answers whether it leaves the block that it stands in, whatever comes.
+    /// Examines a statement. Returns true if the statement always leaves its block.
     #[cycle(statements)]
     fn look_at_statement(&mut self, statement: &Stmt) -> bool {
         match statement {
@@ -201,7 +206,7 @@ impl Finder {
         }
     }
 
-    /// Looks at an expression that is a statement.
+    /// Examines an expression that is a statement.
     fn look_at_value(&mut self, value: &Expr) {
         let before = self.effects;
         self.look_at(value, Use::Dropped);
@@ -210,7 +215,7 @@ impl Finder {
         }
     }
 
-    /// Looks at the condition of the statement at this place.
+    /// Examines the condition of the statement at this place.
     fn look_at_condition(&mut self, span: Span, condition: &Expr) {
         if let Expr::Assign { .. } = condition {
             self.warn(span, Warning::ConditionAssigns);
@@ -218,14 +223,14 @@ impl Finder {
         self.look_at(condition, Use::Looked);
     }
 
-    /// Looks at the statement of an `if` that has no `else`.
+    /// Examines the branch of an `if` without `else`.
     fn look_at_branch(&mut self, then: &Stmt) {
         if let Stmt::Empty { span } = then {
             self.warn(*span, Warning::EmptyIf);
         }
     }
 
-    /// Looks at the condition of the loop at this place, and whether the loop has something to do.
+    /// Examines the condition of the loop at this place, and whether its body is empty.
     fn look_at_head(&mut self, span: Span, condition: &Expr, body: &Stmt) {
         let before = self.effects;
         self.look_at_condition(span, condition);

@@ -1,109 +1,105 @@
-//! What is warned of, its words, and the list of what was found.
+//! Warnings, their texts, and the list of findings.
 use cyc_words::Span;
 use std::alloc::Global;
 use std::mem::replace;
 
-/// What a person is warned of.
+/// A kind of warning.
 #[derive(Clone, Copy)]
 pub enum Warning {
-    /// `--x`
+    /// Two minus signs that look like a decrement, as in `--x`.
     DoubleMinus,
-    /// `n--1`
+    /// A minus sign before a negated operand, as in `n--1`.
     AddedMinus,
-    /// `if (x = 4)`
+    /// An assignment as a condition, as in `if (x = 4)`.
     ConditionAssigns,
-    /// `x << 33`
+    /// A shift count outside the width of an int, as in `x << 33`.
     ShiftCount,
-    /// `c != -1` of a char
+    /// A char compared with a constant that no char equals, as in `c != -1`.
     CharCompared,
-    /// `char c = 300;`
+    /// A constant that does not fit a char, as in `char c = 300;`.
     CharConstant,
-    /// `if (x);`
+    /// An `if` with an empty body, as in `if (x);`.
     EmptyIf,
-    /// `while (x);`
+    /// A loop with an empty body, as in `while (x);`.
     EmptyWhile,
-    /// `x == 2;`
+    /// A statement without effect, as in `x == 2;`.
     NoEffect,
-    /// `1 < x < 3`
+    /// A chain of comparisons, as in `1 < x < 3`.
     OrderChain,
-    /// `x == 3 || 4`
+    /// A constant operand of a logical operator, as in `x == 3 || 4`.
     ConstantOperand,
-    /// `f & 1 == 0`
+    /// A comparison that binds before a bitwise operator, as in `f & 1 == 0`.
     ComparedFirst,
-    /// `x / 0`
+    /// A division by zero, as in `x / 0`.
     DivisionByZero,
-    /// `new {for i < 2000 : 0}`
+    /// An array that is too large, as in `new {for i < 2000 : 0}`.
     ArraySize,
-    /// `a[3]` of three elements
+    /// An index past the end, as in `a[3]` of three elements.
     IndexOutside,
-    /// A statement behind a `return`.
+    /// A statement after a `return`.
     Unreachable,
-    /// A local.
+    /// A local that is never read.
     NeverRead,
-    /// A local that is a unique pointer.
+    /// A local that is a unique pointer and is never freed or moved.
     NeverGivenBack,
-    /// The first character in the text that is not seen, or turns the direction of writing.
+    /// The first character in the text that is invisible or changes the writing direction.
     HiddenCharacter,
 }
 
-/// What is said of it.
+/// Returns the words of the warning, in which the word at the place that it names stands for a `%`.
 pub fn text_of(warning: Warning) -> &'static str {
     match warning {
-        Warning::DoubleMinus =>
-            "`--` is two minus signs and changes nothing: to count down write i = i - 1",
-        Warning::AddedMinus =>
-            "`--` is two minus signs, so what stands behind them is added: to subtract it write one",
+        Warning::DoubleMinus => "`--` is two minus signs and changes nothing: write i = i - 1",
+        Warning::AddedMinus => "`--` is two minus signs, so this adds: write one to subtract",
         Warning::ConditionAssigns =>
-            "the condition assigns: to compare write ==, and else put brackets round it",
-        Warning::ShiftCount => "the count of a shift is taken modulo 32",
+            "the condition assigns: write == to compare, or put parentheses around the assignment",
+        Warning::ShiftCount => "this shift count is not in 0 to 31: it is taken modulo 32",
         Warning::CharCompared =>
-            "a char is 0 to 255, so this comparison has the same answer always: keep what getchar() gives in an int",
+            "this comparison of a char (0 to 255) is always the same: keep the result of getchar() in an int",
         Warning::CharConstant =>
-            "a char is 0 to 255, so it keeps the low byte of this constant alone: make it an int, or write that byte",
-        Warning::EmptyIf =>
-            "nothing hangs on this `if`: its statement is the `;` behind the condition",
+            "this constant does not fit a char (0 to 255), which keeps its low byte: declare an int",
+        Warning::EmptyIf => "empty body of `if`: delete the `;` after the condition",
         Warning::EmptyWhile =>
-            "this loop ends at once or never: its statement is the `;` behind the condition",
-        Warning::NoEffect => "the value of this statement is used for nothing: to assign write =",
-        Warning::OrderChain =>
-            "0 or 1 is compared here, the answer of the comparison before: write a < b && b < c",
+            "empty body of `while`, which ends at once or never: delete the `;` after the condition",
+        Warning::NoEffect => "this value is not used: write = to assign",
+        Warning::OrderChain => "comparisons do not chain: write a < b && b < c",
         Warning::ConstantOperand =>
-            "a constant other than 0 is true always: to compare with it too write x == 3 || x == 4",
+            "this constant is always true: write x == 3 || x == 4 to compare with both",
         Warning::ComparedFirst =>
-            "a comparison binds tighter than `&`, `^` and `|`: put brackets round what comes first",
-        Warning::DivisionByZero => "the divisor is 0: this throws Div_zero",
-        Warning::ArraySize => "an array has 0 to 1,000 words: this throws Array_size",
-        Warning::IndexOutside => "the array has no element of this index: this throws Array_bounds",
-        Warning::Unreachable => "nothing leads here: what stands before leaves the block",
-        Warning::NeverRead => "this variable is never read",
-        Warning::NeverGivenBack =>
-            "no path gives back what this unique pointer leads to: free it by ufree, or hand it on",
+            "a comparison binds tighter than `&`, `^` and `|`: write (f & 1) == 0",
+        Warning::DivisionByZero => "division by zero: this throws Div_zero",
+        Warning::ArraySize => "this array size is not in 0 to 1,000 words: it throws Array_size",
+        Warning::IndexOutside => "index out of bounds: this throws Array_bounds",
+        Warning::Unreachable => "unreachable code after `%`",
+        Warning::NeverRead => "`%` is never read",
+        Warning::NeverGivenBack => "`%` is never freed: free it by ufree, or pass it on",
         Warning::HiddenCharacter =>
-            "a character that is not seen or turns the direction of writing: what is shown from here on may not be what is compiled",
+            "this character is invisible or turns the direction of text: what you see may not be what is compiled",
     }
 }
 
-/// A warning and its place.
+/// A warning, its place, and the place of the word that it names.
 #[derive(Clone, Copy)]
 pub struct Found {
     pub span: Span,
     pub warning: Warning,
+    pub named: Span,
 }
 
-/// So many warnings of a text are said. The place of each is looked for from the beginning of the text, so that any number of them would
-/// take a time that grows with the square of the text.
+/// The most warnings that are shown for a text. The place of each is searched from the beginning of the text, so an unlimited number would
+/// take quadratic time.
 pub const MOST_WARNINGS: usize = 20;
 
-/// Whether the first place stands before the second.
+/// Returns true if the first place is before the second.
 fn is_before(first: Span, second: Span) -> bool {
     first.line < second.line || first.line == second.line && first.column < second.column
 }
 
-/// What was found, in the order of its places: the first ones, and one more than are said.
+/// The findings in the order of their places: the first ones, and one more than are shown.
 #[derive(Drop)]
 pub(crate) struct Findings {
     all: Vec<Found>,
-    /// Whether memory did not run out.
+    /// True if memory did not run out.
     pub(crate) is_whole: bool,
 }
 
@@ -115,7 +111,7 @@ impl Findings {
         }
     }
 
-    /// Whether there is no room for a place.
+    /// Returns true if the list has no room for a finding at this place.
     fn is_past(&self, span: Span) -> bool {
         match self.all.get(MOST_WARNINGS) {
             Some(last) => !is_before(span, last.span),
@@ -123,15 +119,15 @@ impl Findings {
         }
     }
 
-    pub(crate) fn add(&mut self, span: Span, warning: Warning) {
-        if !self.is_past(span) {
-            self.is_whole = self.all.push(Found { span, warning }).is_ok() && self.is_whole;
+    pub(crate) fn add(&mut self, found: Found) {
+        if !self.is_past(found.span) {
+            self.is_whole = self.all.push(found).is_ok() && self.is_whole;
             self.put_in_order();
             self.all.truncate(MOST_WARNINGS + 1);
         }
     }
 
-    /// Moves the last one to its place among the others.
+    /// Moves the last finding to its position in the order of the text.
     fn put_in_order(&mut self) {
         for i in (1..self.all.len()).rev() {
             if !is_before(self.all[i].span, self.all[i - 1].span) {
@@ -141,7 +137,7 @@ impl Findings {
         }
     }
 
-    /// Takes what was found.
+    /// Takes the findings.
     pub(crate) fn take(&mut self, alloc: Global) -> Vec<Found> {
         replace(&mut self.all, Vec::new(alloc))
     }
