@@ -1,3 +1,3 @@
--- what the answers of `format` and of the comparison cite
+-- lemmas for the results of `format` and of the comparison
 pub mod SameTokens
 pub mod Answering

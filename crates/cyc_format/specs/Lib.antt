@@ -1,2 +1,2 @@
--- what the contract of `format` rests on
+-- the definition that the contract of `format` rests on
 pub mod Formatted

@@ -1,4 +1,4 @@
-//! Where lines end.
+//! Decides where lines end.
 use crate::frames::{Frame, FrameKind};
 use crate::layout::{At, Layout};
 use crate::roles::{
@@ -7,10 +7,10 @@ use crate::roles::{
 };
 use cyc_syntax::{Keyword, Sign, TokenKind};
 
-/// Behind so many bytes of a line no further call is put on it.
+/// A line of at least this many bytes receives no further call.
 const WIDE: usize = 80;
 
-/// What stands between two tokens, comments apart.
+/// The kind of the gap between two tokens, without comments.
 #[derive(Clone, Copy, Debug, PartialEq, Eq)]
 pub(crate) enum BreakKind {
     Nothing,
@@ -18,11 +18,11 @@ pub(crate) enum BreakKind {
     Line,
 }
 
-/// What is put into a gap.
+/// The gap between two tokens.
 #[derive(Clone, Copy)]
 pub(crate) struct Break {
     pub(crate) kind: BreakKind,
-    /// The level of the next line, also of one that a comment makes begin here.
+    /// The level of the next line, even if a comment begins that line.
     pub(crate) level: usize,
     /// The level of comments on lines of their own.
     pub(crate) comment_level: usize,
@@ -37,7 +37,7 @@ impl Break {
         }
     }
 
-    /// The end of a line.
+    /// Returns a gap that ends the line.
     pub(crate) fn line(level: usize) -> Break {
         Break::new(BreakKind::Line, level)
     }
@@ -52,9 +52,9 @@ impl Break {
 }
 
 impl<'t> Layout<'t> {
-    // ---- what the next token says of those before it
+    // ---- constructs that the next token closes
 
-    /// Closes what the token of this number shows to be over.
+    /// Closes the constructs that the token of this number shows to be complete.
     pub(crate) fn resolve(&mut self, number: usize) {
         let kind = self.kind(number);
         if self.frames.ends_with(FrameKind::Regions)
@@ -79,7 +79,7 @@ impl<'t> Layout<'t> {
         }
     }
 
-    /// Ends a statement whose end is missing, so that what is written below it keeps its lines.
+    /// Ends a statement whose end is missing, so that the lines after it are kept.
     fn recover(&mut self, number: usize, kind: Option<TokenKind>) {
         if is_starter(kind) && self.frames.is_within() {
             self.frames.close_within();
@@ -103,7 +103,7 @@ impl<'t> Layout<'t> {
         self.role = Role::End;
     }
 
-    /// Whether a line ends between two operands, so that a semicolon is missing.
+    /// Returns true if a line ends between two operands, which shows that a semicolon is missing.
     fn misses_end(&self, number: usize, kind: Option<TokenKind>) -> bool {
         let is_begun = matches!(
             kind,
@@ -113,9 +113,9 @@ impl<'t> Layout<'t> {
         is_begun && self.gap.has_line_end && self.is_operand && !self.is_handle && !is_type
     }
 
-    // ---- what is put before a token
+    // ---- the gap before a token
 
-    /// What is put before the token of this number.
+    /// Returns the gap before the token of this number.
     pub(crate) fn break_before(&mut self, number: usize) -> Break {
         match self.at {
             At::Statement => self.break_before_statement(number),
@@ -131,7 +131,7 @@ impl<'t> Layout<'t> {
         }
     }
 
-    /// What is put between the head of a statement and the statement in it.
+    /// Returns the gap between a condition and the statement that it controls.
     fn break_before_nested(&mut self, number: usize) -> Break {
         let kind = self.kind(number);
         let (level, is_else) = match self.frames.last() {
@@ -152,11 +152,11 @@ impl<'t> Layout<'t> {
         Break::space(inside)
     }
 
-    /// What is put before a statement, or before what ends a body.
+    /// Returns the gap before a statement, or before the end of a body.
     fn break_before_statement(&mut self, number: usize) -> Break {
         let kind = self.kind(number);
         let Some(frame) = self.frames.last() else {
-            return self.break_behind_statement(number, 0);
+            return self.break_after_statement(number, 0);
         };
         match kind {
             Some(TokenKind::Sign(Sign::RightBrace)) => self.break_before_end(&frame),
@@ -171,11 +171,11 @@ impl<'t> Layout<'t> {
                 }
             }
             _ if frame.is_one_line => Break::space(frame.inside()),
-            _ => self.break_behind_statement(number, frame.inside()),
+            _ => self.break_after_statement(number, frame.inside()),
         }
     }
 
-    /// What is put before the brace that ends a body.
+    /// Returns the gap before the brace that ends a body.
     fn break_before_end(&self, frame: &Frame) -> Break {
         let kind = if frame.is_one_line {
             BreakKind::Space
@@ -191,22 +191,22 @@ impl<'t> Layout<'t> {
         }
     }
 
-    /// What is put before an `else`. It stays on the line of its `if` where it was there, and neither a further `if` nor a block stands
-    /// behind it.
+    /// Returns the gap before an `else`. An `else` stays on the line of its `if` if the author put it there, unless another `if` or a block
+    /// follows.
     fn break_before_else(&self, number: usize, frame: &Frame) -> Break {
-        let is_behind_block = is_sign(self.kind_before(number, 1), Sign::RightBrace);
+        let is_after_block = is_sign(self.kind_before(number, 1), Sign::RightBrace);
         let next = self.kind(number.saturating_add(1));
         let is_long = is_word(next, Keyword::If) || is_sign(next, Sign::LeftBrace);
         let is_apart = self.gap.has_line_end || frame.is_broken || is_long;
-        if is_behind_block || !is_apart {
+        if is_after_block || !is_apart {
             Break::space(frame.outside)
         } else {
             Break::line(frame.outside)
         }
     }
 
-    /// What is put between two statements. A call stays on the line of the call before it.
-    fn break_behind_statement(&self, number: usize, level: usize) -> Break {
+    /// Returns the gap between two statements. A call stays on the line of the previous call.
+    fn break_after_statement(&self, number: usize, level: usize) -> Break {
         if self.statement.is_call
             && !self.gap.has_line_end
             && self.gap.comments.is_empty()
@@ -219,7 +219,7 @@ impl<'t> Layout<'t> {
         }
     }
 
-    /// Whether the statement that begins with the token of this number is a call by itself.
+    /// Returns true if the statement that begins with the token of this number is only a call.
     pub(crate) fn is_call(&self, number: usize) -> bool {
         let open = number.saturating_add(1);
         if !is_name(self.kind(number)) || !is_sign(self.kind(open), Sign::LeftParen) {
@@ -242,7 +242,7 @@ impl<'t> Layout<'t> {
         false
     }
 
-    /// Whether the line may end within a statement, before the token of this number: behind a comma, beside an operator, and behind an
+    /// Returns true if the line may end within a statement before the token of this number: after a comma, beside an operator, or after an
     /// opening bracket.
     fn may_end_line(&self, number: usize) -> bool {
         let kind = self.kind(number);
@@ -257,7 +257,7 @@ impl<'t> Layout<'t> {
 
     // ---- comments
 
-    /// Puts the comments of the gap before a token, and what stands between.
+    /// Writes the comments of the gap before a token, and the space between them.
     pub(crate) fn put_gap(&mut self, found: &Break, next: Option<TokenKind>) {
         let text = self.text;
         let is_statement = self.at == At::Statement;
@@ -299,8 +299,7 @@ impl<'t> Layout<'t> {
         }
     }
 
-    /// Whether a line ends right before the next token, behind the last comment, which stands on a line of its own or goes to the end of
-    /// its line, or is neither.
+    /// Returns true if a line ends just before the next token, after the last comment of the gap.
     fn ends_line(&self, found: &Break, is_own_line: bool, is_line_comment: bool) -> bool {
         if is_line_comment {
             return true;

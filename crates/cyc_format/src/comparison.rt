@@ -1,11 +1,11 @@
-//! Whether two texts have the same tokens.
+//! Compares the tokens of two texts.
 ghost use Rattle.std.specs.Prelude.{◌≡◌, IsTrue, map, All};
 ghost use Rattle.cyc_syntax.specs.Tokens.{spelling_of};
 ghost use Rattle.cyc_syntax.specs.TokenRule.{LiesIn};
 
 use cyc_syntax::Token;
 
-/// Whether the tokens of two texts are spelled by the same bytes.
+/// Returns true if the tokens of two texts have equal spellings.
 pub(crate) fn are_spelled_alike(
     text: &[u8],
     tokens: &[Token],

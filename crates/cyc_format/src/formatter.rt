@@ -1,4 +1,4 @@
-//! A text in the one style, or as it was.
+//! Formats a text, or leaves it unchanged if memory runs out.
 ghost use Rattle.cyc_words.specs.Decision.{Decides};
 ghost use Rattle.cyc_lex.specs.Refusals.{IsAccepted, IsRefused};
 ghost use Rattle.cyc_format.specs.Formatted.{HasSameTokens};
@@ -10,11 +10,11 @@ use cyc_syntax::Token;
 use cyc_words::{Code, Fault};
 use std::alloc::Global;
 
-/// In how many rounds a layout is made that is laid out as it is.
+/// The most rounds of formatting to find a layout that formatting leaves unchanged.
 const MOST_ROUNDS: usize = 4;
 
-/// A layout of a text with these tokens which laying out anew leaves as it is, or the text where none is found; nothing where memory runs
-/// out. Of a text that is a program the first layout is one.
+/// Returns a layout of a text with these tokens that formatting leaves unchanged, or the text if none is found; `None` if memory runs out.
+/// For a valid program the first layout is a correct result.
 fn lay_out_settled(alloc: Global, text: &[u8], tokens: &[Token]) -> Option<Vec<u8>> {
     let mut laid = lay_out(alloc, text, tokens)?;
     for _ in 0..MOST_ROUNDS {
@@ -31,10 +31,10 @@ fn lay_out_settled(alloc: Global, text: &[u8], tokens: &[Token]) -> Option<Vec<u
     Vec::from_slice(alloc, text).ok()
 }
 
-/// The text laid out anew. Its tokens are those of the text, and where they would not be, or it would be longer than a text may be, the
-/// text is answered as it was.
+/// Formats a text. The result has the tokens of the text; if it would not, or would exceed the size limit of texts, the text is returned
+/// unchanged.
 ///
-/// What has no tokens is refused as `lex` refuses it. Want of memory may come in place of either answer.
+/// A text without tokens is rejected as `lex` rejects it. Lack of memory is another error.
 pub fn format(alloc: Global, text: &[u8]) -> Result<Vec<u8>, Fault>
     ensures { Decides (IsAccepted text.now) (λ tokens answer. HasSameTokens tokens answer.items) (IsRefused text.now) (IsRefused text.now) result }
 {

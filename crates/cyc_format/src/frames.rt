@@ -1,7 +1,7 @@
-//! What is open at a place of a text: brackets, bodies, and the heads of statements whose statement is still to come.
+//! The open constructs at a position of a text: brackets, bodies, and conditions whose statement has not begun.
 use std::alloc::Global;
 
-/// What is open.
+/// An open construct.
 #[derive(Clone, Copy, Debug, PartialEq, Eq)]
 pub(crate) enum FrameKind {
     Parenthesis,
@@ -14,7 +14,7 @@ pub(crate) enum FrameKind {
     Bracket,
     /// Regions between `<` and `>`.
     Regions,
-    /// Braces round values, regions or a key.
+    /// Braces around values, regions or a key.
     Values,
     /// The braces of a block.
     Block,
@@ -22,9 +22,9 @@ pub(crate) enum FrameKind {
     Fields,
     /// The braces of a list of exceptions.
     Exceptions,
-    /// The braces behind `catch`.
+    /// The braces after `catch`.
     Clauses,
-    /// What stands behind a `case`.
+    /// The statements after a `case`.
     Clause,
     If,
     Else,
@@ -32,15 +32,15 @@ pub(crate) enum FrameKind {
     Try,
 }
 
-/// Something that is open, and the levels of lines.
+/// An open construct, and the levels of its lines.
 #[derive(Clone, Copy)]
 pub(crate) struct Frame {
     pub(crate) kind: FrameKind,
-    /// The level of the statement in which it was opened.
+    /// The level of the statement in which the construct was opened.
     pub(crate) outside: usize,
-    /// Whether all of it stands on the line on which it was opened.
+    /// True if the whole construct is on the line on which it was opened.
     pub(crate) is_one_line: bool,
-    /// Whether the statement of a head stands on a line of its own.
+    /// True if the controlled statement is on a line of its own.
     pub(crate) is_broken: bool,
 }
 
@@ -52,7 +52,7 @@ impl FrameKind {
         )
     }
 
-    /// Whether it stands within a statement.
+    /// Returns true if the construct is within a statement.
     pub(crate) fn is_within(self) -> bool {
         self.is_parenthesis()
             || matches!(
@@ -61,7 +61,7 @@ impl FrameKind {
             )
     }
 
-    /// Whether it is the head of a statement.
+    /// Returns true if the construct is a condition that controls a statement.
     pub(crate) fn is_head(self) -> bool {
         matches!(
             self,
@@ -69,7 +69,7 @@ impl FrameKind {
         )
     }
 
-    /// Whether statements, fields or clauses stand in it.
+    /// Returns true if the construct contains statements, fields or clauses.
     pub(crate) fn is_body(self) -> bool {
         matches!(
             self,
@@ -77,7 +77,7 @@ impl FrameKind {
         )
     }
 
-    /// Whether it is closed by `}`.
+    /// Returns true if the construct is closed by `}`.
     pub(crate) fn is_braced(self) -> bool {
         self.is_body() || self == FrameKind::Values
     }
@@ -93,17 +93,17 @@ impl Frame {
         }
     }
 
-    /// The level of the lines in it.
+    /// Returns the level of the lines in the construct.
     pub(crate) fn inside(&self) -> usize {
         self.outside.saturating_add(1)
     }
 }
 
-/// All that is open, the innermost last.
+/// All open constructs, innermost last.
 #[derive(Drop)]
 pub(crate) struct Frames {
     all: Vec<Frame>,
-    /// Whether memory did not run out.
+    /// True if memory did not run out.
     pub(crate) is_whole: bool,
 }
 
@@ -131,7 +131,7 @@ impl Frames {
         self.all.is_empty()
     }
 
-    /// Whether the innermost is of this kind.
+    /// Returns true if the innermost construct is of the given kind.
     pub(crate) fn ends_with(&self, kind: FrameKind) -> bool {
         match self.last() {
             Some(frame) => frame.kind == kind,
@@ -139,7 +139,7 @@ impl Frames {
         }
     }
 
-    /// Whether the innermost stands within a statement.
+    /// Returns true if the innermost construct is within a statement.
     pub(crate) fn is_within(&self) -> bool {
         match self.last() {
             Some(frame) => frame.kind.is_within(),
@@ -147,7 +147,7 @@ impl Frames {
         }
     }
 
-    /// Whether the innermost is a parenthesis.
+    /// Returns true if the innermost construct is a parenthesis.
     pub(crate) fn is_parenthesis(&self) -> bool {
         match self.last() {
             Some(frame) => frame.kind.is_parenthesis(),
@@ -155,14 +155,14 @@ impl Frames {
         }
     }
 
-    /// Says of the innermost that its statement stands on a line of its own.
+    /// Notes that the statement of the innermost construct is on a line of its own.
     pub(crate) fn break_last(&mut self) {
         if let Some(frame) = self.all.last_mut() {
             frame.is_broken = true;
         }
     }
 
-    /// Closes heads, from the innermost on up to one of this kind.
+    /// Closes conditions from the innermost on, up to one of this kind.
     pub(crate) fn close_heads(&mut self, kept: Option<FrameKind>) {
         for _ in 0..self.all.len() {
             match self.last() {
@@ -174,7 +174,7 @@ impl Frames {
         }
     }
 
-    /// Closes what stands within a statement.
+    /// Closes the constructs within a statement.
     pub(crate) fn close_within(&mut self) {
         for _ in 0..self.all.len() {
             if !self.is_within() {
@@ -184,7 +184,7 @@ impl Frames {
         }
     }
 
-    /// Closes what stands within a statement, up to braces round values.
+    /// Closes the constructs within a statement, up to braces around values.
     pub(crate) fn close_brackets(&mut self) {
         for _ in 0..self.all.len() {
             if !self.is_within() || self.ends_with(FrameKind::Values) {
@@ -194,7 +194,7 @@ impl Frames {
         }
     }
 
-    /// Closes a parenthesis and what was opened in it, and answers it. Braces are not closed.
+    /// Closes a parenthesis and everything opened in it, and returns it. Open braces are not closed by a parenthesis.
     pub(crate) fn close_parenthesis(&mut self) -> Option<Frame> {
         for _ in 0..self.all.len() {
             match self.last() {
@@ -208,7 +208,7 @@ impl Frames {
         None
     }
 
-    /// Closes a bracket and what was opened in it. Braces are not closed.
+    /// Closes a bracket and everything opened in it. Open braces are not closed by a bracket.
     pub(crate) fn close_bracket(&mut self) {
         for _ in 0..self.all.len() {
             match self.last() {
@@ -224,7 +224,7 @@ impl Frames {
         }
     }
 
-    /// Closes braces and what was opened in them, and answers them.
+    /// Closes braces and everything opened in them, and returns them.
     pub(crate) fn close_braces(&mut self) -> Option<Frame> {
         for _ in 0..self.all.len() {
             match self.all.pop() {

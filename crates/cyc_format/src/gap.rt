@@ -1,34 +1,34 @@
-//! What stands between two tokens: blanks, ends of lines and comments.
+//! The gap between two tokens: blanks, line ends and comments.
 use std::alloc::Global;
 
-/// A comment of a gap.
+/// A comment in a gap.
 #[derive(Clone, Copy)]
 pub(crate) struct Comment {
     pub(crate) start: usize,
     pub(crate) end: usize,
-    /// Whether it goes to the end of its line.
+    /// True if the comment extends to the end of its line.
     pub(crate) is_line: bool,
-    /// How many lines end between what stands before it and itself.
+    /// The number of line ends just before the comment.
     pub(crate) lines: usize,
-    /// How many blanks stand before it on its line.
+    /// The number of blanks just before the comment on its line.
     pub(crate) blanks: usize,
-    /// How many bytes stand before it on its line.
+    /// The number of bytes before the comment on its line.
     pub(crate) column: usize,
 }
 
-/// What stands between two tokens.
+/// The gap between two tokens.
 #[derive(Drop)]
 pub(crate) struct Gap {
     pub(crate) comments: Vec<Comment>,
-    /// How many lines end behind the last comment, or at all where there is none.
+    /// The number of line ends after the last comment, or in the whole gap if there is none.
     pub(crate) lines: usize,
-    /// Whether a line ends anywhere outside comments.
+    /// True if the gap contains a line end outside comments.
     pub(crate) has_line_end: bool,
-    /// Whether memory did not run out.
+    /// True if memory did not run out.
     pub(crate) is_whole: bool,
 }
 
-/// The byte at a place; 0 behind the last.
+/// Returns the byte at a position, or 0 past the end.
 pub(crate) fn byte_at(text: &[u8], place: usize) -> u8 {
     match text.get(place) {
         Some(byte) => *byte,
@@ -36,7 +36,7 @@ pub(crate) fn byte_at(text: &[u8], place: usize) -> u8 {
     }
 }
 
-/// Where the comment ends that begins at a place with two slashes.
+/// Returns the end of the comment that begins at a position with two slashes.
 fn line_end(text: &[u8], start: usize, end: usize) -> usize {
     for place in start..end {
         if byte_at(text, place) == b'\n' {
@@ -46,7 +46,7 @@ fn line_end(text: &[u8], start: usize, end: usize) -> usize {
     end
 }
 
-/// Where the comment ends that begins at a place with a slash and a star.
+/// Returns the end of the comment that begins at a position with a slash and a star.
 fn block_end(text: &[u8], start: usize, end: usize) -> usize {
     for place in start.saturating_add(3)..end {
         if byte_at(text, place) == b'/' && byte_at(text, place.saturating_sub(1)) == b'*' {
@@ -56,8 +56,8 @@ fn block_end(text: &[u8], start: usize, end: usize) -> usize {
     end
 }
 
-/// How many bytes of a line stand before the place behind some bytes, where so many stood before them.
-fn column_behind(column: usize, bytes: &[u8]) -> usize {
+/// Returns the column after some bytes that begin at this column.
+fn column_after(column: usize, bytes: &[u8]) -> usize {
     let mut column = column;
     for byte in bytes {
         column = if *byte == b'\n' {
@@ -79,7 +79,7 @@ impl Gap {
         }
     }
 
-    /// Reads the gap at these bytes, before which so many bytes stand on their line.
+    /// Reads the gap in these bytes, which begin at this column.
     pub(crate) fn read(&mut self, text: &[u8], start: usize, end: usize, column: usize) {
         self.comments.clear();
         self.lines = 0;
@@ -93,7 +93,7 @@ impl Gap {
             }
             let next = self.take(text, place, end, column, blanks);
             let bytes = text.get(place..next).unwrap_or(&[]);
-            column = column_behind(column, bytes);
+            column = column_after(column, bytes);
             blanks = if matches!(bytes, [b' ' | b'\t' | b'\r']) {
                 blanks.saturating_add(1)
             } else {
@@ -103,7 +103,7 @@ impl Gap {
         }
     }
 
-    /// Takes the blank, the end of a line or the comment at a place, and answers where it ends.
+    /// Consumes the blank, line end or comment at a position, and returns its end.
     fn take(
         &mut self,
         text: &[u8],
@@ -120,20 +120,20 @@ impl Gap {
             }
             b'/' => {
                 let is_line = byte_at(text, place.saturating_add(1)) == b'/';
-                let behind = if is_line {
+                let following = if is_line {
                     line_end(text, place, end)
                 } else {
                     block_end(text, place, end)
                 };
                 self.add(Comment {
                     start: place,
-                    end: behind,
+                    end: following,
                     is_line,
                     lines: self.lines,
                     blanks,
                     column,
                 });
-                behind
+                following
             }
             _ => place.saturating_add(1),
         }

@@ -1,4 +1,4 @@
-//! The text laid out anew: before each token it is settled whether a line ends there, a space stands there, or nothing.
+//! Lays out a text: before each token it decides between a line end, a space and nothing.
 use crate::breaks::Break;
 use crate::frames::Frames;
 use crate::gap::Gap;
@@ -7,29 +7,29 @@ use crate::sheet::Sheet;
 use cyc_syntax::{Token, TokenKind};
 use std::alloc::Global;
 
-/// Where in a program the next token stands.
+/// The position of the next token in the program.
 #[derive(Clone, Copy, Debug, PartialEq, Eq)]
 pub(crate) enum At {
-    /// Where a statement, an item or a declaration begins, or a body ends.
+    /// At the beginning of a statement, an item or a declaration, or at the end of a body.
     Statement,
-    /// Behind the head of a statement, before the statement in it.
+    /// After a condition, before the statement that it controls.
     Nested,
-    /// Within a statement.
+    /// The state within a statement.
     Within,
 }
 
-/// What is known of the statement that is laid.
+/// The state of the current statement.
 #[derive(Clone, Copy)]
 pub(crate) struct Statement {
-    /// The level of its line.
+    /// The indentation level of the statement's first line.
     pub(crate) level: usize,
-    /// Whether it has been nothing but `struct`, a name and regions.
+    /// True if the statement consists so far of `struct`, a name and regions.
     pub(crate) is_struct: bool,
-    /// Whether it began with `case` or `default`.
+    /// True if the statement began with `case` or `default`.
     pub(crate) is_case: bool,
-    /// Whether it is a call by itself.
+    /// True if the statement is only a call.
     pub(crate) is_call: bool,
-    /// Whether it had a body of several lines, and goes on behind it.
+    /// True if the statement had a body of several lines and continues after it.
     pub(crate) is_large: bool,
 }
 
@@ -43,13 +43,13 @@ pub(crate) struct Layout<'t> {
     pub(crate) at: At,
     pub(crate) role: Role,
     pub(crate) statement: Statement,
-    /// Whether the last token ends an operand.
+    /// True if the last token of the statement ends an operand.
     pub(crate) is_operand: bool,
-    /// Whether the last token closes the handle of an `rnew`.
+    /// True if the last token closes the handle of an `rnew`.
     pub(crate) is_handle: bool,
-    /// Whether it stands in braces that are on one line.
+    /// True if the statement is in braces that are on one line.
     pub(crate) is_one_line: bool,
-    /// Whether an empty line is wanted before the next one.
+    /// True if an empty line must precede the next one.
     pub(crate) is_apart: bool,
 }
 
@@ -77,12 +77,12 @@ impl<'t> Layout<'t> {
         }
     }
 
-    /// What the token of this number is.
+    /// Returns the kind of the token of this number.
     pub(crate) fn kind(&self, number: usize) -> Option<TokenKind> {
         self.tokens.get(number).map(|token| token.kind)
     }
 
-    /// What the token is that stands so many before the one of this number.
+    /// Returns the kind of the token `distance` before the one of this number.
     pub(crate) fn kind_before(&self, number: usize, distance: usize) -> Option<TokenKind> {
         self.kind(number.checked_sub(distance)?)
     }
@@ -107,7 +107,7 @@ impl<'t> Layout<'t> {
         self.gap.read(text, start, end, column);
     }
 
-    /// Lays the token of this number.
+    /// Writes the token of this number.
     fn lay(&mut self, number: usize, token: Token) {
         self.read_gap(number);
         self.resolve(number);
@@ -120,7 +120,7 @@ impl<'t> Layout<'t> {
         self.note(number, token);
     }
 
-    /// The level of the statement that begins behind a gap, if one does.
+    /// Sets the level of the statement that begins after a gap, if one does.
     fn begin_at(&mut self, found: &Break) {
         match self.at {
             At::Statement => self.statement.level = found.level,
@@ -134,7 +134,7 @@ impl<'t> Layout<'t> {
         }
     }
 
-    /// Lays what stands behind the last token, and ends the last line.
+    /// Writes the comments after the last token, and ends the last line.
     fn finish(mut self) -> Option<Vec<u8>> {
         let count = self.tokens.len();
         self.read_gap(count);
@@ -157,7 +157,7 @@ impl<'t> Layout<'t> {
     }
 }
 
-/// A text with these tokens, laid out anew; nothing where memory runs out.
+/// Returns a text with these tokens, laid out; `None` if memory runs out.
 pub(crate) fn lay_out(alloc: Global, text: &[u8], tokens: &[Token]) -> Option<Vec<u8>> {
     let mut layout = Layout::new(alloc, text, tokens);
     for (number, token) in tokens.iter().enumerate() {

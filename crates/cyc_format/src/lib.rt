@@ -1,4 +1,4 @@
-//! A text laid out anew: the same tokens and the same comments, in one style.
+//! Formats a text, whose tokens and comments stay, in one style.
 #![tactic(auto)]
 
 pub use formatter::format;

@@ -1,22 +1,22 @@
-//! What a token that was laid says of those behind it.
+//! The effect of a token on the layout of the tokens after it.
 use crate::frames::{Frame, FrameKind};
 use crate::layout::{At, Layout};
 use crate::roles::{Role, is_case, is_operand, is_region, is_sign, is_word};
 use cyc_syntax::{Keyword, Sign, Token, TokenKind};
 
-/// What was known before a token.
+/// The state of the formatter before a token.
 #[derive(Clone, Copy)]
 struct Before {
     number: usize,
     role: Role,
     is_operand: bool,
-    /// What the token opens, if it is a brace.
+    /// The construct that the token opens, if it is a brace.
     brace: FrameKind,
     last: Option<TokenKind>,
 }
 
 impl<'t> Layout<'t> {
-    /// Notes what the token of this number says of those behind it.
+    /// Notes the effect of the token of this number on the tokens after it.
     pub(crate) fn note(&mut self, number: usize, token: Token) {
         let before = Before {
             number,
@@ -38,7 +38,7 @@ impl<'t> Layout<'t> {
         }
     }
 
-    /// Notes what a token says of its statement, which may begin with it.
+    /// Notes the effect of a token on its statement, which may begin with it.
     fn note_statement(&mut self, number: usize, kind: Option<TokenKind>) {
         if self.at != At::Within {
             if !is_sign(kind, Sign::RightBrace) {
@@ -78,14 +78,14 @@ impl<'t> Layout<'t> {
         }
     }
 
-    /// Opens the head of a statement.
+    /// Opens a condition that controls a statement.
     fn open_head(&mut self, kind: FrameKind) {
         self.frames.push(Frame::new(kind, self.statement.level));
         self.at = At::Nested;
         self.is_operand = false;
     }
 
-    /// Closes the head of a statement, which goes on at its level.
+    /// Closes a condition, whose statement continues at its level.
     fn close_head(&mut self, kind: FrameKind) {
         if self.frames.ends_with(kind) {
             if let Some(frame) = self.frames.pop() {
@@ -120,19 +120,19 @@ impl<'t> Layout<'t> {
         }
     }
 
-    /// What an operator or the mark of a pointer is for.
+    /// Returns the role of an operator or of a pointer mark.
     fn role_of(&self, sign: Sign, before: &Before) -> Role {
         match sign {
             Sign::At | Sign::Question => Role::Mark,
-            Sign::Star if self.is_behind_type(before) => Role::Mark,
+            Sign::Star if self.is_after_type(before) => Role::Mark,
             Sign::Tilde | Sign::Not => Role::Prefix,
             Sign::Star | Sign::And | Sign::Minus | Sign::Plus if !before.is_operand => Role::Prefix,
             _ => Role::Binary,
         }
     }
 
-    /// Whether what stands before a token is a type.
-    fn is_behind_type(&self, before: &Before) -> bool {
+    /// Returns true if the tokens before a token are a type.
+    fn is_after_type(&self, before: &Before) -> bool {
         match before.role {
             Role::CloseRegions | Role::Mark => true,
             Role::Name => is_word(self.kind_before(before.number, 2), Keyword::Struct),
@@ -186,7 +186,7 @@ impl<'t> Layout<'t> {
         }
     }
 
-    /// Whether a list of exceptions, or of one clause with one statement, stands on one line.
+    /// Returns true if a list of exceptions, or of one clause with one statement, is on one line.
     fn stands_on_one_line(&self, before: &Before, token: Token) -> bool {
         if !matches!(before.brace, FrameKind::Exceptions | FrameKind::Clauses) {
             return false;

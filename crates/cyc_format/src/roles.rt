@@ -1,12 +1,12 @@
-//! What a token is for: what is asked of it where the next one is laid.
+//! The role of a token, which determines the gap before the next one.
 use cyc_syntax::{Keyword, Sign, Token, TokenKind};
 
-/// What the last token was for.
+/// The role of the last token in its construct.
 #[derive(Clone, Copy, Debug, PartialEq, Eq)]
 pub(crate) enum Role {
-    /// It opened a bracket, or braces round values.
+    /// The token opened a bracket, or braces around values.
     Open,
-    /// It opened a body.
+    /// The token opened the body of a block or struct.
     OpenBody,
     /// A prefix operator.
     Prefix,
@@ -15,17 +15,17 @@ pub(crate) enum Role {
     /// An operator between two operands.
     Binary,
     Comma,
-    /// The semicolon before an effect.
+    /// The semicolon before a function's effect.
     Effect,
-    /// The colon behind a label or a `case`.
+    /// The colon after a label or a `case`.
     Label,
-    /// Another colon.
+    /// A colon in any other role.
     Colon,
     Arrow,
-    /// It opened or closed a list of regions.
+    /// The token opened or closed a list of regions.
     OpenRegions,
     CloseRegions,
-    /// It ended a statement, or a declaration.
+    /// The token ended a statement or a declaration.
     End,
     Name,
     Other,
@@ -47,7 +47,7 @@ pub(crate) fn is_region(kind: Option<TokenKind>) -> bool {
     kind == Some(TokenKind::RegionName)
 }
 
-/// Whether it closes a parenthesis, a bracket or braces.
+/// Returns true if the token closes a parenthesis, a bracket or braces.
 pub(crate) fn is_closing(kind: Option<TokenKind>) -> bool {
     matches!(
         kind,
@@ -55,7 +55,7 @@ pub(crate) fn is_closing(kind: Option<TokenKind>) -> bool {
     )
 }
 
-/// Whether it opens a parenthesis, a bracket or braces.
+/// Returns true if the token opens a parenthesis, a bracket or braces.
 pub(crate) fn is_opening(kind: Option<TokenKind>) -> bool {
     matches!(
         kind,
@@ -63,12 +63,12 @@ pub(crate) fn is_opening(kind: Option<TokenKind>) -> bool {
     )
 }
 
-/// Whether it begins a clause.
+/// Returns true if the token begins a clause such as `case` or `catch`.
 pub(crate) fn is_case(kind: Option<TokenKind>) -> bool {
     is_word(kind, Keyword::Case) || is_word(kind, Keyword::Default)
 }
 
-/// Whether it begins a statement or an item, and stands nowhere else.
+/// Returns true if the token begins a statement or an item, and occurs nowhere else.
 pub(crate) fn is_starter(kind: Option<TokenKind>) -> bool {
     matches!(
         kind,
@@ -90,7 +90,7 @@ pub(crate) fn is_starter(kind: Option<TokenKind>) -> bool {
     )
 }
 
-/// Whether a bracket stands right behind it.
+/// Returns true if an opening bracket follows the token without a space.
 pub(crate) fn is_called(kind: Option<TokenKind>) -> bool {
     matches!(
         kind,
@@ -107,7 +107,7 @@ pub(crate) fn is_called(kind: Option<TokenKind>) -> bool {
     )
 }
 
-/// Whether it may stand between two operands.
+/// Returns true if the token may stand between two operands.
 pub(crate) fn is_operator(kind: Option<TokenKind>) -> bool {
     match kind {
         Some(TokenKind::Sign(sign)) => !matches!(
@@ -131,7 +131,7 @@ pub(crate) fn is_operator(kind: Option<TokenKind>) -> bool {
     }
 }
 
-/// Whether it is an operand by itself.
+/// Returns true if the token is an operand by itself.
 pub(crate) fn is_operand(kind: TokenKind) -> bool {
     matches!(
         kind,
@@ -146,8 +146,7 @@ fn is_name_byte(byte: u8) -> bool {
     byte.is_ascii_alphanumeric() || byte == b'_'
 }
 
-/// Whether two bytes that end a token and begin the next one would be read as one token, or as the beginning of a comment, or would look
-/// so.
+/// Returns true if two adjacent bytes would be read as one token or as the beginning of a comment, or would look like it.
 fn are_one(last: u8, first: u8) -> bool {
     is_name_byte(last) && is_name_byte(first)
         || matches!(
@@ -169,7 +168,7 @@ fn are_one(last: u8, first: u8) -> bool {
         )
 }
 
-/// Whether two tokens stand apart, whatever they are for.
+/// Returns true if two tokens must be separated, whatever their roles.
 pub(crate) fn are_apart(text: &[u8], token: Token, next: Token) -> bool {
     let bytes = text.get(token.start..token.end).unwrap_or(&[]);
     match (bytes.last(), text.get(next.start)) {

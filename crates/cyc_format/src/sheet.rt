@@ -1,26 +1,26 @@
-//! The text that is written.
+//! The formatted text as it is written.
 use crate::gap::Comment;
 use std::alloc::Global;
 
-/// The most bytes of a text. What is longer is written no further: it is no answer.
+/// The most bytes of a text. A longer one is not completed, since it cannot be a result.
 const MOST_BYTES: usize = 1048576;
 
-/// The deepest level whose lines are indented more than those of the one before it.
+/// The deepest level that is indented more than the one above it.
 const DEEPEST: usize = 40;
 
-/// The spaces of a level.
+/// The number of spaces of a level.
 const STEP: usize = 2;
 
 #[derive(Drop)]
 pub(crate) struct Sheet {
     bytes: Vec<u8>,
-    /// How many bytes stand on the last line.
+    /// The number of bytes on the last line.
     pub(crate) column: usize,
-    /// Whether memory did not run out.
+    /// True if memory did not run out.
     is_whole: bool,
 }
 
-/// The bytes without the blanks at their end.
+/// Returns the bytes without trailing blanks.
 fn without_blanks(bytes: &[u8]) -> &[u8] {
     let mut length: usize = 0;
     for (n, byte) in bytes.iter().enumerate() {
@@ -31,7 +31,7 @@ fn without_blanks(bytes: &[u8]) -> &[u8] {
     bytes.get(..length).unwrap_or(bytes)
 }
 
-/// How many blanks stand at the head of some bytes.
+/// Returns the number of leading blanks.
 fn blanks_of(bytes: &[u8]) -> usize {
     for (n, byte) in bytes.iter().enumerate() {
         if !matches!(*byte, b' ' | b'\t' | b'\r') {
@@ -54,7 +54,7 @@ impl Sheet {
         self.bytes.is_empty()
     }
 
-    /// The bytes, if memory did not run out.
+    /// Returns the bytes, if memory did not run out.
     pub(crate) fn finish(self) -> Option<Vec<u8>> {
         let Sheet {
             bytes,
@@ -78,7 +78,7 @@ impl Sheet {
         }
     }
 
-    /// Ends the line, if one was begun, and begins the next one at a level, behind an empty line where `is_apart` says so.
+    /// Ends the line, if one was begun, and begins the next one at a level, after an empty line if `is_apart`.
     pub(crate) fn end_line(&mut self, level: usize, is_apart: bool) {
         if !self.is_empty() {
             self.put(b"\n");
@@ -90,7 +90,7 @@ impl Sheet {
         self.put_spaces(level.min(DEEPEST).saturating_mul(STEP));
     }
 
-    /// Puts a comment. Where it stands in another column than before, its further lines are moved with it.
+    /// Writes a comment. If the column of a comment changes, the comment's further lines are moved by as much.
     pub(crate) fn put_comment(&mut self, text: &[u8], comment: Comment) {
         let bytes = text.get(comment.start..comment.end).unwrap_or(&[]);
         let (from, to) = (comment.column, self.column);
@@ -106,7 +106,7 @@ impl Sheet {
         }
     }
 
-    /// Puts a further line of a comment that was moved from a column to another.
+    /// Writes a further line of a comment that was moved from one column to another.
     fn put_moved(&mut self, line: &[u8], from: usize, to: usize) {
         if from == to || line.is_empty() {
             self.put(line);

@@ -1,4 +1,4 @@
-//! Where spaces stand between two tokens of a line.
+//! Decides where spaces separate two tokens of a line.
 use crate::breaks::BreakKind;
 use crate::frames::FrameKind;
 use crate::layout::{At, Layout};
@@ -6,7 +6,7 @@ use crate::roles::{Role, are_apart, is_called, is_region, is_sign, is_word};
 use cyc_syntax::{Keyword, Sign};
 
 impl<'t> Layout<'t> {
-    /// What stands before the token of this number, which is within a statement.
+    /// Returns the gap before the token of this number, which is within a statement.
     pub(crate) fn space_before(&self, number: usize) -> BreakKind {
         if self.touches(number) && !self.is_apart_from_last(number) {
             BreakKind::Nothing
@@ -15,7 +15,7 @@ impl<'t> Layout<'t> {
         }
     }
 
-    /// Whether the bytes of a token and of the one before it need something between them.
+    /// Returns true if a token and the one before it must be separated.
     fn is_apart_from_last(&self, number: usize) -> bool {
         let Some(last) = number.checked_sub(1) else {
             return false;
@@ -26,7 +26,7 @@ impl<'t> Layout<'t> {
         }
     }
 
-    /// Whether the token of this number stands right behind the one before it.
+    /// Returns true if the token of this number follows the one before it without a space.
     fn touches(&self, number: usize) -> bool {
         match self.role {
             Role::Open | Role::Prefix | Role::Mark | Role::Arrow | Role::OpenRegions => true,
@@ -34,7 +34,7 @@ impl<'t> Layout<'t> {
         }
     }
 
-    /// Whether a token is one that stands right behind what is before it.
+    /// Returns true if a token of this kind follows the one before it without a space.
     fn is_joined(&self, number: usize) -> bool {
         let kind = self.kind(number);
         let Some(cyc_syntax::TokenKind::Sign(sign)) = kind else {
@@ -60,17 +60,17 @@ impl<'t> Layout<'t> {
         }
     }
 
-    /// Whether a `<` begins a list of regions.
+    /// Returns true if a `<` begins a list of regions.
     pub(crate) fn opens_regions(&self, number: usize) -> bool {
         is_sign(self.kind(number), Sign::Less) && is_region(self.kind(number.saturating_add(1)))
     }
 
-    /// Whether the last token is a name, or ends the regions behind one.
+    /// Returns true if the last token is a name, or ends the regions after one.
     fn is_named(&self) -> bool {
         self.role == Role::Name || self.role == Role::CloseRegions
     }
 
-    /// What an opening brace opens.
+    /// Returns the construct that an opening brace opens.
     pub(crate) fn brace(&self, number: usize) -> FrameKind {
         let last = self.kind_before(number, 1);
         if self.frames.is_within() {
