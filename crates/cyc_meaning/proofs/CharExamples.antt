@@ -1,4 +1,4 @@
--- Worked examples of chars, each proved by computation. What each gives is said by the language's rules.
+-- Examples of chars, each proved by computation. The expected results come from the language's rules.
 use Rattle.std.proofs.Common.{◌≡◌, ℕ, [], ◌∷◌, Some, None, pos, refl}
 use Rattle.cyc_words.specs.Ending.{Returned}
 use Rattle.cyc_types.specs.declared.typed.Kind.TheVariants as kinds
@@ -17,14 +17,14 @@ use Rattle.cyc_meaning.proofs.ExampleTrees.{here, int, local, two, print, execut
 
 -- ---- trees
 
--- an int as a char, by its low byte, and a char as an int
+-- an int converted to a char, by its low byte; and a char converted to an int
 abbrev low : Expression → Converted
 low a = Convert kinds.Int kinds.Char a
 
 abbrev up : Expression → Converted
 up a = Convert kinds.Char kinds.Int a
 
--- a char that serves as an int
+-- a char used as an int
 abbrev wide : Expression → Expression
 wide a = Unary unary.Widen a
 
@@ -81,11 +81,11 @@ low_bytes : end (program (
     ∷ [])) ≡ HasEnded (Returned (pos 261))
 low_bytes = refl
 
--- char a = 200; char b = 100; return a + b; operators are of ints
+-- `char a = 200; char b = 100; return a + b;`: the operands are converted to ints
 sum_of_chars : end (program (define 0 Char (low (Number 200)) ∷ define 1 Char (low (Number 100)) ∷ return (sum (wide (char 0)) (wide (char 1))) ∷ [])) ≡ HasEnded (Returned (pos 300))
 sum_of_chars = refl
 
--- which a char is none of by itself
+-- a char without its conversion is not an int
 char_is_no_int : end (program (define 0 Char (low (Number 200)) ∷ return (sum (char 0) (Number 1)) ∷ [])) ≡ IsWrong
 char_is_no_int = refl
 
@@ -118,7 +118,7 @@ array_of_chars : long_printed (program (
     ∷ [])) ≡ 68 ∷ 90 ∷ 67 ∷ 65 ∷ []
 array_of_chars = refl
 
--- 4,000 chars are 1,000 words
+-- an array of 4,000 chars has 1,000 words, which is the largest size
 most_chars : makes_array (InRegion 0) 0 kinds.Char (Number 0) (Word 4000) [] no_locals (first_world (program []) [])
     ≡ Running (Beginning (InRegion 0) 4000 0 kinds.Char (Number 0)) [] no_locals (first_world (program []) [])
 most_chars = refl

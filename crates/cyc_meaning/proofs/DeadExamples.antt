@@ -1,5 +1,4 @@
--- Worked examples of dead accesses, and of trees that fit nothing: the checker refuses all of their texts. Each is proved by
--- computation.
+-- Examples of dead accesses, and of ill-formed trees; the checker rejects all of their texts. Each example is proved by computation.
 use Rattle.std.proofs.Common.{◌≡◌, ℕ, List, [], ◌∷◌, None, pos, refl}
 use Rattle.cyc_words.specs.Ending.{Returned}
 use Rattle.cyc_syntax.specs.declared.tree.PointerKind.TheVariants as marks
@@ -34,18 +33,18 @@ freed_twice_is_dead = refl
 freed_and_swapped : end (freed (declare 1 (Number 1) ∷ Execute (Swap (side 1 Int) (CellSide (target own (peek 0 own)))) ∷ [])) ≡ IsDead
 freed_and_swapped = refl
 
--- u == u is dead, and u == NULL is not
+-- after the `ufree`, `u == u` is dead, and `u == NULL` is not
 freed_and_compared : end (freed (return (apply (peek 0 own) pointers.EqualThin (peek 0 own) Int) ∷ [])) ≡ IsDead
 freed_and_compared = refl
 
 freed_and_compared_with_null : end (freed (return (apply (peek 0 own) pointers.ThinIsNull NullPointer Int) ∷ [])) ≡ HasEnded (Returned (pos 0))
 freed_and_compared_with_null = refl
 
--- the null pointer of a variable is no dead pointer either
+-- comparing the freed pointer with a null pointer in a variable is not dead either
 freed_and_compared_with_null_value : end (freed (define 1 star (null_as star) ∷ return (apply (peek 0 own) pointers.EqualThin (variable 1 star) Int) ∷ [])) ≡ HasEnded (Returned (pos 0))
 freed_and_compared_with_null_value = refl
 
--- the address of a freed cell is no access
+-- taking the address of a freed cell is not an access
 freed_and_located : end (freed (return (apply (typed.AddressOfCell (target own (peek 0 own)) at) pointers.ThinIsNull NullPointer Int) ∷ [])) ≡ HasEnded (Returned (pos 0))
 freed_and_located = refl
 
@@ -136,7 +135,7 @@ stale after = program (
     ∷ define 4 star (null_as star)
     ∷ after)
 
--- p == p, p == q and q != p are dead; p == z and z != p are not, and the answers are that they differ
+-- `p == p`, `p == q` and `q != p` are dead; `p == z` and `z != p` are not, and the pointers differ
 stale_compared_with_itself : long_end (stale (return (apply (variable 1 star) pointers.EqualThin (variable 1 star) Int) ∷ [])) ≡ IsDead
 stale_compared_with_itself = refl
 
@@ -164,20 +163,20 @@ closed_region's_freed : long_end (program (
     ∷ [])) ≡ IsDead
 closed_region's_freed = refl
 
--- ---- what fits nothing
+-- ---- trees without a meaning
 
 -- int x; return x;
 read_of_nothing : end (program (Declare 0 Int None ∷ return (local 0) ∷ [])) ≡ IsWrong
 read_of_nothing = refl
 
--- a local that was never declared, and a counter outside of every `for`
+-- a local that was never declared, and a counter outside every `for`
 no_local : end (program (return (local 3) ∷ [])) ≡ IsWrong
 no_local = refl
 
 no_counter : end (program (return (Counter 0) ∷ [])) ≡ IsWrong
 no_counter = refl
 
--- a pointer where an int is wanted, and a pointer of another kind than the tree says
+-- a pointer as the int that is returned, and a pointer of another kind than the tree states
 wrong_kind_returned : end (program (return (new OnHeap at (Number 1)) ∷ [])) ≡ IsWrong
 wrong_kind_returned = refl
 
@@ -187,7 +186,7 @@ wrong_kind_of_variable = refl
 wrong_kind_followed : end (program (define 0 at (convert at at (new OnHeap at (Number 1))) ∷ return (Load (typed.Target kinds.Fat (variable 0 at) Int)) ∷ [])) ≡ IsWrong
 wrong_kind_followed = refl
 
--- `&*p`, and a conversion of a fat pointer, where the tree says that there is a pointer and there is an int
+-- `&*p`, and a conversion of a fat pointer, if the target is an int but the tree states a pointer
 wrong_kind_of_target : end (program (define 0 at (convert at at (new OnHeap at (Number 1))) ∷ execute (AddressOfCell (typed.Target kinds.NonNull (variable 0 at) star) at) ∷ [])) ≡ IsWrong
 wrong_kind_of_target = refl
 
@@ -197,7 +196,7 @@ wrong_kind_of_element : end (program (
     ∷ [])) ≡ IsWrong
 wrong_kind_of_element = refl
 
--- int ?q = .. as the left operand of a comparison of thin pointers
+-- a fat pointer `int ?q` as the left operand of a comparison of thin pointers
 wrong_kind_compared : end (program (define 0 fat (null_as fat) ∷ return (apply (variable 0 fat) pointers.EqualThin NullPointer Int) ∷ [])) ≡ IsWrong
 wrong_kind_compared = refl
 
@@ -205,7 +204,7 @@ wrong_kind_compared = refl
 free_of_a_region's : end (program (execute (FreeUnique (new OnHeap at (Number 1))) ∷ [])) ≡ IsWrong
 free_of_a_region's = refl
 
--- int f(int a){ return a; } called without its argument
+-- `int f(int a){ return a; }` called without its argument
 argument_is_missing : end (program_with (function (Int ∷ []) (return (local 0) ∷ []) ∷ []) (return (Call (callees.Function 1) NoArguments (Value Int)) ∷ [])) ≡ IsWrong
 argument_is_missing = refl
 
@@ -213,6 +212,6 @@ argument_is_missing = refl
 wrong_kind_swapped : end (program (declare 0 (Number 1) ∷ define 1 star (null_as star) ∷ Execute (Swap (side 0 Int) (side 1 star)) ∷ [])) ≡ IsWrong
 wrong_kind_swapped = refl
 
--- a lexical region's handle is no key, and a lexical region is not opened by one
+-- the handle of a lexical region is not a key, so it cannot open the region
 handle_as_key : end (program (DeclareRegion 1 0 ∷ OpenRegion 1 1 here 0 ∷ [])) ≡ IsWrong
 handle_as_key = refl

@@ -1,4 +1,4 @@
--- Typed trees for worked examples: what a text would become, written shortly.
+-- Typed trees for examples, in a short notation.
 use Rattle.std.specs.Prelude.{ℕ, List, [], ◌∷◌, Option, Some, None}
 use Rattle.cyc_syntax.specs.Symbols.{Place}
 use Rattle.cyc_syntax.specs.declared.tree.PointerKind.TheVariants as marks
@@ -77,7 +77,7 @@ block is = Block 1 (items is)
 abbrev pub while : Expression → Statement → typed.Item
 while a s = Execute (typed.While here a s)
 
--- a function with so many parameters that returns an int
+-- a function with these parameters that returns an int
 abbrev pub function : List Ty → List typed.Item → Function
 function parameters is = record {
   name = 0;
@@ -94,35 +94,35 @@ function parameters is = record {
   end = here;
 }
 
--- a program of `main`, which has the number 0, and other functions
+-- a program with `main`, which has the number 0, and other functions
 abbrev pub program_with : List Function → List typed.Item → Program
 program_with functions is = record { structs = []; exceptions = []; globals = []; functions = function [] is ∷ functions; main = 0 }
 
 abbrev pub program : List typed.Item → Program
 program is = program_with [] is
 
--- how a program ends that needs fewer steps than this
+-- the end of a program that runs for fewer steps than this
 abbrev pub end : Program → Status
 end p = status_of (run p [] 100)
 
 abbrev pub printed : Program → List ℕ
 printed p = output_of (run p [] 100)
 
--- longer runs
+-- the end of a program with a longer run
 abbrev pub long_end : Program → Status
 long_end p = status_of (run p [] 600)
 
 abbrev pub long_printed : Program → List ℕ
 long_printed p = output_of (run p [] 600)
 
--- how a program ends with room for so many calls
+-- the end of a program with room for this many calls
 abbrev pub limited_end : ℕ → Program → Status
 limited_end calls p = status_of (limited_run p 3 calls [] 300)
 
 abbrev pub limited_printed : ℕ → Program → List ℕ
 limited_printed calls p = output_of (limited_run p 3 calls [] 300)
 
--- the same on an input
+-- the end of a program on an input
 abbrev pub end_on : List ℕ → Program → Status
 end_on input p = status_of (run p input 300)
 
@@ -140,7 +140,7 @@ at = Pointer marks.NonNull Int Heap
 abbrev pub fat : Ty
 fat = Pointer marks.Fat Int Heap
 
--- unique pointers
+-- the types of unique pointers
 abbrev pub own_star : Ty
 own_star = Pointer marks.Nullable Int Unique
 
@@ -152,7 +152,7 @@ own_fat = Pointer marks.Fat Int Unique
 
 -- ---- expressions on pointers
 
--- a value of the first type as one of the second
+-- the conversion of a value from the first type to the second
 abbrev pub convert : (from to : Ty) → Expression → Converted
 convert from to a = Convert (kind_of from) (kind_of to) a
 
@@ -168,7 +168,7 @@ move number t = Move here number t
 abbrev pub peek : ℕ → Ty → Expression
 peek number t = Peek here number t
 
--- `*e`, of a pointer of this type to an int
+-- `*e`, for a pointer of this type to an int
 abbrev pub target : Ty → Expression → Dereference
 target t a = Target (kind_of t) a Int
 
@@ -178,7 +178,7 @@ element a i = Element a i Int
 abbrev pub apply : Expression → PointerOperator → Expression → Ty → Expression
 apply a operator b t = Binary a (ThenPointer operator b NoOperations) t
 
--- `d = e`, of an int
+-- `d = e`, an assignment of an int
 abbrev pub put : Dereference → Expression → Expression
 put d a = typed.Store d (int a) (Value Int)
 
@@ -217,14 +217,14 @@ side number t = VariableSide (typed.Local here number) t
 
 -- ---- programs
 
--- a `void` function of these parameters
+-- a `void` function with these parameters
 abbrev pub procedure : List Ty → List typed.Item → Function
 procedure parameters is = record (function parameters is) { result = None }
 
 abbrev pub call_void : ℕ → Converted → typed.Item
 call_void number c = execute (Call (callees.Function number) (MoreArguments c NoArguments) Void)
 
--- how a program ends that needs fewer steps than this, and what it prints, with so many pages and calls
+-- the end and the output of a program that runs for fewer steps than this, with this many pages and calls
 abbrev pub end_within : (pages calls : ℕ) → Program → Status
 end_within pages calls p = status_of (limited_run p pages calls [] 400)
 

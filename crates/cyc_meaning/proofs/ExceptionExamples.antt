@@ -1,4 +1,4 @@
--- Worked examples of exceptions, each proved by computation. What each gives is said by the language's rules.
+-- Examples of exceptions, each proved by computation. The expected results come from the language's rules.
 use Rattle.std.proofs.Common.{◌≡◌, [], ◌∷◌, Some, None, pos, refl}
 use Rattle.cyc_words.specs.Word.{div_of, rem_of}
 use Rattle.cyc_words.specs.Ending.{Returned, Uncaught, Full}
@@ -36,7 +36,7 @@ division_printed = refl
 uncaught : end (program (throw 6 (Some (Number 9)) ∷ [])) ≡ HasEnded (Uncaught 6 (pos 9))
 uncaught = refl
 
--- throw new A; its int is 0
+-- `throw new A;`: the exception's int is 0
 uncaught_without_int : end (program (throw 5 None ∷ [])) ≡ HasEnded (Uncaught 5 (pos 0))
 uncaught_without_int = refl
 
@@ -54,7 +54,7 @@ goes_on_printed : printed goes_on ≡ 65 ∷ []
 goes_on_printed = refl
 
 -- try { putchar(65); throw new B(7); putchar(66); } catch { case &A: return 1; case &B(v): v = v + 1; return v; default: return 2; }
--- the second clause catches, and its local is one like others
+-- The second clause catches the exception; its local can be assigned like any other.
 second_clause : long_end (program (
     try_to (block (execute (print (Number 65)) ∷ throw 6 (Some (Number 7)) ∷ execute (print (Number 66)) ∷ []))
     (case 5 (return (Number 1) ∷ [])
@@ -67,19 +67,23 @@ second_clause = refl
 default_clause : end (program (try_to (Throw 7 None) (case 5 (return (Number 1) ∷ []) (otherwise (return (Number 2) ∷ []))) ∷ [])) ≡ HasEnded (Returned (pos 2))
 default_clause = refl
 
--- try putchar(65); catch { default: putchar(66); } return 3; the end of the body leaves the `try`
+-- try putchar(65); catch { default: putchar(66); } return 3;
+-- The end of the body leaves the `try`.
 body_ends : end (program (try_to (Evaluate (print (Number 65))) (otherwise (execute (print (Number 66)) ∷ [])) ∷ return (Number 3) ∷ [])) ≡ HasEnded (Returned (pos 3))
 body_ends = refl
 
--- try throw new A; catch { default: throw new B(1); } a clause is not in its own `try`
+-- try throw new A; catch { default: throw new B(1); }
+-- A clause is not inside its own `try`.
 thrown_in_clause : end (program (try_to (Throw 5 None) (otherwise (throw 6 (Some (Number 1)) ∷ [])) ∷ [])) ≡ HasEnded (Uncaught 6 (pos 1))
 thrown_in_clause = refl
 
--- while (1) try break; catch { default: return 1; } return 2; a break leaves the `try`
+-- while (1) try break; catch { default: return 1; } return 2;
+-- A `break` leaves the `try`.
 break_leaves : end (program (while (Number 1) (typed.Try typed.Break (otherwise (return (Number 1) ∷ []))) ∷ return (Number 2) ∷ [])) ≡ HasEnded (Returned (pos 2))
 break_leaves = refl
 
--- the conversion of what is returned is in the `try`: int f(){ try return g / 0; catch { default: return 4; } }
+-- int f(){ try return g / 0; catch { default: return 4; } }
+-- The conversion of a returned value is still inside the `try`.
 returned_in_try : end (program (try_to (typed.Return (Some (int (two (Number 1) operators.Divide (Number 0))))) (otherwise (return (Number 4) ∷ [])) ∷ [])) ≡ HasEnded (Returned (pos 4))
 returned_in_try = refl
 
@@ -94,7 +98,8 @@ dig = function (Int ∷ []) (
 abbrev digs : typed.Item
 digs = try_to (Evaluate (assign 0 (two (local 0) operators.Add (call 1 (Number 1 ∷ []))))) (Case 5 (Some 1) 2 (items (execute (assign 0 (two (local 0) operators.Add (local 1))) ∷ [])) NoClauses)
 
--- int s = 0; twice the same; return s; a throw leaves calls: with room for three none is left under way
+-- int s = 0; the try statement above, twice; return s;
+-- A throw ends the calls that it leaves: with room for three calls none stays active.
 abbrev digs_twice : Program
 digs_twice = program_with (dig ∷ []) (declare 0 (Number 0) ∷ digs ∷ digs ∷ return (local 0) ∷ [])
 
@@ -109,7 +114,7 @@ digs_full = refl
 abbrev stops : typed.Item
 stops = try_to (block (define 0 fat (convert fat fat (array OnHeap fat (Number 600) (call 1 (Counter 0 ∷ [])))) ∷ [])) (case 5 (execute (print (Number 120)) ∷ []) NoClauses)
 
--- twice: a throw among the elements leaves the block made, so that the second one needs a page more
+-- the item above twice: the throw inside the initializer leaves the allocated block behind, so the second one needs another page
 abbrev stops_twice : Program
 stops_twice = program_with
     (function (Int ∷ []) (Execute (If (two (local 0) operators.Equal (Number 1)) (Throw 5 None) Empty) ∷ return (local 0) ∷ []) ∷ [])
@@ -127,12 +132,12 @@ full_with_one_page = refl
 full_with_one_page_printed : printed_within 1 2 stops_twice ≡ 120 ∷ []
 full_with_one_page_printed = refl
 
--- throw new Div_zero; one of the language's own
+-- `throw new Div_zero;`, a built-in exception
 own_exception : end (program (throw 4 None ∷ [])) ≡ HasEnded (Uncaught 4 (pos 0))
 own_exception = refl
 
 -- int @f(int n){ int *p = NULL; try return p; catch { case &Null_Exception: putchar(65); } return new n; } return *f(7);
--- what is returned is converted in its own `try`
+-- The returned value is converted inside its own `try`.
 abbrev converted_in_try : Program
 converted_in_try = program_with (function (Int ∷ []) (
     define 1 star (null_as star)
@@ -220,7 +225,7 @@ thrown_often_full_prints : printed_within 1 2 thrown_often ≡ []
 thrown_often_full_prints = refl
 
 -- int f(int n){ try return f(n + 1); catch { default: putchar(88); return 0; } } putchar(65); return f(0);
--- want of calls is no exception
+-- Running out of calls is not an exception.
 abbrev endless : Program
 endless = program_with (function (Int ∷ []) (
     try_to (typed.Return (Some (int (call 1 (two (local 0) operators.Add (Number 1) ∷ []))))) (otherwise (execute (print (Number 88)) ∷ return (Number 0) ∷ []))
@@ -232,8 +237,8 @@ endless_is_full = refl
 endless_prints : printed_within 1 5 endless ≡ 65 ∷ []
 endless_prints = refl
 
--- int f(int a, int b){ throw new E(a * 10 + b); }
--- int s = 1; try { s = 2 + f(3, s + f(1, 2)); } catch { case &E(v): s = s + v; } return s; what waits for a value is dropped
+-- int f(int a, int b){ throw new E(a * 10 + b); } int s = 1; try { s = 2 + f(3, s + f(1, 2)); } catch { case &E(v): s = s + v; } return s;
+-- The throw drops the continuations that wait for a value.
 waiting_is_dropped : end (program_with (function (Int ∷ Int ∷ []) (
     throw 5 (Some (two (two (local 0) operators.Multiply (Number 10)) operators.Add (local 1)))
     ∷ []) ∷ []) (

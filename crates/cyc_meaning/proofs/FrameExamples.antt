@@ -1,4 +1,4 @@
--- Worked examples of needs and frame counts, each proved by computation; the sums stand beside them.
+-- Examples of needs and frame counts, each proved by computation; each comment shows the sum.
 use Rattle.std.proofs.Common.{◌≡◌, ℕ, zero, suc, List, [], ◌∷◌, None, refl}
 use Rattle.cyc_types.specs.declared.region.Region.TheVariants.{Heap}
 use Rattle.cyc_types.specs.declared.typed.PointerOperator.TheVariants as pointers
@@ -11,11 +11,11 @@ use Rattle.cyc_meaning.proofs.ExampleTrees.{here, local, assign, procedure, at, 
 
 -- ---- expressions
 
--- a = 1: the place, its value, and the result: 3 + 1 + 1
+-- `a = 1`: the place, its value, and the result: 3 + 1 + 1
 of_assignment : expression_need (assign 0 (Number 1)) ≡ 5
 of_assignment = refl
 
--- *p of a thin pointer: the pointer and the int; a place that is read counts nothing more
+-- `*p` for a thin pointer: the pointer and the int; a place that is only read adds nothing
 of_read : expression_need (Load (target at (variable 0 at))) ≡ 2
 of_read = refl
 
@@ -23,7 +23,7 @@ of_read = refl
 of_element : expression_need (Load (element (variable 0 fat) (local 1))) ≡ 5
 of_element = refl
 
--- p[i] = 1: the place has 3 words behind its operands, 3 + 1 + 3, which is more than 3 + 1 + 1
+-- `p[i] = 1`: the place has 3 words after its operands, 3 + 1 + 3, which is more than 3 + 1 + 1
 of_element_assigned : expression_need (put (element (variable 0 fat) (local 1)) (Number 1)) ≡ 7
 of_element_assigned = refl
 
@@ -38,7 +38,7 @@ of_element_address = refl
 of_null_test : expression_need (apply (variable 0 fat) pointers.FatIsNull NullPointer Int) ≡ 5
 of_null_test = refl
 
--- NULL == p[i] for an int pointer's cell: NULL, and then the need of p[i]: 1 + 5
+-- `NULL == p[i]` for a cell with an int pointer: the word of NULL, plus the need of p[i]: 1 + 5
 of_null_first : expression_need (apply NullPointer pointers.NullIs (Load (element (variable 0 fat) (local 1))) Int) ≡ 6
 of_null_first = refl
 
@@ -49,7 +49,7 @@ of_sum = refl
 of_count : expression_need (NumberOfElements (variable 0 fat)) ≡ 4
 of_count = refl
 
--- q = p with q fat and p thin: 3 + 3 + 3, the converted operand counts the more of its words
+-- `q = p` with q fat and p thin: 3 + 3 + 3; the converted operand counts its larger size
 of_converted : expression_need (set 0 fat (convert at fat (variable 1 at))) ≡ 9
 of_converted = refl
 
@@ -63,35 +63,35 @@ of_new_by_handle = refl
 of_new_unique : expression_need (new AsUnique own (Number 1)) ≡ 3
 of_new_unique = refl
 
--- new {for i < n : i}: 4 beside the element, and the element and the pointer: 4 + 1 + 3; behind a handle one more
+-- `new {for i < n : i}`: 4 words for the `for`, 1 for the element, 3 for the pointer, and one more after a handle
 of_array : expression_need (array OnHeap fat (local 0) (Counter 0)) ≡ 8
 of_array = refl
 
 of_array_by_handle : expression_need (array (ByHandle (variable 1 (Handle Heap))) fat (local 0) (Counter 0)) ≡ 9
 of_array_by_handle = refl
 
--- char(1): 1 + 1; and a char that serves as an int needs what it needs itself
+-- `char(1)`: 1 + 1; a char used as an int needs only what the char needs
 of_low_byte : expression_need (Unary unary.LowByte (Number 1)) ≡ 2
 of_low_byte = refl
 
 of_char_as_int : expression_need (Unary unary.Widen (variable 0 Char)) ≡ 1
 of_char_as_int = refl
 
--- free_ukey(k): the key, and no value
+-- `free_ukey(k)`: the key, and no value
 of_free_key : expression_need (FreeKey (move 0 (Key Heap))) ≡ 1
 of_free_key = refl
 
--- p[i] :=: x: two places, 3 + 3, and the first with its operands, 3 + 1 + 3
+-- `p[i] :=: x`: two places, 3 + 3; and the first with its operands, 3 + 1 + 3
 of_swap : statement_need (Swap (CellSide (element (variable 0 fat) (local 1))) (side 2 Int)) ≡ 7
 of_swap = refl
 
--- x :=: p[i]: the second behind the first: 3 + 3 + 1 + 3
+-- `x :=: p[i]`: the second place after the first: 3 + 3 + 1 + 3
 of_swap_right : statement_need (Swap (side 2 Int) (CellSide (element (variable 0 fat) (local 1)))) ≡ 10
 of_swap_right = refl
 
 -- ---- functions
 
--- so many ints
+-- a list of this many ints
 abbrev ints : ℕ → List Ty
 ints zero = []
 ints (suc n) = Int ∷ ints n
@@ -100,7 +100,7 @@ ints (suc n) = Int ∷ ints n
 of_ints : frame_count (record (procedure [] []) { locals = ints 232 }) ≡ 256
 of_ints = refl
 
--- region<`a> h; counts two words for its handle, and region<`k> h = open(k); one: 24 + 1 + 1
+-- The item region<`a> h; counts two words for its handle, and region<`k> h = open(k); counts one: 24 + 1 + 1
 of_lexical : frame_count (record (procedure [] (DeclareRegion 1 0 ∷ [])) { locals = Handle Heap ∷ [] }) ≡ 26
 of_lexical = refl
 

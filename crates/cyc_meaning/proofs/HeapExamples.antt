@@ -1,4 +1,4 @@
--- Worked examples of heap objects and pointers, each proved by computation. What each gives is said by the language's rules.
+-- Examples of heap objects and pointers, each proved by computation. The expected results come from the language's rules.
 use Rattle.std.proofs.Common.{◌≡◌, [], ◌∷◌, pos, refl}
 use Rattle.cyc_words.specs.Ending.{Returned, Uncaught}
 use Rattle.cyc_types.specs.declared.typed.Kind.TheVariants as kinds
@@ -34,14 +34,16 @@ null_read = refl
 null_read_prints : printed (program (define 0 star (null_as star) ∷ execute (print (Number 65)) ∷ return (Load (target star (variable 0 star))) ∷ [])) ≡ 65 ∷ []
 null_read_prints = refl
 
--- int *p = NULL; *p = putchar(65); return 0; the place's checks come before the right side
+-- int *p = NULL; *p = putchar(65); return 0;
+-- The place is checked before the right side is evaluated.
 place_before_value : long_printed (program (define 0 star (null_as star) ∷ execute (put (target star (variable 0 star)) (print (Number 65))) ∷ return (Number 0) ∷ [])) ≡ []
 place_before_value = refl
 
 place_before_value_ends : long_end (program (define 0 star (null_as star) ∷ execute (put (target star (variable 0 star)) (print (Number 65))) ∷ return (Number 0) ∷ [])) ≡ HasEnded (Uncaught 1 (pos 0))
 place_before_value_ends = refl
 
--- int *p = NULL; return &*p == NULL; `&` makes the checks too
+-- int *p = NULL; return &*p == NULL;
+-- The place under `&` is checked too.
 address_of_null : end (program (define 0 star (null_as star) ∷ return (apply (AddressOfCell (target star (variable 0 star)) at) pointers.ThinIsNull NullPointer Int) ∷ [])) ≡ HasEnded (Uncaught 1 (pos 0))
 address_of_null = refl
 
@@ -72,14 +74,15 @@ struct_fields : end (with_struct (program (
     ∷ []))) ≡ HasEnded (Returned (pos 7))
 struct_fields = refl
 
--- the same with an object of another shape: `new 3` as a struct
+-- the struct example with an object of another shape: `new 3` as a struct
 other_shape : end (with_struct (program (
     define 0 p (convert p p (new OnHeap p (Number 4)))
     ∷ return (Load x)
     ∷ []))) ≡ IsWrong
 other_shape = refl
 
--- struct P *p = NULL; p->x = putchar(65); return 0; a field's checks come before the right side
+-- struct P *p = NULL; p->x = putchar(65); return 0;
+-- A field's place is checked before the right side is evaluated.
 abbrev p_star : Ty
 p_star = Pointer marks.Nullable (Struct 0 []) Heap
 
@@ -96,8 +99,9 @@ field_of_null_ends = refl
 field_of_null_prints : printed field_of_null ≡ []
 field_of_null_prints = refl
 
--- struct S { int a; int ?p; int b; }; struct S @s = new S{1, new {for i < 2 : i + 7}, 3}; s->p[1] = s->p[1] + 1;
--- return s->b * 100 + s->p[1] * 10 + s->a; fields of one word and of three
+-- struct S { int a; int ?p; int b; }; struct S @s = new S{1, new {for i < 2 : i + 7}, 3}; s->p[1] = s->p[1] + 1; return s->b * 100 +
+-- s->p[1] * 10 + s->a;
+-- The struct has fields of one word and of three.
 abbrev second : typed.Dereference
 second = element (Load (Member kinds.NonNull (variable 0 p) 0 1 fat)) (Number 1)
 
@@ -115,7 +119,8 @@ fields_of_all_sizes : long_end (record (program (
     }) ≡ HasEnded (Returned (pos 391))
 fields_of_all_sizes = refl
 
--- int *p = new 1; int *q = p; *p = *(p = new 5) + 1; return *q * 10 + *p; a place that was found stays that cell
+-- int *p = new 1; int *q = p; *p = *(p = new 5) + 1; return *q * 10 + *p;
+-- A place that was evaluated stays that cell.
 found_place_stays : long_end (program (
     define 0 star (convert at star (new OnHeap at (Number 1)))
     ∷ define 1 star (convert star star (variable 0 star))
@@ -124,7 +129,8 @@ found_place_stays : long_end (program (
     ∷ [])) ≡ HasEnded (Returned (pos 65))
 found_place_stays = refl
 
--- int second(int @a, int b){ return b; } int *p = NULL; return second(p, putchar(65)); an argument is converted before the next one
+-- int second(int @a, int b){ return b; } int *p = NULL; return second(p, putchar(65));
+-- An argument is converted before the next one is evaluated.
 abbrev null_argument : Program
 null_argument = program_with (function (at ∷ Int ∷ []) (return (local 1) ∷ []) ∷ []) (
     define 0 star (null_as star)
@@ -175,25 +181,27 @@ past_the_end : long_end (program (
     ∷ [])) ≡ HasEnded (Uncaught 2 (pos 0))
 past_the_end = refl
 
--- int ?p = NULL; return p[putchar(65)]; operands come before the checks, and null before the bounds
+-- int ?p = NULL; return p[putchar(65)];
+-- Operands are evaluated before the checks; null is checked before the bounds.
 null_element : end (program (define 0 fat (null_as fat) ∷ return (Load (element (variable 0 fat) (print (Number 65)))) ∷ [])) ≡ HasEnded (Uncaught 1 (pos 0))
 null_element = refl
 
 null_element_prints : printed (program (define 0 fat (null_as fat) ∷ return (Load (element (variable 0 fat) (print (Number 65)))) ∷ [])) ≡ 65 ∷ []
 null_element_prints = refl
 
--- letters; return *(p - 1 + 2); an index may go below 0 and come back
+-- the array of letters; return *(p - 1 + 2);
+-- An index may become negative and return.
 below_and_back : long_end (program (letters ∷ return (Load (target fat (apply (apply (variable 0 fat) pointers.SubtractFat (Number 1) fat) pointers.AddFat (Number 2) fat))) ∷ [])) ≡ HasEnded (Returned (pos 66))
 below_and_back = refl
 
--- letters; int *q = p + 1; return *q; and int *q = p + 3;
+-- the array of letters; int *q = p + 1; return *q; and this program with int *q = p + 3;
 thinned : long_end (program (letters ∷ define 1 star (convert fat star (apply (variable 0 fat) pointers.AddFat (Number 1) fat)) ∷ return (Load (target star (variable 1 star))) ∷ [])) ≡ HasEnded (Returned (pos 66))
 thinned = refl
 
 thinned_past_the_end : long_end (program (letters ∷ define 1 star (convert fat star (apply (variable 0 fat) pointers.AddFat (Number 3) fat)) ∷ return (Number 0) ∷ [])) ≡ HasEnded (Uncaught 2 (pos 0))
 thinned_past_the_end = refl
 
--- int @p = new 5; int ?q = p; return numelts(q); and numelts(q + 1)
+-- int @p = new 5; int ?q = p; return numelts(q); and this program with numelts(q + 1)
 one_element : end (program (define 0 fat (convert at fat (new OnHeap at (Number 5))) ∷ return (NumberOfElements (variable 0 fat)) ∷ [])) ≡ HasEnded (Returned (pos 1))
 one_element = refl
 
@@ -201,7 +209,7 @@ no_element : end (program (define 0 fat (convert at fat (new OnHeap at (Number 5
 no_element = refl
 
 -- int ?p = new {for i < 3 : i}; int ?q = &p[1]; putchar(48 + numelts(q)); putchar(48 + q[0]); return q[1];
--- the address of an element has one element
+-- The address of an element is a fat pointer to one element.
 abbrev address_of_element : Program
 address_of_element = program (
     define 0 fat (convert fat fat (array OnHeap fat (Number 3) (Counter 0)))
@@ -237,7 +245,7 @@ out_of_bounds_prints : long_printed out_of_bounds ≡ 48 ∷ 53 ∷ 48 ∷ 48 �
 out_of_bounds_prints = refl
 
 -- int ?p = NULL; p = p + 1; int ?e = new {for i < 0 : 1}; if (e + 7) putchar(65); return (p == NULL) * 10 + numelts(p) + !p;
--- arithmetic leaves null null, and an index out of bounds is not null
+-- Arithmetic leaves null unchanged, and an out-of-bounds pointer is not null.
 abbrev moved_null : Program
 moved_null = program (
     define 0 fat (null_as fat)
@@ -256,7 +264,7 @@ moved_null_prints : long_printed moved_null ≡ 65 ∷ []
 moved_null_prints = refl
 
 -- int ?p = new {for i < 3 : i + 4}; int *q = NULL; int ?r = (q = p + 1); return numelts(r) * 10 + r[0];
--- an assignment's value is what was stored: a thin pointer, of one element
+-- The value of an assignment is the stored value: a thin pointer, so one element.
 thinned_and_fat_again : long_end (program (
     define 0 fat (convert fat fat (array OnHeap fat (Number 3) (two (Counter 0) operators.Add (Number 4))))
     ∷ define 1 star (null_as star)
@@ -288,28 +296,29 @@ arrays_of_arrays : status_of (run (program (
     ∷ [])) [] 900) ≡ HasEnded (Returned (pos 924))
 arrays_of_arrays = refl
 
--- ---- how long an array may be
+-- ---- the maximal length of an array
 
 -- int n = -1; new {for i < n : 1};
 array_of_negative_length : end (program (declare 0 (Unary unary.Negate (Number 1)) ∷ define 1 fat (convert fat fat (array OnHeap fat (local 0) (Number 1))) ∷ return (Number 0) ∷ [])) ≡ HasEnded (Uncaught 3 (pos 0))
 array_of_negative_length = refl
 
--- new {for i < 1001 : 1}; and one element fewer is begun with
+-- `new {for i < 1001 : 1};` is too long, and with 1000 elements the allocation begins
 array_too_long : end (program (define 0 fat (convert fat fat (array OnHeap fat (Number 1001) (Number 1))) ∷ return (Number 0) ∷ [])) ≡ HasEnded (Uncaught 3 (pos 0))
 array_too_long = refl
 
--- 334 fat pointers have 1,002 words, and 333 have 999
+-- an array of 334 fat pointers has 1,002 words, which is too many; 333 have 999
 array_of_too_many_words : makes_array (InRegion 0) 0 kinds.Fat (NullPointer) (Word 334) [] no_locals (first_world (program []) []) ≡ Running (Throwing 3 0) [] no_locals (first_world (program []) [])
 array_of_too_many_words = refl
 
 array_of_enough_words : makes_array (InRegion 0) 0 kinds.Fat NullPointer (Word 333) [] no_locals (first_world (program []) []) ≡ Running (Beginning (InRegion 0) 333 0 kinds.Fat NullPointer) [] no_locals (first_world (program []) [])
 array_of_enough_words = refl
 
--- the words are counted as a whole number: 1,431,655,766 fat pointers would have 2 words in 32 bits
+-- the number of words does not wrap: 1,431,655,766 fat pointers would have 2 words modulo 2 ^ 32
 array_that_would_wrap : makes_array (InRegion 0) 0 kinds.Fat NullPointer (Word 1431655766) [] no_locals (first_world (program []) []) ≡ Running (Throwing 3 0) [] no_locals (first_world (program []) [])
 array_that_would_wrap = refl
 
--- int n = 2; int ?p = new {for i < n : (n = 9) + i}; return numelts(p) * 100 + p[1] + n; the length is evaluated once
+-- int n = 2; int ?p = new {for i < n : (n = 9) + i}; return numelts(p) * 100 + p[1] + n;
+-- The length is evaluated only once.
 length_is_evaluated_once : long_end (program (
     declare 0 (Number 2)
     ∷ define 1 fat (convert fat fat (array OnHeap fat (local 0) (two (assign 0 (Number 9)) operators.Add (Counter 0))))
@@ -342,11 +351,12 @@ caught_sizes_end = refl
 caught_sizes_print : long_printed caught_sizes ≡ 97 ∷ 98 ∷ 99 ∷ []
 caught_sizes_print = refl
 
--- int ?p = new {for i < 0 : 1}; return numelts(p) + (p == NULL); it is not null
+-- int ?p = new {for i < 0 : 1}; return numelts(p) + (p == NULL);
+-- A pointer to an empty array is not null.
 empty_array : end (program (define 0 fat (convert fat fat (array OnHeap fat (Number 0) (Number 1))) ∷ return (two (NumberOfElements (variable 0 fat)) operators.Add (apply (variable 0 fat) pointers.FatIsNull NullPointer Int)) ∷ [])) ≡ HasEnded (Returned (pos 0))
 empty_array = refl
 
--- an array in an array's elements: {for i < 2 : numelts(new {for j < i + 1 : j + i})}; return p[1];
+-- an array whose elements contain an array: {for i < 2 : numelts(new {for j < i + 1 : j + i})}; return p[1];
 nested_counters : long_end (program (
     define 0 fat (convert fat fat (New OnHeap (Array here 0 (Number 2) kinds.Int (
     Load (element (New OnHeap (Array here 1 (two (Counter 0) operators.Add (Number 1)) kinds.Int (two (Counter 1) operators.Add (Counter 0))) fat) (Counter 0)))) fat))
@@ -365,6 +375,6 @@ equal_pointers : end (program (
     ∷ [])) ≡ HasEnded (Returned (pos 2))
 equal_pointers = refl
 
--- return (p == NULL) + (NULL == p) * 2 for a null pointer
+-- `return (p == NULL) + (NULL == p) * 2` for a null pointer p
 null_is_null : end (program (define 0 star (null_as star) ∷ return (two (apply (variable 0 star) pointers.ThinIsNull NullPointer Int) operators.Add (two (apply NullPointer pointers.NullIs (variable 0 star) Int) operators.Multiply (Number 2))) ∷ [])) ≡ HasEnded (Returned (pos 3))
 null_is_null = refl

@@ -1,12 +1,12 @@
--- what the proofs of the compiler cite
+-- lemmas that the proofs of the compiler cite
 pub mod RunLaws
--- what the laws of this crate cite
+-- lemmas that the laws of this crate cite
 pub mod Outcomes
 pub mod WorldLaws
 pub mod DemandLaws
 pub mod NestingLemmas
 pub mod Nested
--- examples
+-- trees and notation for examples
 pub mod ExampleTrees
 pub mod Examples
 pub mod StepExamples

@@ -1,5 +1,5 @@
--- Regions of blocks and lexical regions nest in every state of a run, so only an access is dead, and an exception that no `try` is round
--- leaves all that is under way.
+-- Regions of blocks and lexical regions nest in every state of a run. Only an access can be dead, and an exception that no `try` encloses
+-- pops all entries.
 use Rattle.std.proofs.Common.{◌≡◌, ℕ, zero, suc, ◌+◌, Bool, true, false, List, [], ◌∷◌, length, refl, sym, ap, subst, ◌∙◌}
 use Rattle.std.specs.Prelude.{slice_get}
 use Rattle.cyc_words.specs.Ending.{Uncaught}
@@ -72,7 +72,7 @@ left_lexical program tag value region stack e w h rest (Found r) found = rest r
 left_lexical program tag value region stack e w h rest Closed found = absurd (subst IsFound found h.0.0)
 left_lexical program tag value region stack e w h rest Missing found = absurd (subst IsFound found h.0.0)
 
--- an exception leaves all entries, one a step, and then the run has ended
+-- an exception pops all entries, one a step, and then the run has ended
 unwinds_untried : (program : Program) (tag value : ℕ) (stack : List Entry) (e : Environment) (w : World) → IsNested stack e w → IsUntried stack → steps program (suc (length stack)) (Running (Throwing tag value) stack e w) ≡ Ended (Uncaught tag (signed value)) w.output w.input
 unwinds_untried program tag value [] e w h free = refl
 unwinds_untried program tag value (Needs a ∷ stack) e w h free = unwinds_untried program tag value stack e w h free

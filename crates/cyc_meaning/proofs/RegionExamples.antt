@@ -1,4 +1,4 @@
--- Worked examples of regions and keys, each proved by computation. What each gives is said by the language's rules.
+-- Examples of regions and keys, each proved by computation. The expected results come from the language's rules.
 use Rattle.std.proofs.Common.{◌≡◌, ℕ, List, [], ◌∷◌, Some, None, pos, refl}
 use Rattle.cyc_words.specs.Ending.{Returned, Full}
 use Rattle.cyc_types.specs.declared.region.Region.TheVariants.{Heap}
@@ -15,7 +15,7 @@ use Rattle.cyc_meaning.proofs.ExampleTrees.{long_printed, end_within, star, at, 
 abbrev handle : ℕ → Expression
 handle number = variable number (Handle Heap)
 
--- where the handle in a local says
+-- allocation in the region whose handle is in this local
 abbrev by : ℕ → Placement
 by number = ByHandle (handle number)
 
@@ -50,7 +50,7 @@ lexical = refl
 abbrev in_a_block : typed.Item
 in_a_block = Execute (block (DeclareRegion 2 0 ∷ execute (new (by 0) at (Number 7)) ∷ []))
 
--- twice: a lexical region's pages are given back at the end of its block
+-- the block twice: the pages of a lexical region are freed at the end of its block
 regions_in_turn : end_within 2 1 (program (in_a_block ∷ in_a_block ∷ return (Number 0) ∷ [])) ≡ HasEnded (Returned (pos 0))
 regions_in_turn = refl
 
@@ -78,7 +78,8 @@ dig = function (Int ∷ []) (
 abbrev digs : typed.Item
 digs = try_to (Evaluate (assign 0 (two (local 0) operators.Add (call 1 (Number 0 ∷ []))))) (Case 5 (Some 1) 2 (items (execute (assign 0 (two (local 0) operators.Add (local 1))) ∷ [])) NoClauses)
 
--- int s = 0; twice the same; return s; a throw out of a call and 3 regions closes them: the heap's page and three more are enough
+-- int s = 0; the try statement above, twice; return s;
+-- A throw out of a call and three regions closes them, so the heap's page and three more suffice.
 abbrev digs_twice : Program
 digs_twice = program_with (dig ∷ []) (declare 0 (Number 0) ∷ digs ∷ digs ∷ return (local 0) ∷ [])
 
@@ -102,7 +103,7 @@ opened_and_freed after = program (
     ∷ free_key 0
     ∷ after)
 
--- return p == NULL; a stale pointer is not null
+-- `return p == NULL;`: a stale pointer is not null
 stale_is_not_null : long_end (opened_and_freed (return (apply (variable 1 star) pointers.ThinIsNull NullPointer Int) ∷ [])) ≡ HasEnded (Returned (pos 0))
 stale_is_not_null = refl
 
@@ -121,11 +122,11 @@ opened_in_try_end = refl
 opened_in_try_printed : long_printed opened_in_try ≡ 65 ∷ []
 opened_in_try_printed = refl
 
--- a dynamic region needs its page from `new_ukey` to `free_ukey`
+-- a dynamic region has its page from `new_ukey` to `free_ukey`
 key_needs_a_page : end_within 1 1 opened_in_try ≡ HasEnded Full
 key_needs_a_page = refl
 
--- the region stays open behind the block that opened it, and is open again in the next one
+-- the region stays open after the block that opened it, and is opened again in the next block
 opened_twice : long_end (program (
     DeclareKey 1 0
     ∷ define 1 star (null_as star)
@@ -152,15 +153,16 @@ keys_in_turn = program (
     ∷ return (local 1)
     ∷ [])
 
--- what `free_ukey` gives back is there for the next one
+-- the pages freed by `free_ukey` are available for the next region
 keys_in_turn_end : end_within 2 1 keys_in_turn ≡ HasEnded (Returned (pos 0))
 keys_in_turn_end = refl
 
 keys_in_turn_full : end_within 1 1 keys_in_turn ≡ HasEnded Full
 keys_in_turn_full = refl
 
--- let NewDynamicRegion{<`k> k} = new_ukey(); int *`k p = NULL; { region<`k> h = open(k); p = rnew(h) 9; }
--- try throw new E; catch { case &E: ; } region<`k> h = open(k); return *p; a throw closes no dynamic region
+-- let NewDynamicRegion{<`k> k} = new_ukey(); int *`k p = NULL; { region<`k> h = open(k); p = rnew(h) 9; } try throw new E; catch { case &E:
+-- ; } region<`k> h = open(k); return *p;
+-- A throw closes no dynamic region.
 thrown_beside_a_key : long_end (program (
     DeclareKey 1 0
     ∷ define 1 star (null_as star)
@@ -171,8 +173,9 @@ thrown_beside_a_key : long_end (program (
     ∷ [])) ≡ HasEnded (Returned (pos 9))
 thrown_beside_a_key = refl
 
--- nor where it leaves the block that opened it: try { region<`k> h = open(k); throw new E; } catch { case &E: return *p; }
--- (this text is refused, since the region is not known to be open in the clause)
+-- try { region<`k> h = open(k); throw new E; } catch { case &E: return *p; }
+-- A throw does not close a dynamic region even if it leaves the block that opened it. (The checker rejects this text, since the region is
+-- not known to be open in the clause.)
 thrown_past_a_key : long_end (program (
     DeclareKey 1 0
     ∷ define 1 star (null_as star)

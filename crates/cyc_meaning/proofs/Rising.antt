@@ -1,25 +1,25 @@
--- Numbers of locals rise in a program that the typing rules accept.
+-- The numbers of locals increase along the text of a well-typed program.
 use Rattle.std.proofs.Common.{◌≡◌, ℕ, zero, suc, ◌≤◌, true, false, List, [], ◌∷◌, length, Some, None, subst, arith}
 use Rattle.std.specs.Prelude.{slice_get}
 use Rattle.cyc_types.specs.declared.region.Region.TheVariants as regions
 use Rattle.cyc_types.specs.declared.scope.Kind.TheVariants as scopes
 use Rattle.cyc_types.specs.Types.{Handle, Key}
 use Rattle.cyc_types.specs.TypedTrees.{Statement, Block, If, While, Try, Items, NoItems, MoreItems, Execute, Declare, DeclareRegion, OpenRegion, DeclareAlias, DeclareKey, Clauses, NoClauses, Default, Case, Function, Program}
-use Rattle.cyc_types.specs.typing.WellTyped.{Context, WellTypedStatement, WellTypedItems, WellTypedClauses, behind, in_block, in_body, with_local, with_region, with_opened, with_key_opened, with_caught, behind_clause, body_context, AreWellTypedFunctions, IsWellTypedProgram}
+use Rattle.cyc_types.specs.typing.WellTyped.{Context, WellTypedStatement, WellTypedItems, WellTypedClauses, following, in_block, in_body, with_local, with_region, with_opened, with_key_opened, with_caught, after_clause, body_context, AreWellTypedFunctions, IsWellTypedProgram}
 use Rattle.cyc_meaning.specs.inside.Variables.{StatementRises, ItemsRise, ClausesRise, FunctionsRise}
 
 mutual
   statement_rises : (c : Context) (m : ℕ) (s : Statement) → m ≤ c.next_local → WellTypedStatement c s → StatementRises m s
   statement_rises c m (Block r js) less (next, items) = items_rise (in_block c) m js less items
   statement_rises c m (If a s t) less (condition, first, second) =
-      (statement_rises c m s less first, statement_rises (behind c s) m t (omega (arith, less)) second)
+      (statement_rises c m s less first, statement_rises (following c s) m t (omega (arith, less)) second)
   statement_rises c m (While p a s) less (condition, body) = statement_rises (in_body c) m s less body
-  statement_rises c m (Try s ds) less (body, clauses) = (statement_rises c m s less body, clauses_rise (behind c s) m ds (omega (arith, less)) clauses)
+  statement_rises c m (Try s ds) less (body, clauses) = (statement_rises c m s less body, clauses_rise (following c s) m ds (omega (arith, less)) clauses)
   statement_rises c m s less typed = tt
 
   items_rise : (c : Context) (m : ℕ) (js : Items) → m ≤ c.next_local → WellTypedItems c js → ItemsRise m js
   items_rise c m NoItems less typed = tt
-  items_rise c m (MoreItems (Execute s) js) less (first, rest) = (statement_rises c m s less first, items_rise (behind c s) m js (omega (arith, less)) rest)
+  items_rise c m (MoreItems (Execute s) js) less (first, rest) = (statement_rises c m s less first, items_rise (following c s) m js (omega (arith, less)) rest)
   items_rise c m (MoreItems (Declare n t v) js) less (declared, initial, rest) =
       let is : n ≡ c.next_local = declared.0 in
       (omega (arith, less, is), items_rise (with_local true t c) (suc n) js (omega (arith, is)) rest)
@@ -40,10 +40,10 @@ mutual
   clauses_rise c m NoClauses less typed = tt
   clauses_rise c m (Default r js) less (next, items) = items_rise (in_block c) m js less items
   clauses_rise c m (Case e None r js ds) less (has, exception, caught, next, items, later) =
-      (items_rise (in_block c) m js less items, clauses_rise (behind_clause c None js) m ds (omega (arith, less)) later)
+      (items_rise (in_block c) m js less items, clauses_rise (after_clause c None js) m ds (omega (arith, less)) later)
   clauses_rise c m (Case e (Some n) r js ds) less (true, exception, caught, next, items, later) =
       let is : n ≡ c.next_local = caught.0 in
-      (omega (arith, less, is), items_rise (with_caught (Some n) (in_block c)) (suc n) js (omega (arith, is)) items, clauses_rise (behind_clause c (Some n) js) m ds (omega (arith, less)) later)
+      (omega (arith, less, is), items_rise (with_caught (Some n) (in_block c)) (suc n) js (omega (arith, is)) items, clauses_rise (after_clause c (Some n) js) m ds (omega (arith, less)) later)
   clauses_rise c m (Case e (Some n) r js ds) less (false, exception, caught, next, items, later) = absurd caught
 
 pub functions_rise : (program : Program) → IsWellTypedProgram program → FunctionsRise program

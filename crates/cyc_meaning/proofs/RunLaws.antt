@@ -17,7 +17,7 @@ use Rattle.cyc_meaning.proofs.Outcomes.{Outcome, Goes, Ends, Dies, Fails, outcom
 
 -- ---- one step
 
--- `main` is called where only the globals' region is there
+-- `main` is called while only the regions of the heap and the globals exist
 pub start_nested : (program : Program) (input : List ℕ) → IsNested (Main ∷ []) no_locals (first_world program input)
 start_nested program input = ((tt, tt), (omega arith, tt), refl, starts)
   where
@@ -83,7 +83,7 @@ module _ (program : Program) (focus : Focus) (stack : List Entry) (e : Environme
   pub step_reads : input_of (step program (Running focus stack e w)) ≡ drop (read_by focus) w.input
   step_reads = outcome_read (outcome program focus stack e w)
 
-  -- only calls and their ends change the number of calls
+  -- only calls and their ends change the number of active calls
   pub step_calls : status_of (step program (Running focus stack e w)) ≡ GoesOn → depth (step program (Running focus stack e w)) ≡ calls_after focus stack
   step_calls going = outcome_calls (outcome program focus stack e w) going
 
@@ -119,14 +119,14 @@ within_where_over pages calls (Wrong output input) over = and_from _ _ (le-leb 0
 
 -- ---- limits
 
--- a step within the limits is the step, and any other ends the run
+-- a step within the limits is unchanged, and any other step ends the run
 pub limited-within : (pages calls : ℕ) (old new : State) → is_within pages calls new ≡ true → limited pages calls old new ≡ new
 limited-within pages calls old new within = ap (λ (b : Bool). if b then new else Ended Full (output_of old) (input_of old)) within
 
 pub limited-full : (pages calls : ℕ) (old new : State) → is_within pages calls new ≡ false → limited pages calls old new ≡ Ended Full (output_of old) (input_of old)
 limited-full pages calls old new within = ap (λ (b : Bool). if b then new else Ended Full (output_of old) (input_of old)) within
 
--- what holds of a step, and of the end in its place, holds of the limited step
+-- a property of the unlimited step and of the full end holds of the limited step
 pub limited_cases : (P : State → Type 0) (pages calls : ℕ) (old new : State) → (is_within pages calls new ≡ true → P new) → (is_within pages calls new ≡ false → P (Ended Full (output_of old) (input_of old))) → P (limited pages calls old new)
 limited_cases P pages calls old new first second = go (is_within pages calls new) refl
   where
@@ -150,7 +150,7 @@ limited_over_stays program pages calls (suc n) s over =
 
 -- ---- runs
 
--- a run goes on from where it stands
+-- running m + n steps is running m steps and then n steps
 pub steps-add : (program : Program) (m n : ℕ) (s : State) → steps program (m + n) s ≡ steps program n (steps program m s)
 steps-add program zero n s = let e : 0 + n ≡ n = omega arith in ap (λ k. steps program k s) e
 steps-add program (suc m) n s =
@@ -161,7 +161,7 @@ pub steps-last : (program : Program) (n : ℕ) (s : State) → steps program (su
 steps-last program zero s = refl
 steps-last program (suc n) s = steps-last program n (step program s)
 
--- what was printed stays, and input is read from its front
+-- printed output stays printed, and input is read from its front
 abbrev pub GoesOnFrom : State → State → Type 0
 GoesOnFrom old new = IsPrefix (output_of old) (output_of new) × ((read : List ℕ) × (input_of old ≡ read ++ input_of new))
 
@@ -193,16 +193,16 @@ limited_steps_go_on program pages calls zero s = same_traces s
 limited_steps_go_on program pages calls (suc n) s =
     both_go_on s (limited_step program pages calls s) (limited_steps program pages calls (suc n) s) (limited_step_goes_on program pages calls s) (limited_steps_go_on program pages calls n (limited_step program pages calls s))
 
--- ---- the limited run and the run
+-- ---- the limited run and the unlimited run
 
--- as long as every state is within the limits, both are the same
+-- as long as every state is within the limits, both runs are equal
 pub limited_agrees : (program : Program) (pages calls n : ℕ) (s : State) → ((j : ℕ) → j ≤ n → is_within pages calls (steps program j s) ≡ true) → limited_steps program pages calls n s ≡ steps program n s
 limited_agrees program pages calls zero s within = refl
 limited_agrees program pages calls (suc n) s within =
     ap (limited_steps program pages calls n) (limited-within pages calls s (step program s) (within 1 (omega arith)))
     ∙ limited_agrees program pages calls n (step program s) (λ j less. within (suc j) (omega (arith, less)))
 
--- at the first step that goes past them the limited run is full
+-- at the first step that exceeds the limits, the limited run is full
 pub limited_is_full : (program : Program) (pages calls k n : ℕ) (s : State) → ((j : ℕ) → j ≤ k → is_within pages calls (steps program j s) ≡ true) → is_within pages calls (steps program (suc k) s) ≡ false → k < n → limited_steps program pages calls n s ≡ Ended Full (output_of (steps program k s)) (input_of (steps program k s))
 limited_is_full program pages calls k zero s within past less = absurd (omega (arith, less))
 limited_is_full program pages calls zero (suc n) s within past less =
@@ -228,13 +228,13 @@ limited_choice program pages calls n s other rest = go (is_within pages calls (s
         ∙ limited_over_stays program pages calls n (Ended Full (output_of s) (input_of s)) (λ going. let e : HasEnded Full ≡ GoesOn = going in cc) in
         absurd (other (ap status_of full))
 
--- a limited run that is not full is the run
+-- a limited run that is not full equals the unlimited run
 pub limited_until_full : (program : Program) (pages calls n : ℕ) (s : State) → status_of (limited_steps program pages calls n s) ≢ HasEnded Full → limited_steps program pages calls n s ≡ steps program n s
 limited_until_full program pages calls zero s other = refl
 limited_until_full program pages calls (suc n) s other =
     limited_choice program pages calls n s other (limited_until_full program pages calls n (step program s))
 
--- so whatever the limited run comes to, but for a full store, the run comes to
+-- each outcome of the limited run except a full store is an outcome of the unlimited run
 pub limited_comes_to : (program : Program) (pages calls n : ℕ) (s : State) (status : Status) → status ≢ HasEnded Full → status_of (limited_steps program pages calls n s) ≡ status → status_of (steps program n s) ≡ status
 limited_comes_to program pages calls n s status other is =
     let same : limited_steps program pages calls n s ≡ steps program n s = limited_until_full program pages calls n s (λ full. other (sym is ∙ full)) in
@@ -290,7 +290,7 @@ start_output program input = outcome_printed (calls_function {access = false} {n
 pub run_bytes : (program : Program) (input : List ℕ) (n : ℕ) → AllByRecursion (λ b. b < 256) (output_of (run program input n))
 run_bytes program input n = steps_bytes program n (start program input) (subst (AllByRecursion (λ b. b < 256)) (sym (start_output program input)) tt)
 
--- ---- the start is within all limits
+-- ---- the limits at the start
 
 pub within_at_start : (program : Program) (pages calls : ℕ) (input : List ℕ) → 1 ≤ pages → 1 ≤ calls → is_within pages calls (start program input) ≡ true
 within_at_start program pages calls input some_page some_call = go (slice_get program.functions program.main)

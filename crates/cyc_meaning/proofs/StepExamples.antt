@@ -1,4 +1,4 @@
--- A run step by step, from the call of `main` to its end: int main(){ return 1 + 2; }
+-- Example: a run step by step, from the call of `main` to its end, of the program int main(){ return 1 + 2; }
 use Rattle.std.proofs.Common.{◌≡◌, ℕ, List, [], ◌∷◌, Option, Some, None, pos, refl}
 use Rattle.cyc_words.specs.Ending.{Returned}
 use Rattle.cyc_types.specs.declared.typed.Kind.TheVariants as kinds
@@ -21,7 +21,7 @@ returns_sum = typed.Return (Some (Convert kinds.Int kinds.Int sum))
 abbrev of_main : List typed.Item
 of_main = Execute returns_sum ∷ []
 
--- what is done next after so many steps, and what waits, newest first
+-- the focus and the waiting entries (newest first) after this many steps
 abbrev focus_of : State → Option Focus
 focus_of (Running focus stack e w) = Some focus
 focus_of s = None
@@ -36,15 +36,15 @@ at n = (focus_of (run (program of_main) [] n), stack_of (run (program of_main) [
 abbrev int : ℕ → Operand
 int n = record { kind = kinds.Int; value = values.Int n }
 
--- what waits outside of `return`: what is left of the body, and the end of its region, which has the number 2 behind the heap and the
--- globals' region
+-- The entries around the `return`: the rest of the body, and the end of its region. The region around the `return` has number 2, after the
+-- heap and the region of the globals.
 abbrev outside : List Entry
 outside = Rest NoItems ∷ CloseRegion 2 1 ∷ Main ∷ []
 
 abbrev waiting : List Entry
 waiting = Needs (ConvertTo kinds.Int kinds.Int None) ∷ Needs Return ∷ outside
 
--- `main` is called, and its region is opened; it has no parameters
+-- `main` is called and its region is opened; `main` has no parameters
 at_0 : at 0 ≡ (Some (Entering (function [] of_main) []), Main ∷ [])
 at_0 = refl
 
@@ -57,7 +57,7 @@ at_2 = refl
 at_3 : at 3 ≡ (Some (Executing returns_sum), outside)
 at_3 = refl
 
--- the value is wanted by `return`, as an int
+-- `return` waits for the value, as an int
 at_4 : at 4 ≡ (Some (Evaluating sum), waiting)
 at_4 = refl
 
@@ -67,7 +67,7 @@ at_5 = refl
 at_6 : at 6 ≡ (Some (Given (int 1)), Needs (Chain (ThenCompute operators.Add (Number 2) NoOperations)) ∷ waiting)
 at_6 = refl
 
--- the left operand waits for the right one
+-- the left operand is evaluated, and waits for the right one
 at_7 : at 7 ≡ (Some (Evaluating (Number 2)), Needs (Apply operators.Add (int 1)) ∷ Needs (Chain NoOperations) ∷ waiting)
 at_7 = refl
 
@@ -83,7 +83,7 @@ at_10 = refl
 at_11 : at 11 ≡ (Some (Given (int 3)), Needs Return ∷ outside)
 at_11 = refl
 
--- what is left of the call is left, entry by entry, and its region is closed
+-- the return pops the entries of the call one by one, and closes its region
 at_12 : at 12 ≡ (Some (Returning (Some (int 3))), outside)
 at_12 = refl
 

@@ -1,4 +1,4 @@
--- Worked examples of unique pointers, swaps and aliases, each proved by computation. What each gives is said by the language's rules.
+-- Examples of unique pointers, swaps and aliases, each proved by computation. The expected results come from the language's rules.
 use Rattle.std.proofs.Common.{◌≡◌, ℕ, [], ◌∷◌, Some, None, pos, refl}
 use Rattle.cyc_words.specs.Ending.{Returned}
 use Rattle.cyc_types.specs.declared.typed.Kind.TheVariants as kinds
@@ -94,13 +94,13 @@ swapped_with_itself_in_a_cell : end (program (
     ∷ [])) ≡ HasEnded (Returned (pos 3))
 swapped_with_itself_in_a_cell = refl
 
--- int @`U @eat(int @`U u, int @`U @q){ ufree(u); return q; }
--- int @`U u = rnew(unique_region) 1; int @`U @q = new rnew(unique_region) 2; u :=: *eat(u, q); return *u;
--- both places are found before either is read, and a pointer to what is freed may be moved
+-- int @`U @eat(int @`U u, int @`U @q){ ufree(u); return q; } int @`U u = rnew(unique_region) 1; int @`U @q = new rnew(unique_region) 2; u
+-- :=: *eat(u, q); return *u;
+-- Both places are evaluated before either is read. A pointer to a freed object may be moved.
 abbrev at_own : Ty
 at_own = Pointer marks.NonNull own Heap
 
-swapped_behind_a_free : long_end (program_with (function (own ∷ at_own ∷ []) (
+swapped_after_a_free : long_end (program_with (function (own ∷ at_own ∷ []) (
     execute (FreeUnique (move 0 own))
     ∷ Execute (typed.Return (Some (convert at_own at_own (variable 1 at_own))))
     ∷ []) ∷ []) (
@@ -110,9 +110,10 @@ swapped_behind_a_free : long_end (program_with (function (own ∷ at_own ∷ [])
     Call (callees.Function 1) (MoreArguments (convert own own (move 0 own)) (MoreArguments (convert at_own at_own (variable 1 at_own)) NoArguments)) (Value at_own)) own)))
     ∷ return (Load (target own (peek 0 own)))
     ∷ [])) ≡ HasEnded (Returned (pos 2))
-swapped_behind_a_free = refl
+swapped_after_a_free = refl
 
--- the left place's checks come before the right place is evaluated: *n :=: p[putchar(65)] for null n
+-- *n :=: p[putchar(65)] for null n
+-- The left place is checked before the right place is evaluated.
 swap_checks_left_first : printed (program (
     define 0 star (null_as star)
     ∷ define 1 fat (null_as fat)
@@ -138,7 +139,7 @@ aliased = refl
 
 -- ---- demand
 
--- a block of 512 words more, and the first one given back again
+-- the world with one more block of 512 words; and the world with the first block freed again
 abbrev more : World → World
 more w = made_unique w (blanks 512 kinds.Int)
 
@@ -155,14 +156,14 @@ pages w = demand (Running Proceeding [] no_locals w)
 abbrev none : World
 none = first_world (program []) []
 
--- two such blocks fit a page, which stands beside the heap's
+-- two such blocks fit into one page, which is needed in addition to the heap's page
 one_block_takes_a_page : pages (more none) ≡ 2
 one_block_takes_a_page = refl
 
 three_blocks : pages (more (more (more none))) ≡ 3
 three_blocks = refl
 
--- one after the other they need one page, and what was needed once stays
+-- allocated one after the other, they need one page; the page is kept once it was needed
 three_in_turn : pages (more (less 1 (more (less 0 (more none))))) ≡ 2
 three_in_turn = refl
 

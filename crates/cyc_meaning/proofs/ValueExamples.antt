@@ -1,9 +1,9 @@
--- Worked examples of conversion and of demand, each proved by computation.
+-- Examples of conversion and of demand, each proved by computation.
 use Rattle.std.proofs.Common.{◌≡◌, [], ◌∷◌, Some, None, true, false, refl}
 use Rattle.cyc_types.specs.declared.typed.Kind.TheVariants as kinds
 use Rattle.cyc_types.specs.declared.typed.Operator.TheVariants as operators
 use Rattle.cyc_types.specs.declared.typed.UnaryOperator.TheVariants as unary
-use Rattle.cyc_meaning.specs.Values.{Int, Null, Thin, Fat, Handle, Key, begins, behind, words_for, block_size}
+use Rattle.cyc_meaning.specs.Values.{Int, Null, Thin, Fat, Handle, Key, begins, following, words_for, block_size}
 use Rattle.cyc_meaning.specs.Operators.{Gives, Raises, Misfits, is_zero, binary_result, unary_result}
 use Rattle.cyc_meaning.specs.Conversion.{conversion}
 use Rattle.cyc_meaning.specs.Allocation.{blanks}
@@ -97,7 +97,7 @@ page_is_full = refl
 page_is_passed : region_pages (1000 ∷ 25 ∷ []) ≡ 2
 page_is_passed = refl
 
--- what does not fit begins the next page, and no block goes back to the page before
+-- a block that does not fit begins the next page, and no later block goes back to an earlier page
 blocks_are_in_order : region_pages (600 ∷ 600 ∷ 400 ∷ 30 ∷ []) ≡ 3
 blocks_are_in_order = refl
 
@@ -125,7 +125,7 @@ one_page_of_blocks = refl
 one_block_more : pages_for 2 257 ≡ 2
 one_block_more = refl
 
--- pages stay when blocks are freed
+-- pages are kept when blocks are freed
 greatest_so_far : class_pages 10 (0 ∷ 1 ∷ 2 ∷ 1 ∷ 0 ∷ []) ≡ 2
 greatest_so_far = refl
 
@@ -141,22 +141,22 @@ block_of_two_cells = refl
 block_of_five_chars : block_size (blanks 5 kinds.Char) ≡ 2
 block_of_five_chars = refl
 
--- a cell of words begins at a multiple of 4, and a cell behind it at once
+-- a word cell begins at a multiple of 4, and the cell after it begins at its end
 rounded_up : begins kinds.Int 5 ≡ 8
 rounded_up = refl
 
-one_behind_another : begins kinds.Int (behind kinds.Fat 4) ≡ 16
-one_behind_another = refl
+one_after_another : begins kinds.Int (following kinds.Fat 4) ≡ 16
+one_after_another = refl
 
--- and a char at once, wherever it is
-char_behind_a_word : begins kinds.Char (behind kinds.Int 1) ≡ 8
-char_behind_a_word = refl
+-- a char begins at once, at any offset
+char_after_a_word : begins kinds.Char (following kinds.Int 1) ≡ 8
+char_after_a_word = refl
 
-char_behind_a_char : begins kinds.Char 9 ≡ 9
-char_behind_a_char = refl
+char_after_a_char : begins kinds.Char 9 ≡ 9
+char_after_a_char = refl
 
-word_behind_chars : begins kinds.Int (behind kinds.Char 8) ≡ 12
-word_behind_chars = refl
+word_after_chars : begins kinds.Int (following kinds.Char 8) ≡ 12
+word_after_chars = refl
 
 a_word_begun : words_for 5 ≡ 2
 a_word_begun = refl

@@ -1,4 +1,4 @@
--- What opening and leaving blocks, calling and returning, making, writing and freeing make of the names of variables.
+-- The effect of each change on the names of variables: opening and leaving blocks, calling and returning, allocating, writing and freeing.
 use Rattle.std.proofs.Common.{◌≡◌, ℕ, zero, suc, Bool, true, false, List, [], ◌∷◌, ◌++◌, set, length, Some, None, refl, sym, ap, subst, ◌∙◌, inl, inr, arith, length-append}
 use Rattle.std.specs.Prelude.{◌⊎◌, ◌<◌, if◌then◌else◌, slice_get}
 use Rattle.std.proofs.lemmas.Bool.{cases_eq}
@@ -12,7 +12,7 @@ use Rattle.cyc_meaning.proofs.NestingLemmas.{region_found}
 use Rattle.cyc_meaning.proofs.WorldLaws.{cell_found}
 use Rattle.cyc_meaning.proofs.VariableLemmas.{lives_once, lives_more, lives_newest, lives_same, shut_open, shut_more, region_below, region_before, set_region_there, shut_set, Passes, passes}
 
--- what is in a world
+-- the invariant of variable names for a world
 abbrev AllNamed : (globals : ℕ) → List Entry → Locals → World → Type 0
 AllNamed globals stack locals w = AreNamed globals stack locals w.objects w.regions
 
@@ -33,7 +33,7 @@ pub named_opened : (sort : Sort) (globals : ℕ) (stack : List Entry) (locals : 
 named_opened sort globals stack locals w h =
     passes w.objects w.regions (opened_as sort w).objects (opened_as sort w).regions (opened_passes sort w h.6) globals stack locals h
 
--- a region that is replaced by one that is no more
+-- replacing a region by one that no longer contains live variables
 set_back : (objects : List Object) (regions : List Region) (number : ℕ) (s : Region) → (HasVariables s → ⊥)
     → (object region : ℕ) (r : Region) → LivesIn objects object region → slice_get (set regions number s) region ≡ Some r → HasVariables r
     → LivesIn objects object region × ((q : Region) × (slice_get regions region ≡ Some q) × HasVariables q)
@@ -132,7 +132,7 @@ pub named_made_unique : (cells : List Cell) (globals : ℕ) (stack : List Entry)
 named_made_unique cells globals stack locals w h =
     passes w.objects w.regions (made_unique w cells).objects (made_unique w cells).regions (unique_passes cells w h.6) globals stack locals h
 
--- an object is replaced by one of its owner
+-- replacing an object by another object of its owner
 same_passes : (number : ℕ) (x y : Object) (w : World) → slice_get w.objects number ≡ Some x → region_of y.owner ≡ region_of x.owner → LiveInRegions w.objects w.regions → Passes w.objects w.regions (set w.objects number y) w.regions
 same_passes number x y w there same inside = record {
   lives = λ object region lives. lives_same w.objects number object x y there same ∙ lives;

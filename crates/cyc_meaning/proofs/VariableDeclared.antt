@@ -1,4 +1,5 @@
--- What a local that is declared makes of the names of variables: it is a new object, and what its number stood for before is shut.
+-- The effect of declaring a local on the names of variables. The declared local is a new object, and the former object of its number is out
+-- of reach.
 use Rattle.std.proofs.Common.{◌≡◌, ℕ, zero, suc, Bool, List, [], ◌∷◌, ◌++◌, length, Option, Some, None, refl, sym, ap, subst, ◌∙◌, inl, inr, arith}
 use Rattle.std.specs.Prelude.{◌≢◌, ◌⊎◌, ◌<◌, ◌==◌, if◌then◌else◌, slice_get}
 use Rattle.std.proofs.lemmas.Bool.{eq-eqb, eqb-true, false_from_ne_true, cases_eq}
@@ -33,7 +34,7 @@ home_of_call (CloseLexical ending ∷ stack) home here is = home_of_call stack h
 home_of_call (EndLoan lent ∷ stack) home here is = home_of_call stack home here is
 home_of_call (entry ∷ stack) home here is = absurd here
 
--- What the number of a local that is declared next stood for is in no open block.
+-- The former object of the local that is declared next is in no open block.
 pub former_left : (number : ℕ) (stack : List Entry) (locals : Locals) (objects : List Object) (regions : List Region) → AreLow number stack locals objects → LiveInBlocks stack locals objects regions
     → (object region : ℕ) → locals number ≡ Some object → LivesIn objects object region → IsShut regions region
 former_left number stack locals objects regions low live object region is lives =
@@ -55,7 +56,7 @@ module _ (number : ℕ) (locals : Locals) (x : Object) (objects : List Object) (
   abbrev then_objects : List Object
   then_objects = objects ++ x ∷ []
 
-  -- it is this one, or it was there
+  -- an object of a local is the new one, or it was there before
   pub then_local : (other object : ℕ) → then_locals other ≡ Some object → ((other ≡ number) × (object ≡ length objects)) ⊎ ((other ≢ number) × (locals other ≡ Some object))
   then_local other object is = elim (cases_eq other number) [
     | inl same ↦
@@ -70,16 +71,16 @@ module _ (number : ℕ) (locals : Locals) (x : Object) (objects : List Object) (
   pub then_here : then_locals number ≡ Some (length objects)
   then_here = ap (λ (b : Bool). if b then Some (length objects) else locals number) (eq-eqb number number refl)
 
-  -- in blocks around
+  -- the numbers of locals in enclosing blocks stay low
   low_around : (m : ℕ) (stack : List Entry) → (IsOfCall home stack → ⊥) → AreLow m stack locals objects → AreLow m stack then_locals then_objects
   low_around m stack around low other object is = elim (then_local other object is) [
     | inl new ↦ (home, subst (λ (o : ℕ). LivesIn then_objects o home) (sym new.1) owns, λ of_call. absurd (around of_call))
     | inr old ↦ (let (region, lives, less) = low other object old.1 in (region, lives_more objects x object region lives, less))
   ]
 
-  -- and in its own
-  pub low_behind : (stack : List Entry) → AreLow number stack locals objects → AreLow (suc number) stack then_locals then_objects
-  low_behind stack low other object is = elim (then_local other object is) [
+  -- the numbers of locals in the block of the declaration stay low
+  pub low_after : (stack : List Entry) → AreLow number stack locals objects → AreLow (suc number) stack then_locals then_objects
+  low_after stack low other object is = elim (then_local other object is) [
     | inl new ↦ (home, subst (λ (o : ℕ). LivesIn then_objects o home) (sym new.1) owns, λ of_call. (let e : other ≡ number = new.0 in omega (arith, e)))
     | inr old ↦
         (let (region, lives, less) = low other object old.1 in
@@ -112,7 +113,7 @@ module _ (number : ℕ) (locals : Locals) (x : Object) (objects : List Object) (
   later_declared (EndLoan lent ∷ stack) bound here is below h = later_declared stack bound here is below h
   later_declared (entry ∷ stack) bound here is below h = absurd here
 
--- a local of a call that is under way is an object
+-- each local of an active call is an existing object
 waiting_lives : (stack : List Entry) (objects : List Object) (regions : List Region) → WaitInBlocks stack objects regions → (call number object : ℕ) → IsLocal (waiting stack) call number object → (region : ℕ) × LivesIn objects object region
 waiting_lives [] objects regions h call number object (locals, there, is) = absurd (let e : None ≡ Some locals = there in cc)
 waiting_lives (Caller outer ∷ stack) objects regions h zero number object is =
@@ -126,7 +127,7 @@ local_lives globals stack locals objects regions h zero number object is =
     let (region, lives, where_it_is) = h.1 number object (local_here locals (waiting stack) number object is) in (region, lives)
 local_lives globals stack locals objects regions h (suc call) number object is = waiting_lives stack objects regions h.2 call number object is
 
--- ---- a variable is declared
+-- ---- declaring a variable
 
 module _ (globals number : ℕ) (kind : Kind) (content : Option Value) (stack : List Entry) (e : Environment) (w : World) (r : Region)
     (found : region_at w e.home ≡ Found r) (nested : IsNested stack e w) (here : IsInBlock stack)
@@ -158,7 +159,7 @@ module _ (globals number : ℕ) (kind : Kind) (content : Option Value) (stack : 
     | inr old ↦ (let (region, lives, where_it_is) = h.1 other object old.1 in (region, lives_more w.objects x object region lives, where_it_is))
   ]
 
-  -- the name of an object that is live stays its name
+  -- the name of a live object stays its name
   stays : (call other object region : ℕ) (q : Region) → LivesIn w.objects object region → slice_get w.regions region ≡ Some q → HasVariables q
       → IsLocal (e.locals ∷ waiting stack) call other object → IsLocal (new ∷ waiting stack) call other object
   stays zero other object region q lives there has is =
@@ -179,7 +180,7 @@ module _ (globals number : ℕ) (kind : Kind) (content : Option Value) (stack : 
     | inr newest ↦ inr (0, number, (new, refl, then_here number e.locals x w.objects e.home owns ∙ ap (λ (o : ℕ). Some o) (sym newest.0)))
   ]
 
-  -- it is this one, or it was there
+  -- an object of a local is the new one, or it was there before
   split : (call other object : ℕ) → IsLocal (new ∷ waiting stack) call other object → ((call ≡ 0) × (other ≡ number) × (object ≡ length w.objects)) ⊎ IsLocal (e.locals ∷ waiting stack) call other object
   split zero other object is = elim (then_local number e.locals x w.objects e.home owns other object (local_here new (waiting stack) other object is)) [
     | inl newest ↦ inl (refl, newest.0, newest.1)
@@ -204,7 +205,7 @@ module _ (globals number : ℕ) (kind : Kind) (content : Option Value) (stack : 
   ]
 
   pub low_declared : AreLow (suc number) stack new more
-  low_declared = low_behind number e.locals x w.objects e.home owns stack low
+  low_declared = low_after number e.locals x w.objects e.home owns stack low
 
   pub named_declared : AreNamed globals stack new more w.regions
   named_declared = (

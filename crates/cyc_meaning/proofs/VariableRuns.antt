@@ -1,4 +1,4 @@
--- Variables of blocks have names in every state of a run of a program whose numbers of locals rise.
+-- Variables of blocks have names in every state of a run, if the numbers of locals increase along the program's text.
 use Rattle.std.proofs.Common.{◌≡◌, ℕ, zero, suc, ◌≤◌, Bool, true, false, List, [], ◌∷◌, length, map, Option, Some, None, refl, sym, subst, inl, inr, arith}
 use Rattle.std.specs.Prelude.{◌==◌, ◌<◌, if◌then◌else◌, slice_get}
 use Rattle.std.proofs.lemmas.Bool.{cases_lt}
@@ -57,12 +57,12 @@ names_step globals program rise (Ended ending output input) nests h = tt
 names_step globals program rise (Dead output input) nests h = tt
 names_step globals program rise (Wrong output input) nests h = tt
 
--- at each step of a run with limits
+-- the invariant holds after each step of a limited run
 pub names_kept : (globals : ℕ) (program : Program) → FunctionsRise program → (pages calls : ℕ) (old new : State) → Nests old → HasNames globals old → new ≡ limited_step program pages calls old → HasNames globals new
 names_kept globals program rise pages calls old new nests h is =
     subst (HasNames globals) (sym is) (limited_cases (HasNames globals) pages calls old (step program old) (λ within. names_step globals program rise old nests h) (λ full. tt))
 
--- both that and what nests, as a relation between states keeps it
+-- the nesting invariant together with the invariant of variable names
 abbrev pub NestsAndNames : (globals : ℕ) → State → Type 0
 NestsAndNames globals s = Nests s × HasNames globals s
 
@@ -72,7 +72,7 @@ both_kept globals program rise pages calls old new h is = (
   names_kept globals program rise pages calls old new h.0 h.1 is,
 )
 
--- ---- the start
+-- ---- the start state
 
 globals_live : (gs : List GlobalVariable) (object region : ℕ) → LivesIn (map global_object gs) object region → region ≡ globals_number
 globals_live [] object region lives = absurd (let e : None ≡ Some region = lives in cc)
@@ -124,9 +124,9 @@ names_run program typed input n =
     let rise = functions_rise program typed in
     names_steps (length program.globals) program rise n (start program input) (nests_start program input) (names_start program input rise)
 
--- ---- a local is no global
+-- ---- a local is not a global
 
--- regions of blocks have numbers above that of the globals
+-- regions of blocks have greater numbers than the region of the globals
 globals_least : (stack : List Entry) (bound : ℕ) → AreBelow bound (ends_of stack) → globals_number < bound
 globals_least [] bound below = below.0
 globals_least (CloseRegion ending home ∷ stack) bound (less, below) = let lower : globals_number < ending = globals_least stack ending below in omega (arith, less, lower)
@@ -197,7 +197,7 @@ pub former_shut : (globals : ℕ) (focus : Focus) (stack : List Entry) (e : Envi
 former_shut globals focus stack e w h number object region is local lives =
     former_left number stack e.locals w.objects w.regions (next_low globals focus stack e w h number is) h.1.1 object region local lives
 
--- ---- in a run of a program that the rules accept
+-- ---- runs of well-typed programs
 
 module _ (program : Program) (input : List ℕ) (count : ℕ) (focus : Focus) (stack : List Entry) (e : Environment) (w : World) where
   names_at : IsWellTypedProgram program → run program input count ≡ Running focus stack e w → HasNames (length program.globals) (Running focus stack e w)

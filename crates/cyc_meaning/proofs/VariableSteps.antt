@@ -1,4 +1,4 @@
--- Variables of blocks have names in every state of a run: what the steps of calls and statements make of that.
+-- Variables of blocks have names in every state of a run: the steps of calls and statements.
 use Rattle.std.proofs.Common.{◌≡◌, ℕ, suc, List, [], ◌∷◌, length, reverse, Option, Some, None, refl, arith}
 use Rattle.std.specs.Prelude.{◌≤◌, ◌+◌, ◌==◌, slice_get}
 use Rattle.cyc_types.specs.declared.typed.Kind.TheVariants as kinds
@@ -46,7 +46,7 @@ named_calling program callees.Putchar arguments stack e w rise = named_printing 
 named_calling program callees.Getchar arguments stack e w rise = named_reading (values_of arguments) stack e w
 named_calling program (callees.Function number) arguments stack e w rise = named_calling_function (slice_get program.functions number) (reverse arguments) stack e w (rise number)
 
--- the region of a call is opened
+-- opening the region of a call
 pub named_entering : {globals : ℕ} (h : Function) (arguments : List Operand) (stack : List Entry) (e : Environment) (w : World) → Begins globals (Entering h arguments) stack e w (step_entering h arguments stack e w)
 named_entering {globals} h arguments stack e w = Goes (λ known.
     let (now, all) = known.1 in (
@@ -54,12 +54,12 @@ named_entering {globals} h arguments stack e w = Goes (λ known.
       named_entered (length w.regions) e.home globals stack e.locals (opened w) (named_opened Stack globals stack e.locals w all),
     ))
 
--- a parameter is made
+-- declaring a parameter
 binds : {globals : ℕ} (a : Access Region) (number : ℕ) (t : Ty) (types : List Ty) (value : Operand) (arguments before : List Operand) (body : Items) (stack : List Entry) (e : Environment) (w : World) → region_at w e.home ≡ a
     → Begins globals (Binding number (t ∷ types) before body) stack e w (declared a (Binding (suc number) types arguments body) number (kind_of t) (Some value.value) stack e w)
 binds {globals} (Found r) number t types value arguments before body stack e w found = Goes (λ h.
-    let (m, behind, rises, low, here) = h.1.0 in
-    let less : number + suc (length types) ≤ m = behind in (
+    let (m, following, rises, low, here) = h.1.0 in
+    let less : number + suc (length types) ≤ m = following in (
       (m, omega (arith, less), rises, low_declared globals number (kind_of t) (Some value.value) stack e w r found h.0 here low h.1.1, here),
       named_declared globals number (kind_of t) (Some value.value) stack e w r found h.0 here low h.1.1,
     ))
@@ -68,9 +68,9 @@ binds Missing number t types value arguments before body stack e w found = Fails
 
 pub named_binding : {globals : ℕ} (number : ℕ) (types : List Ty) (arguments : List Operand) (body : Items) (stack : List Entry) (e : Environment) (w : World) → Begins globals (Binding number types arguments body) stack e w (step_binding number types arguments body stack e w)
 named_binding number [] [] body stack e w = Goes (λ h.
-    let (m, behind, rises, low, here) = h.1.0 in
+    let (m, following, rises, low, here) = h.1.0 in
     let all = h.1.1 in
-    let less : number + 0 ≤ m = behind in
+    let less : number + 0 ≤ m = following in
     (tt, (((m, rises, low_less number m stack e.locals w.objects (omega (arith, less)) low, here), all.0), all.1, all.2, all.3, all.4, all.5, all.6)))
 named_binding number [] (value ∷ arguments) body stack e w = Fails
 named_binding number (t ∷ types) [] body stack e w = Fails
@@ -83,7 +83,7 @@ named_throwing_new : {globals : ℕ} (tag : ℕ) (o : Option Expression) (stack 
 named_throwing_new tag None stack e w = Goes (λ h. (tt, h.1))
 named_throwing_new tag (Some a) stack e w = Goes (λ h. (tt, h.1))
 
--- a block begins, of which these are the items
+-- entering a block with these items
 opens_block : {globals : ℕ} (region : ℕ) (items : Items) (stack : List Entry) (e : Environment) (w : World)
     → Begins globals (Executing (Block region items)) stack e w (Running Proceeding (Rest items ∷ region_end e w ∷ stack) (inside e w) (opened w))
 opens_block {globals} region items stack e w = Goes (λ h.
@@ -189,7 +189,7 @@ named_proceeding (Main ∷ stack) e w = Fails
 
 -- ---- unwinding
 
--- what waited for a value is left
+-- popping a continuation that waited for a value
 without_awaiting : (a : Awaiting) (stack : List Entry) (locals : Locals) (objects : List Object) → DeclareLater (Needs a ∷ stack) locals objects → DeclareLater stack locals objects
 without_awaiting (Initialise number kind items) stack locals objects h = h.1
 without_awaiting (OpenBy number lent items) stack locals objects h = h.1

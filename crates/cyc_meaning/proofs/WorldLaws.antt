@@ -1,4 +1,4 @@
--- Laws of the world: numbers are never used again.
+-- Laws of the world: numbers are never reused.
 use Rattle.std.proofs.Common.{◌≡◌, ℕ, zero, suc, Bool, true, false, List, [], ◌∷◌, Option, Some, None, refl, sym, ap, subst, ◌∙◌}
 use Rattle.std.specs.Prelude.{if◌then◌else◌, slice_get}
 use Rattle.cyc_words.proofs.Items.{slice_get-set_related, slice_get_front, map-set}
@@ -11,7 +11,7 @@ use Rattle.cyc_meaning.specs.Run.{steps}
 use Rattle.cyc_meaning.proofs.NestingLemmas.{region_found}
 use Rattle.cyc_meaning.proofs.Outcomes.{Outcome, Goes, Ends, Dies, Fails, outcome}
 
--- ---- what is found
+-- ---- results of an access
 
 cell_is : (x : Object) (o : Option Cell) (at : Located) → located x o ≡ Found at → (at.object ≡ x) × (o ≡ Some at.cell)
 cell_is x None at found = absurd (let e : Missing ≡ Found at = found in cc)
@@ -33,7 +33,7 @@ cell_within w (Some x) offset at found = go (is_live w x.owner) refl
 pub cell_found : (w : World) (object offset : ℕ) (at : Located) → cell_at w object offset ≡ Found at → (slice_get w.objects object ≡ Some at.object) × (slice_get at.object.cells offset ≡ Some at.cell)
 cell_found w object offset at found = cell_within w (slice_get w.objects object) offset at found
 
--- ---- numbers are never used again
+-- ---- numbers are never reused
 
 region_same : (r : Region) → RegionStays r r
 region_same r = record { sort = refl; closed = λ e. e }

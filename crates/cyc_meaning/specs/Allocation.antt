@@ -1,6 +1,7 @@
--- New objects: `new` and `rnew`. An initial value is evaluated before its block is made; of an array the length is, then the block is
--- made, and then its elements are evaluated. Making an object is one step and leaves its cells blank; each value is then one write.
--- (`new` and `rnew` are Cyclone's, Grossman et al. 2002; the order, and how long an array may be, are this project's own choice.)
+-- New objects: `new` and `rnew`. An initial value is evaluated before its block is allocated. For an array, the length is evaluated first,
+-- then the block is allocated, then its elements are evaluated. Allocating an object is one step and leaves its cells blank; each value is
+-- then written in one step. (`new` and `rnew` are Cyclone's, Grossman et al. 2002; the order, and the maximal length of an array, are this
+-- project's own choice.)
 use Rattle.std.specs.Prelude.{ℕ, zero, suc, ◌*◌, ◌==◌, true, nat_le, if◌then◌else◌, List, [], ◌∷◌, map, reverse, length, Some}
 use Rattle.cyc_types.specs.declared.typed.Kind.{Kind}
 use Rattle.cyc_types.specs.declared.typed.Kind.TheVariants as kinds
@@ -12,9 +13,9 @@ use Rattle.cyc_meaning.specs.State.{MakePlain, MakeFields, MakeArray, FillElemen
 use Rattle.cyc_meaning.specs.Objects.{created}
 use Rattle.cyc_meaning.specs.Parts.{dead, wrong, gives, stored, target_by}
 
--- ---- a value in each cell
+-- ---- objects with a value for each cell
 
--- the cells from this one on get these values, in order
+-- the writes of these values into the cells from this offset on, in order
 abbrev pub writes_from : (object offset : ℕ) → List Operand → List Write
 writes_from object offset [] = []
 writes_from object offset (v ∷ values) = record { place = Thin object offset; operand = v } ∷ writes_from object (suc offset) values
@@ -22,7 +23,7 @@ writes_from object offset (v ∷ values) = record { place = Thin object offset; 
 abbrev pub blanks_of : List Operand → List Cell
 blanks_of values = map (λ (v : Operand). blank v.kind) values
 
--- A new object for these values, one cell each. The pointer to it is never null.
+-- A new object with one cell for each of these values. The pointer to the new object is never null.
 abbrev pub filled : Access World → (object : ℕ) → List Operand → List Entry → Environment → World → State
 filled (Found new) object values stack e w =
     Running (Writing (writes_from object 0 values) (Some (record { kind = kinds.NonNull; value = Thin object 0 }))) stack e new
@@ -32,11 +33,11 @@ filled Missing object values stack e w = wrong w
 abbrev pub makes_of : Owner → List Operand → List Entry → Environment → World → State
 makes_of owner values stack e w = filled (created w owner (blanks_of values)) (length w.objects) values stack e w
 
--- one cell has the kind that the declared types give its expression
+-- an object of one cell, whose kind is given by the type of its expression
 abbrev pub makes_plain : Owner → Kind → Operand → List Entry → Environment → World → State
 makes_plain owner kind value stack e w = if is_kind value.kind kind then makes_of owner (value ∷ []) stack e w else wrong w
 
--- fields are evaluated and converted one by one, as arguments are
+-- the fields of a struct, which are evaluated and converted one by one, like arguments
 abbrev pub makes_fields : Owner → (before : List Operand) → Arguments → List Entry → Environment → World → State
 makes_fields owner before NoArguments stack e w = makes_of owner (reverse before) stack e w
 makes_fields owner before (MoreArguments (Convert from to a) fields) stack e w =
@@ -44,7 +45,7 @@ makes_fields owner before (MoreArguments (Convert from to a) fields) stack e w =
 
 -- ---- arrays
 
--- the most words that an array may have
+-- the largest number of words of an array
 abbrev pub most_words : ℕ
 most_words = 1000
 
@@ -57,7 +58,7 @@ begun (Found new) object count level kind element stack e w = Running (Repeating
 begun Closed object count level kind element stack e w = dead w
 begun Missing object count level kind element stack e w = wrong w
 
--- The length is checked, and then the block is made. A length below 0, a word of 2 ^ 31 and more, is too long as well.
+-- The length is checked, then the block is allocated. A negative length, which is a word of at least 2 ^ 31, is also too long.
 abbrev pub makes_array : Owner → (level : ℕ) → Kind → (element : Expression) → Value → List Entry → Environment → World → State
 makes_array owner level kind element (Int count) stack e w =
     if nat_le (words_for (count * bytes_of_kind kind)) most_words
@@ -69,8 +70,8 @@ abbrev pub step_beginning : Owner → (count level : ℕ) → Kind → (element 
 step_beginning owner count level kind element stack e w =
     begun (created w owner (blanks count kind)) (length w.objects) count level kind element stack e w
 
--- The elements are evaluated with the counter at 0, 1 and so on, and each is written as soon as it is evaluated. The pointer has the
--- length of the array, and its index is 0.
+-- The elements are evaluated with the counter at 0, 1 and so on; each is written as soon as it is evaluated. The resulting fat pointer has
+-- the length of the array and the index 0.
 abbrev pub step_repeating : (object count index level : ℕ) → Kind → (element : Expression) → List Entry → Environment → World → State
 step_repeating object count index level kind element stack e w =
     if index == count
@@ -90,7 +91,7 @@ makes owner (Plain kind a) stack e w = Running (Evaluating a) (Needs (MakePlain 
 makes owner (Fields fields) stack e w = makes_fields owner [] fields stack e w
 makes owner (Array place level count kind element) stack e w = Running (Evaluating count) (Needs (MakeArray owner level kind element) ∷ stack) e w
 
--- `new` makes an object in the heap, `rnew` in the region of a handle, which is evaluated first, or a unique one
+-- `new` allocates in the heap, `rnew` in the region of a handle (which is evaluated first) or as a unique object
 abbrev pub allocates : Placement → Initial → List Entry → Environment → World → State
 allocates OnHeap initial stack e w = makes (InRegion heap_number) initial stack e w
 allocates AsUnique initial stack e w = makes (Unique true) initial stack e w

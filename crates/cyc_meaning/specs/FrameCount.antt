@@ -1,5 +1,5 @@
--- How many words the frame of a function may have, counted on the source alone, so that a text is refused or not however
--- its code is made. The count and its numbers are this project's own choice.
+-- The frame count: a bound on the number of words in a function's frame. The frame count is computed from the source only, so whether a
+-- text is accepted does not depend on code generation. The count and its numbers are this project's own choice.
 use Rattle.std.specs.Prelude.{ℕ, ◌+◌, max, List, [], ◌∷◌, Option, None, Some}
 use Rattle.cyc_types.specs.declared.typed.UnaryOperator.{UnaryOperator}
 use Rattle.cyc_types.specs.declared.typed.UnaryOperator.TheVariants as unary
@@ -10,27 +10,27 @@ use Rattle.cyc_types.specs.TypedTrees.{type_of, Side, VariableSide, CellSide, St
 use Rattle.cyc_types.specs.TypedTrees.{Function}
 use Rattle.cyc_meaning.specs.Values.{words_of_kind}
 
--- the words of what an expression gives, which may be nothing
+-- the number of words of an expression's value, which may be none
 abbrev pub result_words : ValueType → ℕ
 result_words Void = 0
 result_words Null = 1
 result_words (Value t) = words_of t
 
--- the words of an operand, which always has a value
+-- the number of words of an operand, which always has a value
 abbrev pub operand_words : ValueType → ℕ
 operand_words Void = 1
 operand_words Null = 1
 operand_words (Value t) = words_of t
 
--- a converted operand counts the more of its words before and after
+-- a converted operand counts the larger of its sizes before and after the conversion
 abbrev pub converted_words : Converted → ℕ
 converted_words (Convert from to a) = max (words_of_kind from) (words_of_kind to)
 
--- a place: what is assigned, what has its address taken, and both sides of a swap; a place that is read is none
+-- The words of a place: the target of an assignment or of `&`, or a side of a swap. A place that is only read has none.
 abbrev pub place_words : ℕ
 place_words = 3
 
--- what a `for` keeps beside its element
+-- the words that a `for` keeps while its element is evaluated
 abbrev pub array_words : ℕ
 array_words = 4
 
@@ -38,14 +38,14 @@ abbrev pub argument_words : Arguments → ℕ
 argument_words NoArguments = 0
 argument_words (MoreArguments c cs) = converted_words c + argument_words cs
 
--- the handle of `rnew`, also where it is `unique_region`
+-- the words of the handle of `rnew`; `unique_region` counts too
 abbrev pub handle_words : Placement → ℕ
 handle_words OnHeap = 0
 handle_words AsUnique = 1
 handle_words (ByHandle a) = operand_words (type_of a)
 
--- Of an operator whose operand has so many words and this need. A text does not write that a char serves as an int, so this has no words of
--- its own.
+-- The need of a unary operator, given the words and the need of its operand. The conversion of a char to an int is not written in the text,
+-- so it has no words of its own.
 abbrev pub unary_need : UnaryOperator → (words need : ℕ) → ℕ
 unary_need unary.Negate words need = max (words + 1) need
 unary_need unary.Not words need = max (words + 1) need
@@ -53,9 +53,9 @@ unary_need unary.Complement words need = max (words + 1) need
 unary_need unary.Widen words need = need
 unary_need unary.LowByte words need = max (words + 1) need
 
--- The need of an expression is the greatest of: the words of all its operands and its own; and for each operand the words
--- of those before it and its need. In a chain all that stands before an operator is its left operand, and has the type of
--- the chain where it is not the first operand alone.
+-- The need of an expression is the maximum of two kinds of sums: the words of all its operands plus those of its result, and, for each
+-- operand, the words of the operands before it plus its own need. In a chain, everything before an operator is its left operand; unless it
+-- is the first operand alone, it has the type of the chain.
 abbrev mutual
   pub expression_need : Expression → ℕ
   expression_need (Number n) = 1
@@ -79,7 +79,7 @@ abbrev mutual
       max (dereference_need d place_words) (max (place_words + converted_words c + result_words t) (place_words + converted_need c))
   expression_need (New w i t) = max (handle_need w) (initial_value_need i (handle_words w) (words_of t))
 
-  -- of a place that a pointer leads to, which has so many words itself
+  -- the need of a place that a pointer leads to, which has this many words
   pub dereference_need : Dereference → (own : ℕ) → ℕ
   dereference_need (Target k a t) own = max (operand_words (type_of a) + own) (expression_need a)
   dereference_need (Member k a s f t) own = max (operand_words (type_of a) + own) (expression_need a)
@@ -91,23 +91,23 @@ abbrev mutual
   handle_need AsUnique = 1
   handle_need (ByHandle a) = expression_need a
 
-  -- behind a handle of so many words, where the pointer to the object has so many
+  -- the need of an initial value after a handle of this many words; the pointer to the object has `own` words
   pub initial_value_need : Initial → (handle own : ℕ) → ℕ
   initial_value_need (Plain k a) handle own = max (handle + words_of_kind k + own) (handle + expression_need a)
   initial_value_need (Fields cs) handle own = max (handle + argument_words cs + own) (arguments_need cs handle)
   initial_value_need (Array p l n k a) handle own =
       max (handle + expression_need n) (max (handle + array_words + expression_need a) (handle + array_words + words_of_kind k + own))
 
-  -- a conversion does not raise the need of what is converted
+  -- the need of a converted expression: a conversion adds nothing
   pub converted_need : Converted → ℕ
   converted_need (Convert from to a) = expression_need a
 
-  -- where so many words stand before the first
+  -- the need of arguments, if this many words precede the first
   pub arguments_need : Arguments → (before : ℕ) → ℕ
   arguments_need NoArguments before = 0
   arguments_need (MoreArguments c cs) before = max (before + converted_need c) (arguments_need cs (before + converted_words c))
 
-  -- where the left operand of the first has so many words
+  -- the need of a chain's operations, if the left operand of the first has this many words
   pub operations_need : Operations → Ty → (left : ℕ) → ℕ
   operations_need NoOperations t left = 0
   operations_need (ThenCompute o a os) t left =
@@ -131,7 +131,8 @@ abbrev pub side_need : Side → ℕ
 side_need (VariableSide l t) = place_words
 side_need (CellSide d) = dereference_need d place_words
 
--- the greatest need of the expressions in a statement; a swap is one without a value whose operands are its two places
+-- The need of a statement: the maximum over its expressions. A swap counts like an expression without a value whose operands are its two
+-- places.
 abbrev mutual
   pub statement_need : Statement → ℕ
   statement_need (Block r js) = items_need js
@@ -157,7 +158,7 @@ abbrev mutual
   clauses_need (Default r js) = items_need js
   clauses_need (Case e n r js cs) = max (items_need js) (clauses_need cs)
 
--- What is kept beside the variables: six words for each `try`, and one for each lexical region, whose handle so counts two.
+-- The words beside the variables: six for each `try`, and one for each lexical region, so that its handle counts two in total.
 abbrev mutual
   pub kept_by : Statement → ℕ
   kept_by (Block r js) = kept_by_items js
@@ -181,10 +182,10 @@ abbrev pub words_of_all : List Ty → ℕ
 words_of_all [] = 0
 words_of_all (t ∷ ts) = words_of t + words_of_all ts
 
--- so many words are kept in each frame
+-- the number of words reserved in each frame
 abbrev pub kept_words : ℕ
 kept_words = 24
 
--- The frame count of a function. Counters are no variables, and have no words.
+-- The frame count of a function. Counters are not variables, and count no words.
 abbrev pub frame_count : Function → ℕ
 frame_count h = kept_words + words_of_all h.parameters + words_of_all h.locals + kept_by_items h.body + items_need h.body

@@ -1,4 +1,4 @@
--- what a program means
+-- the meaning of programs
 pub mod Values
 pub mod Operators
 pub mod Pointers
@@ -13,9 +13,10 @@ pub mod Exceptions
 pub mod Regions
 pub mod Step
 pub mod Run
--- what the laws and the contracts of the compiler add to that
+-- definitions that the laws and the contracts of the compiler add
 pub mod SourceMachine
 pub mod FrameCount
 pub mod Sizes
--- What the functions of this crate promise each other and what its proofs say: no public contract of the product means it.
+-- Contracts between this crate's functions, and statements of its proofs. No public contract of the product depends on these internal
+-- definitions.
 pub mod inside

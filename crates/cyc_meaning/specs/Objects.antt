@@ -1,11 +1,11 @@
--- Objects that a program makes, frees and compares. (Cyclone's heap, regions and unique pointers, Grossman et al. 2002 and the User's
--- Manual, 1.0; how blocks and classes are counted is this project's own choice.)
+-- Objects that a program allocates, frees and compares. (Cyclone's heap, regions and unique pointers, Grossman et al. 2002 and the User's
+-- Manual, 1.0. The accounting of blocks and classes is this project's own choice.)
 use Rattle.std.specs.Prelude.{ℕ, suc, ◌==◌, ◌&&◌, Bool, true, false, max, if◌then◌else◌, List, [], ◌∷◌, ◌++◌, Option, Some, None, get_or, slice_get, set}
 use Rattle.cyc_words.specs.Demand.{class_of, pages_for}
 use Rattle.cyc_meaning.specs.Values.{Value, Null, Thin, Cell, block_size}
 use Rattle.cyc_meaning.specs.State.{Region, Owner, InRegion, Unique, Object, World, Access, Found, Closed, Missing, region_at, is_live, made}
 
--- ---- objects that are there
+-- ---- access to objects
 
 abbrev pub found_object : World → Option Object → Access Object
 found_object w None = Missing
@@ -14,7 +14,8 @@ found_object w (Some x) = if is_live w x.owner then Found x else Closed
 abbrev pub object_at : World → ℕ → Access Object
 object_at w number = found_object w (slice_get w.objects number)
 
--- Thin pointers are equal where both are null, or object and offset are the same. Where neither is null both objects must be live.
+-- Thin pointers are equal if both are null, or if object and offset are equal. If neither compared pointer is null, the objects of both
+-- must be live.
 abbrev pub both_found : Access Object → Access Object → (equal : Bool) → Access Bool
 both_found (Found x) (Found y) equal = Found equal
 both_found (Found x) Closed equal = Closed
@@ -31,15 +32,15 @@ compared w (Thin object offset) (Thin other place) =
     both_found (object_at w object) (object_at w other) (object == other && offset == place)
 compared w left right = Missing
 
--- ---- making
+-- ---- allocation
 
--- An object in a region is a block of its size behind the others.
+-- An object in a region is a block of its size, appended to the region's blocks.
 abbrev pub made_in : World → (region : ℕ) → Region → List Cell → World
 made_in w region r cells = record (made w (record { owner = InRegion region; cells = cells })) {
   regions = set w.regions region (record r { blocks = r.blocks ++ block_size cells ∷ [] });
 }
 
--- the class of the block of a unique object
+-- the size class of the block of a unique object
 abbrev pub class_of_cells : List Cell → ℕ
 class_of_cells cells = class_of (block_size cells)
 
@@ -47,12 +48,12 @@ abbrev pub is_live_in : (class : ℕ) → Owner → List Cell → Bool
 is_live_in class (InRegion region) cells = false
 is_live_in class (Unique live) cells = live && class_of_cells cells == class
 
--- how many unique objects of a class are live
+-- the number of live unique objects of a class
 abbrev pub live_in : (class : ℕ) → List Object → ℕ
 live_in class [] = 0
 live_in class (x ∷ objects) = if is_live_in class x.owner x.cells then suc (live_in class objects) else live_in class objects
 
--- the pages of the classes where so many blocks of one class are live: they never fall
+-- the pages of the classes if this many blocks of one class are live; pages never decrease
 abbrev pub raised : (classes : List ℕ) → (class live : ℕ) → List ℕ
 raised classes class live = set classes class (max (get_or classes class 0) (pages_for class live))
 
@@ -66,7 +67,7 @@ created_in w region (Found r) cells = Found (made_in w region r cells)
 created_in w region Closed cells = Closed
 created_in w region Missing cells = Missing
 
--- a new object with the next number, for this owner
+-- the world with a new object of this owner, which gets the next number
 abbrev pub created : World → Owner → List Cell → Access World
 created w (InRegion region) cells = created_in w region (region_at w region) cells
 created w (Unique true) cells = Found (made_unique w cells)
@@ -74,6 +75,6 @@ created w (Unique false) cells = Missing
 
 -- ---- freeing
 
--- a unique object is given back: it keeps its number, its cells and what is in them
+-- a freed unique object keeps its number, its cells and their contents
 abbrev pub freed : World → (number : ℕ) → Object → World
 freed w number x = record w { objects = set w.objects number (record x { owner = Unique false }) }

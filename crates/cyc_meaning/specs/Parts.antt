@@ -1,7 +1,7 @@
--- Parts of which steps are made: what a step comes to, and reads, writes and makings with their checks. Shapes are checked as a program
--- goes: a cell that is read or written has the kind that the tree says, and so has what is stored in it. Where no case applies the
--- outcome is `Wrong`, and where something closed or freed is touched it is `Dead`. (That a closed region is not accessed is the
--- property of Grossman et al. 2002; the form of outcomes and the checks of shapes are this project's own choice.)
+-- The parts of which steps are composed: outcomes, and reads, writes and allocations with their checks. Shapes are checked at run time: a
+-- cell that is read or written has the kind that the tree states, and so has the stored value. If no case applies, the outcome is `Wrong`;
+-- if a closed region or a freed object is accessed, it is `Dead`. (Grossman et al. 2002 prove that a closed region is not accessed. The
+-- form of outcomes and the checks of shapes are this project's own choice.)
 use Rattle.std.specs.Prelude.{ℕ, ◌==◌, Bool, true, false, if◌then◌else◌, List, [], ◌∷◌, length, Option, Some, None, slice_get}
 use Rattle.cyc_words.specs.Ending.{Ending}
 use Rattle.cyc_types.specs.declared.typed.Kind.{Kind}
@@ -24,11 +24,11 @@ wrong w = Wrong w.output w.input
 abbrev pub ends : Ending → World → State
 ends ending w = Ended ending w.output w.input
 
--- a value is handed on
+-- a value is passed to the newest entry
 abbrev pub gives : Kind → Value → List Entry → Environment → World → State
 gives kind value stack e w = Running (Given (record { kind = kind; value = value })) stack e w
 
--- what was computed is handed on, or its exception is thrown
+-- a computed value is passed on, or its exception is thrown
 abbrev pub computed : Kind → Result → List Entry → Environment → World → State
 computed kind (Gives value) stack e w = gives kind value stack e w
 computed kind (Raises tag) stack e w = Running (Throwing tag 0) stack e w
@@ -41,48 +41,49 @@ abbrev pub object_of : Environment → Lvalue → Option ℕ
 object_of e (Local place number) = e.locals number
 object_of e (Global number) = Some number
 
--- a cell holds a value, or nothing yet
+-- reads a cell, which holds a value or nothing yet
 abbrev pub read : Kind → Option Value → List Entry → Environment → World → State
 read kind (Some value) stack e w = gives kind value stack e w
 read kind None stack e w = wrong w
 
--- a cell of this kind is read
+-- reads a cell of this kind
 abbrev pub loaded : Kind → Access Located → List Entry → Environment → World → State
 loaded kind (Found at) stack e w = if is_kind at.cell.kind kind then read kind at.cell.content stack e w else wrong w
 loaded kind Closed stack e w = dead w
 loaded kind Missing stack e w = wrong w
 
--- the variable of an object
+-- reads the variable that is this object
 abbrev pub loaded_from : Kind → Option ℕ → List Entry → Environment → World → State
 loaded_from kind (Some object) stack e w = loaded kind (cell_at w object 0) stack e w
 loaded_from kind None stack e w = wrong w
 
--- a cell of the operand's kind gets its value
+-- writes the operand's value into a cell of its kind
 abbrev pub stored : Access Located → (object offset : ℕ) → Operand → Focus → List Entry → Environment → World → State
 stored (Found at) object offset operand focus stack e w =
     if is_kind at.cell.kind operand.kind then Running focus stack e (written w object offset at operand.value) else wrong w
 stored Closed object offset operand focus stack e w = dead w
 stored Missing object offset operand focus stack e w = wrong w
 
--- the cell that a thin pointer is to
+-- writes the cell that a thin pointer leads to
 abbrev pub stored_at : (place : Value) → Operand → Focus → List Entry → Environment → World → State
 stored_at (Thin object offset) operand focus stack e w = stored (cell_at w object offset) object offset operand focus stack e w
 stored_at place operand focus stack e w = wrong w
 
--- The cells of a new object, and both of a swap, are written one by one. Then a value is handed on, if there is one.
+-- The cells of a new object, or the two cells of a swap, are written one by one. After the cells are written, a value is passed on, if
+-- there is one.
 abbrev pub step_writing : List Write → Option Operand → List Entry → Environment → World → State
 step_writing [] (Some operand) stack e w = Running (Given operand) stack e w
 step_writing [] None stack e w = Running Proceeding stack e w
 step_writing (x ∷ writes) result stack e w = stored_at x.place x.operand (Writing writes result) stack e w
 
--- ---- what a pointer leads to
+-- ---- the target of a pointer
 
--- A pointer to this type leads to a cell of a kind, or to a struct, which it leads to the first cell of.
+-- The target of a pointer to this type: a cell of a kind, or a struct, of which the pointer leads to the first cell.
 abbrev pub target_of : Ty → Option Kind
 target_of (types.Struct number regions) = None
 target_of t = Some (kind_of t)
 
--- what a value of this type leads to, where it is a pointer
+-- the target of a value of this type, if it is a pointer
 abbrev pub target_of_value : ValueType → Option Kind
 target_of_value (types.Value (types.Pointer mark t region)) = target_of t
 target_of_value v = None
@@ -99,32 +100,32 @@ abbrev pub cell_of : Option Object → (offset : ℕ) → Option Cell
 cell_of None offset = None
 cell_of (Some x) offset = slice_get x.cells offset
 
--- Whether what is reached is what the tree says, also where its object is no more: an index is counted in elements, and so nothing
--- but the tree tells how far apart they are.
+-- True if the pointer's target is as the tree states, even after the object was freed. An index counts elements, and only the tree states
+-- the size of an element.
 abbrev pub leads_to : World → (target : Option Kind) → Reach → Bool
 leads_to w target (At object offset) = is_target target offset (cell_of (slice_get w.objects object) offset)
 leads_to w target reach = true
 
 -- ---- locals
 
--- A local is a new object in the region of the innermost block.
+-- A declared local is a new object in the region of the innermost block.
 abbrev pub declared : Access Region → Focus → (number : ℕ) → Kind → Option Value → List Entry → Environment → World → State
 declared (Found r) focus number kind content stack e w =
     Running focus stack (with_local e number (length w.objects)) (made w (variable e.home kind content))
 declared Closed focus number kind content stack e w = dead w
 declared Missing focus number kind content stack e w = wrong w
 
--- ---- regions of variables
+-- ---- regions that contain variables
 
--- variables live in the region that is opened next
+-- the environment in which the region opened next contains the variables
 abbrev pub inside : Environment → World → Environment
 inside e w = record e { home = length w.regions }
 
--- the end of the region that is opened next
+-- the stack entry that closes the region opened next
 abbrev pub region_end : Environment → World → Entry
 region_end e w = CloseRegion (length w.regions) e.home
 
--- a region is closed, by whichever way it is left
+-- a region is closed, however its block is left
 abbrev pub closing : Access Region → Focus → (region home : ℕ) → List Entry → Environment → World → State
 closing (Found r) focus region home stack e w = Running focus stack (record e { home = home }) (closed w region r)
 closing Closed focus region home stack e w = dead w

@@ -1,5 +1,5 @@
--- Places that a pointer leads to: `*e`, `e->f` and `e[i]`. A place's checks are made when it is evaluated: on the left of `=` before the
--- right side is, and under `&` too (this project's own choice).
+-- Places that a pointer leads to: `*e`, `e->f` and `e[i]`. A place is checked when it is evaluated. On the left of `=` this happens before
+-- the right side is evaluated. A place is also checked under `&` (this project's own choice).
 use Rattle.std.specs.Prelude.{ℕ, ◌==◌, ◌&&◌, if◌then◌else◌, List, ◌∷◌, map, Option, Some, None, slice_get, true}
 use Rattle.cyc_types.specs.declared.typed.Kind.{Kind}
 use Rattle.cyc_types.specs.declared.typed.Kind.TheVariants as kinds
@@ -11,19 +11,19 @@ use Rattle.cyc_meaning.specs.State.{Object, World, cell_at, Environment, Convert
 use Rattle.cyc_meaning.specs.Parts.{wrong, gives, computed, loaded, target_of, target_by, leads_to}
 use Rattle.cyc_meaning.specs.Swaps.{finds_right, both_places}
 
--- ---- a place is found
+-- ---- evaluating a place
 
 abbrev pub arrives : Reach → List Entry → Environment → World → State
 arrives (At object offset) stack e w = Running (GivenPlace (Thin object offset)) stack e w
 arrives (Stops tag) stack e w = Running (Throwing tag 0) stack e w
 arrives Nowhere stack e w = wrong w
 
--- `*e`: an access through null raises an exception, and so does one through a fat pointer out of its bounds
+-- `*e`: an access through null raises an exception, and so does one through an out-of-bounds fat pointer
 abbrev pub follows : (pointer : Kind) → (target : Option Kind) → Operand → List Entry → Environment → World → State
 follows pointer target operand stack e w =
     if is_kind operand.kind pointer && leads_to w target (followed operand.value) then arrives (followed operand.value) stack e w else wrong w
 
--- `e->f`: the field of this number of an object with the kinds of the struct's fields
+-- `e->f`: the field of this number, if the object has the kinds of the struct's fields
 abbrev pub field_of : Option Object → (object offset : ℕ) → (fields : List Kind) → (field : ℕ) → Reach
 field_of None object offset fields field = Nowhere
 field_of (Some x) object offset fields field = if offset == 0 && are_kinds (kinds_of x.cells) fields then At object field else Nowhere
@@ -36,7 +36,7 @@ abbrev pub follows_member : (pointer : Kind) → (fields : List Kind) → (field
 follows_member pointer fields field operand stack e w =
     if is_kind operand.kind pointer then arrives (member_of w (followed operand.value) fields field) stack e w else wrong w
 
--- `e[i]`: the access to the sum of both, so first the operands are evaluated, then the index moves, then the access is checked
+-- `e[i]`: an access to `*(e + i)`. The operands are evaluated, then the index is added, then the access is checked.
 abbrev pub indexes : (peek : Option ℕ) → (target : Option Kind) → (index : Expression) → Operand → List Entry → Environment → World → State
 indexes peek target index base stack e w =
     if is_kind base.kind kinds.Fat then Running (Evaluating index) (Needs (Advance peek target base) ∷ stack) e w else wrong w
@@ -55,7 +55,7 @@ step_locating program (Target pointer a t) stack e w = Running (Evaluating a) (N
 step_locating program (Member pointer a s field t) stack e w = locates_member (slice_get program.structs s) pointer a field stack e w
 step_locating program (Element a i t) stack e w = Running (Evaluating a) (Needs (Index (peeked (Element a i t)) (target_of t) i) ∷ stack) e w
 
--- ---- what waits for a place gets it
+-- ---- continuations that receive a place
 
 abbrev pub loaded_at : Kind → (place : Value) → List Entry → Environment → World → State
 loaded_at kind (Thin object offset) stack e w = loaded kind (cell_at w object offset) stack e w

@@ -1,5 +1,5 @@
--- What is computed with pointers. (Fat pointers are the Cyclone User's Manual's, 1.0: a part of an object with its bounds, which only an
--- access checks. That arithmetic wraps, and the order of the checks, are this project's own choice.)
+-- Pointer arithmetic. (Fat pointers are the Cyclone User's Manual's, 1.0: a part of an object with its bounds, which are checked only on
+-- access. Wrapping arithmetic and the order of the checks are this project's own choice.)
 use Rattle.std.specs.Prelude.{ℕ, ◌+◌, ◌-◌, Bool, true, false, not, nat_lt, nat_le, if◌then◌else◌}
 use Rattle.cyc_words.specs.Word.{add_of, sub_of}
 use Rattle.cyc_types.specs.declared.typed.Kind.{Kind}
@@ -11,14 +11,14 @@ use Rattle.cyc_meaning.specs.Operators.{Result, Gives, Misfits, null_exception, 
 
 -- ---- arithmetic
 
--- Arithmetic changes the index alone, and leaves null null.
+-- Arithmetic changes only the index, and leaves null unchanged.
 abbrev pub moved : (ℕ → ℕ) → Value → Result
 moved change Null = Gives Null
 moved change (Fat object start count index) = Gives (Fat object start count (change index))
 moved change value = Misfits
 
--- The number of elements from the index on: the length minus the index where the index is 0 to the length, else 0. An index below 0 is
--- a word of 2 ^ 31 and more, and no object has so many cells.
+-- The number of elements from the index on: the length minus the index if the index is between 0 and the length, otherwise 0. A negative
+-- index is a word of at least 2 ^ 31, and no object has that many cells.
 abbrev pub element_count : Value → Result
 element_count Null = Gives (Int 0)
 element_count (Fat object start count index) = Gives (Int (if nat_le index count then count - index else 0))
@@ -32,7 +32,7 @@ null_test negated (Thin object offset) = Gives (Int (truth negated))
 null_test negated (Fat object start count index) = Gives (Int (truth negated))
 null_test negated value = Misfits
 
--- Two thin pointers are compared where their objects are at hand.
+-- Comparing two thin pointers needs their objects, so it is not decided by the values.
 abbrev pub pointer_result : PointerOperator → (left right : Value) → Result
 pointer_result operators.AddFat left (Int n) = moved (λ index. add_of index n) left
 pointer_result operators.SubtractFat left (Int n) = moved (λ index. sub_of index n) left
@@ -44,7 +44,7 @@ pointer_result operators.NullIs Null right = null_test false right
 pointer_result operators.NullIsNot Null right = null_test true right
 pointer_result operator left right = Misfits
 
--- the kind of what an operator gives, and whether its left operand may have a kind
+-- the kind of an operator's result, and whether its left operand may have a kind
 abbrev pub result_kind : PointerOperator → Kind
 result_kind operators.AddFat = kinds.Fat
 result_kind operators.SubtractFat = kinds.Fat
@@ -61,11 +61,12 @@ takes_kind operator kind = is_thin kind
 
 pub data Reach : Type 0 where
   At : (object offset : ℕ) → Reach
-  -- an exception of this tag is raised
+  -- the access raises an exception of this tag
   Stops : (tag : ℕ) → Reach
   Nowhere : Reach
 
--- An access through null raises an exception, and so does one through a fat pointer whose index is not from 0 to below the length.
+-- An access through null raises an exception. An access through a fat pointer also raises an exception if its index is negative or at least
+-- the length.
 abbrev pub followed : Value → Reach
 followed Null = Stops null_exception
 followed (Thin object offset) = At object offset

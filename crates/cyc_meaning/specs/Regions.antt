@@ -1,6 +1,6 @@
--- Lexical and dynamic regions, keys, aliases, and unique objects that are given back. Leaving a block by any way closes its lexical
--- regions, newest first, and then its own. A dynamic region is made by `new_ukey` and closed by `free_ukey` alone: `open` closes
--- nothing at its block's end. (Grossman et al. 2002, and the Cyclone User's Manual, 1.0, on dynamic regions and unique pointers.)
+-- Lexical and dynamic regions, keys, aliases, and freed unique objects. Leaving a block in any way closes its lexical regions, newest
+-- first, and then the block's own region. A dynamic region is created by `new_ukey` and closed only by `free_ukey`: `open` does not close
+-- the region at the end of its block. (Grossman et al. 2002, and the Cyclone User's Manual, 1.0, on dynamic regions and unique pointers.)
 use Rattle.std.specs.Prelude.{ℕ, ◌==◌, Bool, true, false, if◌then◌else◌, List, ◌∷◌, length, Option, Some, None, slice_get}
 use Rattle.cyc_types.specs.declared.typed.Kind.{Kind}
 use Rattle.cyc_types.specs.declared.typed.Kind.TheVariants as kinds
@@ -14,14 +14,14 @@ abbrev pub is_dynamic : Sort → Bool
 is_dynamic Dynamic = true
 is_dynamic sort = false
 
--- a local that holds something from the start, and what is left of its block
+-- declares a local with an initial content, and continues with the rest of its block
 abbrev pub step_naming : (number : ℕ) → Operand → Items → List Entry → Environment → World → State
 step_naming number operand items stack e w =
     declared (region_at w e.home) Proceeding number operand.kind (Some operand.value) (Rest items ∷ stack) e w
 
 -- ---- lexical regions
 
--- the region is opened, and then its handle is made, which is a local of the block
+-- the region is opened, then its handle is declared as a local of the block
 abbrev pub opens_lexical : (number : ℕ) → Items → List Entry → Environment → World → State
 opens_lexical number items stack e w =
     Running (Naming number (record { kind = kinds.Handle; value = Handle (length w.regions) }) items) (CloseLexical (length w.regions) ∷ stack) e (opened_as Lexical w)
@@ -33,12 +33,12 @@ closing_lexical Missing focus region stack e w = wrong w
 
 -- ---- dynamic regions
 
--- `new_ukey` opens a region, and its key is a local
+-- `new_ukey` opens a region and declares its key as a local
 abbrev pub opens_dynamic : (number : ℕ) → Items → List Entry → Environment → World → State
 opens_dynamic number items stack e w =
     Running (Naming number (record { kind = kinds.Key; value = Key (length w.regions) }) items) stack e (opened_as Dynamic w)
 
--- `open` reads the key of a region that is open, and a local becomes the region's handle: the key is lent to the end of the block
+-- `open` reads the key of an open region and declares a local as the handle of the region. The key is lent to the end of the block.
 abbrev pub opens_by_key : (number key : ℕ) → Items → List Entry → Environment → World → State
 opens_by_key number key items stack e w = loaded_from kinds.Key (e.locals key) (Needs (OpenBy number key items) ∷ stack) e w
 
@@ -66,22 +66,22 @@ closes_with value stack e w = wrong w
 
 -- ---- aliases
 
--- the unique pointer of a local is read, and another local holds it too: the first one is lent to the end of the block
+-- reads the unique pointer of a local and stores it in another local as well; the first is lent to the end of the block
 abbrev pub aliases : (number : ℕ) → Kind → (source : ℕ) → Items → List Entry → Environment → World → State
 aliases number kind source items stack e w = loaded_from kind (e.locals source) (Needs (AliasOf number source items) ∷ stack) e w
 
 abbrev pub aliased : (number lent : ℕ) → Items → Operand → List Entry → Environment → World → State
 aliased number lent items operand stack e w = Running (Naming number operand items) (EndLoan lent ∷ stack) e w
 
--- ---- unique objects that are given back
+-- ---- freeing unique objects
 
--- what a region owns is no unique object, and is dead where the region is closed
+-- `ufree` of an object in a region. The object is not unique, so the state is wrong. If the region is closed, the access is dead.
 abbrev pub frees_in_region : Access Region → World → State
 frees_in_region (Found r) w = wrong w
 frees_in_region Closed w = dead w
 frees_in_region Missing w = wrong w
 
--- `ufree` gives back a whole unique object, whatever the index of a fat pointer to it. That of null does nothing.
+-- `ufree` frees a whole unique object, whatever the index of a fat pointer to it. `ufree` of null does nothing.
 abbrev pub frees_owned : Owner → (number : ℕ) → Object → List Entry → Environment → World → State
 frees_owned (InRegion region) number x stack e w = frees_in_region (region_at w region) w
 frees_owned (Unique true) number x stack e w = Running Proceeding stack e (freed w number x)

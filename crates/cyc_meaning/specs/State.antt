@@ -1,6 +1,6 @@
--- The state of a program that runs. Regions and objects have numbers that are never used again: what is closed or freed keeps
--- its number and its contents, and only a flag changes. The regions are those of Grossman et al. (2002); the form of the state,
--- a focus and a control stack, is the field's (CEK machines), and its entries are this project's own choice.
+-- The state of a running program. Regions and objects have numbers that are never reused. A closed region or a freed object keeps its
+-- number and its contents, and only a flag changes. The regions are those of Grossman et al. (2002). The form of the state, a focus and a
+-- control stack, is the field's (CEK machines). Its entries are this project's own choice.
 use Rattle.std.specs.Prelude.{ℕ, suc, ◌==◌, Bool, true, false, if◌then◌else◌, List, [], ◌∷◌, ◌++◌, map, Option, Some, None, slice_get, set}
 use Rattle.cyc_words.specs.Ending.{Ending}
 use Rattle.cyc_types.specs.declared.typed.Kind.{Kind}
@@ -16,7 +16,7 @@ use Rattle.cyc_words.specs.Demand.{demand_of}
 
 -- ---- regions and objects
 
--- what a region is: the heap, that of the globals, that of a block's or a call's variables, or one that a program declares
+-- the sort of a region: the heap, the region of the globals, the region of the variables of a block or call, or a declared region
 pub data Sort : Type 0 where
   Heap : Sort
   Globals : Sort
@@ -27,10 +27,10 @@ pub data Sort : Type 0 where
 pub record Region : Type 0 where
   pub sort : Sort
   pub is_open : Bool
-  -- The sizes of the blocks made in it, in words and in the order made. Variables are no blocks.
+  -- The sizes of the blocks allocated in the region, in words and in order. The variables of a region do not count as blocks.
   pub blocks : List ℕ
 
--- who gives an object back: the end of a region, or a program by the object's unique pointer
+-- the owner of an object: the region whose end frees it, or the program's unique pointer to it
 pub data Owner : Type 0 where
   InRegion : (region : ℕ) → Owner
   Unique : (live : Bool) → Owner
@@ -39,26 +39,26 @@ pub record Object : Type 0 where
   pub owner : Owner
   pub cells : List Cell
 
--- What all calls share. Regions and objects have the numbers of their places in these lists.
+-- The part of a state that all calls share. Regions and objects are numbered by their positions in these lists.
 pub record World : Type 0 where
   pub regions : List Region
   pub objects : List Object
-  -- of each class of unique blocks, the pages for the most of them that were live so far
+  -- for each class of unique blocks, the pages for the largest number of live blocks so far
   pub classes : List ℕ
-  -- all that was printed, and what is still to be read
+  -- the output so far, and the unread input
   pub output : List ℕ
   pub input : List ℕ
 
--- the numbers of the regions that are there from the start
+-- the numbers of the regions that exist from the start
 abbrev pub heap_number : ℕ
 heap_number = 0
 
 abbrev pub globals_number : ℕ
 globals_number = 1
 
--- ---- what an access finds
+-- ---- results of an access
 
--- the thing itself; that it is closed or freed; or nothing, where no such thing was ever made
+-- the result of an access: the accessed thing; closed or freed; or missing, if it was never created
 pub data Access (X : Type 0) : Type 0 where
   Found : X → Access X
   Closed : Access X
@@ -79,7 +79,7 @@ abbrev pub is_live : World → Owner → Bool
 is_live w (InRegion number) = is_open (slice_get w.regions number)
 is_live w (Unique live) = live
 
--- a cell, with the object that has it
+-- a cell, with the object that contains it
 pub record Located : Type 0 where
   pub object : Object
   pub cell : Cell
@@ -95,17 +95,17 @@ cell_in w (Some x) offset = if is_live w x.owner then located x (slice_get x.cel
 abbrev pub cell_at : World → (object offset : ℕ) → Access Located
 cell_at w object offset = cell_in w (slice_get w.objects object) offset
 
--- ---- what changes
+-- ---- changes of the world
 
--- a region that nothing was made in yet
+-- a region without blocks
 abbrev pub new_region : Sort → Region
 new_region sort = record { sort = sort; is_open = true; blocks = [] }
 
--- a region of this sort more, with the next number
+-- the world with one more region of this sort, which gets the next number
 abbrev pub opened_as : Sort → World → World
 opened_as sort w = record w { regions = w.regions ++ new_region sort ∷ [] }
 
--- a region of variables
+-- a new region for variables
 abbrev pub stack_region : Region
 stack_region = new_region Stack
 
@@ -119,11 +119,11 @@ closed w number r = record w { regions = set w.regions number (record r { is_ope
 abbrev pub variable : (region : ℕ) → Kind → Option Value → Object
 variable region kind content = record { owner = InRegion region; cells = record { kind = kind; content = content } ∷ [] }
 
--- an object more, with the next number
+-- the world with one more object, which gets the next number
 abbrev pub made : World → Object → World
 made w x = record w { objects = w.objects ++ x ∷ [] }
 
--- a cell holds a value
+-- the world with a value written into a cell
 abbrev pub written : World → (object offset : ℕ) → Located → Value → World
 written w object offset at value = record w {
   objects = set w.objects object (record at.object {
@@ -133,15 +133,14 @@ written w object offset at value = record w {
 
 -- ---- calls
 
--- What the running call knows: the object of each of its locals, the region in which the variables of the innermost block live, and
--- the value of the counter of each level, which is no variable. A local that is declared again, in another pass of a loop, is another
--- object.
+-- The environment of the running call: the object of each of its locals, the region of the innermost block's variables, and the counter
+-- value of each level. A counter is not a variable. A local that is declared again, in another iteration of a loop, is another object.
 pub record Environment : Type 0 where
   pub locals : ℕ → Option ℕ
   pub home : ℕ
   pub counters : ℕ → Option ℕ
 
--- of a call that has no region yet
+-- the environment of a call whose region is not yet opened
 abbrev pub no_locals : Environment
 no_locals = record { locals = λ (number : ℕ). None; home = globals_number; counters = λ (level : ℕ). None }
 
@@ -157,144 +156,144 @@ with_counter e level index = record e {
 
 -- ---- the control stack
 
--- What waits for a value. Operands that were computed before are inside. Where `peek` is a local, a place or an operand was reached
--- by a peek of it, and it must stay as it is while what is awaited is evaluated.
+-- Continuations that wait for a value, with the operands computed before. If `peek` is a local, then a place or an operand was reached by a
+-- peek of this local. The local must not change while the awaited part is evaluated.
 pub data Awaiting : Type 0 where
-  -- the value, of the first kind, is converted to the second; where it is a pointer, with what it leads to
+  -- converts the value from the first kind to the second; a pointer has this target
   ConvertTo : (from to : Kind) → (target : Option Kind) → Awaiting
   Operate : UnaryOperator → Awaiting
-  -- what follows in a chain of operators; the value is that of all before
+  -- the rest of a chain of operators, after the value of everything before
   Chain : Operations → Awaiting
-  -- a right operand, with the left one
+  -- applies an operator to the left operand and the awaited right operand
   Apply : Operator → (left : Operand) → Awaiting
   ApplyPointer : (peek : Option ℕ) → PointerOperator → (left : Operand) → Awaiting
-  -- the right operand of `&&` or `||`, where the left one did not decide
+  -- the right operand of `&&` or `||`, if the left one did not decide
   Decide : Awaiting
-  -- the value is stored in a variable, whose place is this thin pointer, and in a cell that a pointer led to
+  -- stores the value in a variable, given as a thin pointer, or in a cell that a pointer led to
   Store : (place : Value) → Awaiting
   StoreCell : (peek : Option ℕ) → (place : Value) → Awaiting
-  -- an argument, with those before it, newest first, and the arguments after it
+  -- an argument, with the arguments before it (newest first) and those after it
   Pass : Callee → (before : List Operand) → Arguments → Awaiting
-  -- the pointer of `*e`, of this kind, with what it leads to: a cell of a kind, or a struct
+  -- the pointer of `*e`, of this kind, with its target: a cell of a kind, or a struct
   Follow : (pointer : Kind) → (target : Option Kind) → Awaiting
-  -- that of `e->f`, with the kinds of the struct's fields and the number of this one
+  -- the pointer of `e->f`, with the kinds of the struct's fields and the number of the field
   FollowMember : (pointer : Kind) → (fields : List Kind) → (field : ℕ) → Awaiting
-  -- the fat pointer of `e[i]`, and then the index
+  -- the fat pointer of `e[i]`, and then its index
   Index : (peek : Option ℕ) → (target : Option Kind) → (index : Expression) → Awaiting
   Advance : (peek : Option ℕ) → (target : Option Kind) → (base : Operand) → Awaiting
-  -- what `numelts`, `ufree` and `free_ukey` work on
+  -- the operand of `numelts`, of `ufree` or of `free_ukey`
   CountElements : Awaiting
   FreeObject : Awaiting
   CloseByKey : Awaiting
-  -- the handle of the region in which `rnew` makes an object
+  -- the handle of the region in which `rnew` allocates
   PlaceBy : Initial → Awaiting
-  -- an object that `rnew` makes in this region: its handle stays while the initial value is evaluated, and the value is handed on
+  -- an object that `rnew` allocates in this region: its handle is kept while the initial value is evaluated; then the value is passed on
   BesideHandle : (region : ℕ) → Awaiting
-  -- the value of the only cell of a new object, of this kind; where it is to be made is said by its owner
+  -- the value of the only cell of a new object of this kind, to be allocated for this owner
   MakePlain : Owner → Kind → Awaiting
-  -- a field of a new struct, with those before it, newest first, and those after it
+  -- a field of a new struct, with the fields before it (newest first) and those after it
   MakeFields : Owner → (before : List Operand) → Arguments → Awaiting
   -- the length of a new array, and then each of its elements
   MakeArray : Owner → (level : ℕ) → Kind → (element : Expression) → Awaiting
   FillElement : (object count index level : ℕ) → Kind → (element : Expression) → Awaiting
-  -- the initial value of a local, and what is left of its block
+  -- the initial value of a local, followed by the rest of its block
   Initialise : (number : ℕ) → Kind → Items → Awaiting
-  -- the condition of an `if`, and of a `while`
+  -- the condition of an `if` or of a `while`
   Choose : Statement → Statement → Awaiting
   Test : Expression → Statement → Awaiting
-  -- what a call returns
+  -- the returned value of a call
   Return : Awaiting
-  -- the int of an exception
+  -- the int of a thrown exception
   ThrowWith : (tag : ℕ) → Awaiting
-  -- the key of the region that a local becomes the handle of, and the pointer that a local becomes an alias of: what is lent is the
-  -- local `lent`
+  -- the key whose region a local becomes the handle of, or the pointer that a local becomes an alias of; the local `lent` is lent
   OpenBy : (number lent : ℕ) → Items → Awaiting
   AliasOf : (number lent : ℕ) → Items → Awaiting
 
--- What waits for a place that a pointer leads to.
+-- Continuations that wait for the place that a pointer leads to.
 pub data AwaitingPlace : Type 0 where
-  -- a cell of this kind is read
+  -- reads a cell of this kind
   LoadFrom : Kind → AwaitingPlace
   TakeAddress : AwaitingPlace
-  -- the left side of `=`, with the right side
+  -- the left side of `=`, followed by the right side
   StoreTo : (peek : Option ℕ) → Converted → AwaitingPlace
-  -- a side of a swap of values of this kind: the left one, with the right side, and the right one, with the left place, which is a cell
-  -- or a variable
+  -- A side of a swap of values of this kind. The side is the left one, which the right side follows. The side may also be the right one,
+  -- after the left place, which is a cell or a variable.
   SwapLeft : Kind → (peek : Option ℕ) → (right : Side) → AwaitingPlace
   SwapRight : Kind → (peek : Option ℕ) → (is_cell : Bool) → (left : Value) → AwaitingPlace
 
 pub data Entry : Type 0 where
   Needs : Awaiting → Entry
   NeedsPlace : AwaitingPlace → Entry
-  -- an expression that stands for its effects: its value, if it has one, is dropped
+  -- an expression evaluated for its effects: its value, if any, is dropped
   Discard : Entry
-  -- what is left of a block
+  -- the rest of a block
   Rest : Items → Entry
-  -- the branches of an `if` come together
+  -- the join after the branches of an `if`
   Join : Entry
-  -- the body of a loop is executed
+  -- the loop whose body is being executed
   Loop : Expression → Statement → Entry
-  -- a region of variables ends, and then variables live in `home` again
+  -- the end of a region of variables; after it `home` is again the region of the variables
   CloseRegion : (region home : ℕ) → Entry
-  -- a lexical region ends
+  -- the end of a lexical region
   CloseLexical : (region : ℕ) → Entry
-  -- what this local holds is lent to the end of the block: its unique object, or the region that it is the key of
+  -- the end of a loan of this local: its unique object, or the region of its key, was lent to the end of the block
   EndLoan : (lent : ℕ) → Entry
-  -- the body of a `try` is executed
+  -- the clauses of the `try` whose body is being executed
   Handler : Clauses → Entry
-  -- a call ends, and its caller goes on with this environment
+  -- the end of a call, after which the caller continues with this environment
   Caller : Environment → Entry
-  -- the call of `main` ends
+  -- the end of the call of `main`
   Main : Entry
 
--- a cell that is to be written, by a thin pointer, and what it gets
+-- a write of a cell, given by a thin pointer, with the value to write
 pub record Write : Type 0 where
   pub place : Value
   pub operand : Operand
 
--- What is done next.
+-- The focus: the next action.
 pub data Focus : Type 0 where
   Evaluating : Expression → Focus
-  -- a place that a pointer leads to is evaluated
+  -- evaluates a place that a pointer leads to
   Locating : Dereference → Focus
-  -- a value is handed to the newest entry, and a place, as a thin pointer
+  -- passes a value to the newest entry; or a place, as a thin pointer
   Given : Operand → Focus
   GivenPlace : (place : Value) → Focus
   Executing : Statement → Focus
-  -- what was to be done is done, and the newest entry goes on
+  -- an action is complete, and the newest entry continues
   Proceeding : Focus
-  -- all arguments are evaluated, newest first, and the call is made
+  -- all arguments are evaluated, newest first, and the call follows
   Calling : Callee → (arguments : List Operand) → Focus
-  -- The region of a call is opened, and then its parameters are made from this number on. Arguments are in order.
+  -- opens the region of a call, and then declares its parameters from this number on; the arguments are in order
   Entering : Function → (arguments : List Operand) → Focus
   Binding : (number : ℕ) → List Ty → (arguments : List Operand) → (body : Items) → Focus
-  -- a local is made that holds this from the start, and what is left of its block goes on
+  -- declares a local with this initial content, and continues with the rest of its block
   Naming : (number : ℕ) → Operand → Items → Focus
-  -- the cells of a new object, and both of a swap, are written one by one; then a value is handed on, if there is one
+  -- Writes the cells of a new object, or the two cells of a swap, one by one. After the cells are written, a value is passed on, if there
+  -- is one.
   Writing : List Write → Option Operand → Focus
-  -- the block of an array of so many elements is made, and then the next of its elements is evaluated
+  -- allocates the block of an array of this many elements, and then evaluates its elements one by one
   Beginning : Owner → (count level : ℕ) → Kind → (element : Expression) → Focus
   Repeating : (object count index level : ℕ) → Kind → (element : Expression) → Focus
-  -- both places of a swap of values of this kind are found, and are read one by one: the left one is read already where there is an
-  -- operand
+  -- Both places of a swap of values of this kind are known, and are read one by one. The optional operand is the value of the left place,
+  -- once that place was read.
   Swapping : Kind → (left right : Value) → Option Operand → Focus
-  -- entries are left, newest first: up to a loop, or to the end of the call
+  -- pops entries, newest first: down to a loop, or to the end of the call
   Breaking : Focus
   Continuing : Focus
   Returning : Option Operand → Focus
-  -- up to a `try` one of whose clauses catches the exception
+  -- pops entries down to a `try` with a clause that catches the exception
   Throwing : (tag value : ℕ) → Focus
   Catching : (tag value : ℕ) → Clauses → Focus
 
 -- ---- states
 
--- under way, with the control stack newest entry first; ended; or one of two outcomes that are no end of a program
+-- running, with a control stack (newest entry first); ended; or one of two outcomes that do not end a program
 pub data State : Type 0 where
   Running : Focus → (stack : List Entry) → Environment → World → State
   Ended : Ending → (output input : List ℕ) → State
-  -- a dead access: a closed region or its objects, or a freed object
+  -- a dead access: to a closed region, to its objects, or to a freed object
   Dead : (output input : List ℕ) → State
-  -- no case applies, as where a cell holds nothing yet or a value has another shape
+  -- no case applies, for instance if a cell holds nothing yet or a value has the wrong shape
   Wrong : (output input : List ℕ) → State
 
 abbrev pub output_of : State → List ℕ
@@ -309,7 +308,7 @@ input_of (Ended ending output input) = input
 input_of (Dead output input) = input
 input_of (Wrong output input) = input
 
--- What a state is, apart from what is in it.
+-- The status of a state, without its content.
 pub data Status : Type 0 where
   GoesOn : Status
   HasEnded : Ending → Status
@@ -322,9 +321,9 @@ status_of (Ended ending output input) = HasEnded ending
 status_of (Dead output input) = IsDead
 status_of (Wrong output input) = IsWrong
 
--- ---- demand and depth
+-- ---- demand and call depth
 
--- Which regions the store keeps pages for: the heap, and of those that a program declares the open ones.
+-- True for the regions that need pages of the store: the heap, and the open ones among those that a program declares.
 abbrev pub has_pages : Sort → (flag : Bool) → Bool
 has_pages Heap flag = true
 has_pages Globals flag = false
@@ -336,14 +335,14 @@ abbrev pub counted : List Region → List (List ℕ)
 counted [] = []
 counted (r ∷ regions) = if has_pages r.sort r.is_open then r.blocks ∷ counted regions else counted regions
 
--- the pages of the store that are asked for
+-- the number of pages of the store in use
 abbrev pub demand : State → ℕ
 demand (Running focus stack e w) = demand_of (counted w.regions) w.classes
 demand (Ended ending output input) = 0
 demand (Dead output input) = 0
 demand (Wrong output input) = 0
 
--- the calls under way, with that of `main`; `putchar` and `getchar` are none
+-- the number of active calls, including that of `main`; calls of `putchar` and `getchar` do not count
 abbrev pub calls_in : List Entry → ℕ
 calls_in [] = 0
 calls_in (Caller e ∷ stack) = suc (calls_in stack)
@@ -356,7 +355,7 @@ depth (Ended ending output input) = 0
 depth (Dead output input) = 0
 depth (Wrong output input) = 0
 
--- ---- the start
+-- ---- the start state
 
 abbrev pub constant_value : Constant → Value
 constant_value (Word word) = Int word
@@ -369,11 +368,11 @@ global_object g = variable globals_number (kind_of g.of_type) (Some (constant_va
 abbrev pub first_regions : List Region
 first_regions = new_region Heap ∷ new_region Globals ∷ []
 
--- no class of unique blocks has pages: the classes are those of 1, 2, 4 and so on up to 1,024 words
+-- no class of unique blocks has pages yet; the classes are those of 1, 2, 4 and so on up to 1,024 words
 abbrev pub first_classes : List ℕ
 first_classes = 0 ∷ 0 ∷ 0 ∷ 0 ∷ 0 ∷ 0 ∷ 0 ∷ 0 ∷ 0 ∷ 0 ∷ 0 ∷ []
 
--- each global is the object with its number
+-- the world at the start; each global is the object with its number
 abbrev pub first_world : Program → (input : List ℕ) → World
 first_world program input = record {
   regions = first_regions;

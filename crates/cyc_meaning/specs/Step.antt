@@ -1,7 +1,7 @@
--- What a source program does in one step: a function of the state, by cases of the focus. A step does at most one of: an
--- operation, a check, a conversion, a read or a write of one value, the making of one object, the opening or closing of one
--- region, one call or return, one byte read or printed. Evaluation is left to right (this project's own choice,
--- where ISO C leaves it open), and a value is converted as soon as it is evaluated.
+-- One step of a source program: a function of the state, by cases of the focus. A step does at most one thing. A step is an operation, a
+-- check, a conversion, a read or write of one value, or the allocation of one object. A step may also open or close one region, call or
+-- return once, or read or print one byte. Evaluation is left to right (this project's own choice, since ISO C leaves it open). A value is
+-- converted as soon as it is evaluated.
 use Rattle.std.specs.Prelude.{ℕ, suc, ◌-◌, ◌%◌, ◌^◌, ◌==◌, ◌&&◌, Bool, true, false, if◌then◌else◌, List, [], ◌∷◌, ◌++◌, map, reverse, drop, length, Option, Some, None, slice_get, unwrap_or}
 use Rattle.cyc_words.specs.Word.{signed}
 use Rattle.cyc_words.specs.Ending.{Returned, Uncaught}
@@ -35,7 +35,7 @@ pub use Rattle.cyc_meaning.specs.Parts.{dead, wrong, ends, gives, computed, targ
 
 -- ---- calls
 
--- a function is called with as many arguments as it has parameters, in order
+-- a call of a function with as many arguments as parameters, in order
 abbrev pub called : Option Function → (arguments : List Operand) → List Entry → World → State
 called (Some h) arguments stack w =
     if length arguments == length h.parameters then Running (Entering h arguments) stack no_locals w else wrong w
@@ -44,13 +44,13 @@ called None arguments stack w = wrong w
 abbrev pub values_of : List Operand → List Value
 values_of operands = map (λ (o : Operand). o.value) operands
 
--- the low 8 bits are printed, and are the answer
+-- `putchar` prints the low 8 bits of its argument, and returns them
 abbrev pub prints : (arguments : List Value) → List Entry → Environment → World → State
 prints (Int word ∷ []) stack e w =
     gives kinds.Int (Int (word % 256)) stack e (record w { output = w.output ++ word % 256 ∷ [] })
 prints arguments stack e w = wrong w
 
--- the next byte of the input, or -1 at its end
+-- `getchar` returns the next byte of the input, or -1 at its end
 abbrev pub reads : (arguments : List Value) → List Entry → Environment → World → State
 reads [] stack e w =
     gives kinds.Int (Int (unwrap_or (slice_get w.input 0) (2 ^ 32 - 1))) stack e (record w { input = drop 1 w.input })
@@ -62,12 +62,12 @@ step_calling program callees.Getchar arguments stack e w = reads (values_of argu
 step_calling program (callees.Function number) arguments stack e w =
     called (slice_get program.functions number) (reverse arguments) (Caller e ∷ stack) w
 
--- the region of the function's parameters and of its body's own variables is opened
+-- opens the region of the function's parameters and of its body's outermost variables
 abbrev pub step_entering : Function → (arguments : List Operand) → List Entry → Environment → World → State
 step_entering h arguments stack e w =
     Running (Binding 0 h.parameters arguments h.body) (region_end e w ∷ stack) (inside e w) (opened w)
 
--- a parameter is a local that holds its argument
+-- declares a parameter as a local that holds its argument
 abbrev pub step_binding : (number : ℕ) → List Ty → (arguments : List Operand) → (body : Items) → List Entry → Environment → World → State
 step_binding number [] [] body stack e w = Running Proceeding (Rest body ∷ stack) e w
 step_binding number (t ∷ types) (value ∷ arguments) body stack e w =
@@ -84,7 +84,7 @@ passes callee before NoArguments stack e w = Running (Calling callee before) sta
 passes callee before (MoreArguments (Convert from to a) arguments) stack e w =
     Running (Evaluating a) (Needs (ConvertTo from to (target_by a)) ∷ Needs (Pass callee before arguments) ∷ stack) e w
 
--- A place is found before the right side is evaluated.
+-- The place of an assignment is evaluated before its right side.
 abbrev pub assigned : Option ℕ → Converted → List Entry → Environment → World → State
 assigned (Some object) (Convert from to a) stack e w =
     Running (Evaluating a) (Needs (ConvertTo from to (target_by a)) ∷ Needs (Store (Thin object 0)) ∷ stack) e w
@@ -95,12 +95,12 @@ abbrev pub addressed : Option ℕ → List Entry → Environment → World → S
 addressed (Some object) stack e w = gives kinds.NonNull (Thin object 0) stack e w
 addressed None stack e w = wrong w
 
--- the counter of a `for` around
+-- the counter of an enclosing `for`
 abbrev pub counts : Option ℕ → List Entry → Environment → World → State
 counts (Some index) stack e w = gives kinds.Int (Int index) stack e w
 counts None stack e w = wrong w
 
--- A moved local keeps its value too: nothing here knows what is moved.
+-- A moved local also keeps its value here, since the semantics does not track moves.
 abbrev pub step_evaluating : Expression → List Entry → Environment → World → State
 step_evaluating (Number n) stack e w = gives kinds.Int (Int n) stack e w
 step_evaluating NullPointer stack e w = gives kinds.Nullable Null stack e w
@@ -122,7 +122,7 @@ step_evaluating (Assign place c t) stack e w = assigned (object_of e place) c st
 step_evaluating (typed.Store d c t) stack e w = Running (Locating d) (NeedsPlace (StoreTo (peeked d) c) ∷ stack) e w
 step_evaluating (New placement initial t) stack e w = allocates placement initial stack e w
 
--- The left operand of `&&` or `||` decides, or the right one does.
+-- The value of `&&` or `||` is decided by the left operand, or else by the right one.
 abbrev pub decided : Bool → (fails : Bool) → Expression → Operations → List Entry → Environment → World → State
 decided true fails b rest stack e w =
     gives kinds.Int (Int (if fails then 0 else 1)) (Needs (Chain rest) ∷ stack) e w
@@ -134,12 +134,12 @@ tested (Some fails) operator b rest stack e w =
     decided (decides operator fails) fails b rest stack e w
 tested None operator b rest stack e w = wrong w
 
--- a right operand is evaluated where the left one has a kind that its operator takes
+-- evaluates the right operand, if the left one has a kind that its operator takes
 abbrev pub awaits_right : Bool → Awaiting → (right : Expression) → Operations → List Entry → Environment → World → State
 awaits_right true waiting b rest stack e w = Running (Evaluating b) (Needs waiting ∷ Needs (Chain rest) ∷ stack) e w
 awaits_right false waiting b rest stack e w = wrong w
 
--- a chain goes on, with the value of all before
+-- continues a chain with the value of everything before
 abbrev pub chained : Operations → Operand → List Entry → Environment → World → State
 chained NoOperations left stack e w = Running (Given left) stack e w
 chained (ThenCompute operator b rest) left stack e w =
@@ -151,7 +151,7 @@ chained (ThenPointer operator b rest) left stack e w =
 chained (ThenPointerPeek number operator b rest) left stack e w =
     awaits_right (takes_kind operator left.kind) (ApplyPointer (Some number) operator left) b rest stack e w
 
--- whether two thin pointers are equal, or whether they differ
+-- passes on whether two thin pointers are equal, or whether they differ
 abbrev pub tells : (negated : Bool) → Access Bool → List Entry → Environment → World → State
 tells false (Found equal) stack e w = gives kinds.Int (Int (truth equal)) stack e w
 tells true (Found equal) stack e w = gives kinds.Int (Int (if equal then 0 else 1)) stack e w
@@ -163,31 +163,31 @@ applies_pointer pointers.EqualThin left right stack e w = tells false (compared 
 applies_pointer pointers.NotEqualThin left right stack e w = tells true (compared w left right) stack e w
 applies_pointer operator left right stack e w = computed (result_kind operator) (pointer_result operator left right) stack e w
 
--- the first statement where a condition holds, and the second where it fails
+-- executes the first statement if the condition holds, and the second if it fails
 abbrev pub chosen : (fails : Option Bool) → (first second : Statement) → List Entry → Environment → World → State
 chosen (Some true) first second stack e w = Running (Executing second) (Join ∷ stack) e w
 chosen (Some false) first second stack e w = Running (Executing first) (Join ∷ stack) e w
 chosen None first second stack e w = wrong w
 
--- the body of a loop where its condition holds
+-- executes the body of a loop if its condition holds
 abbrev pub looped : (fails : Option Bool) → (condition : Expression) → (body : Statement) → List Entry → Environment → World → State
 looped (Some true) condition body stack e w = Running Proceeding stack e w
 looped (Some false) condition body stack e w = Running (Executing body) (Loop condition body ∷ stack) e w
 looped None condition body stack e w = wrong w
 
--- a value of the kind that the tree says is converted, where it leads to what the tree says
+-- converts a value, if it has the kind and the target that the tree states
 abbrev pub converts : (from to : Kind) → (target : Option Kind) → Operand → List Entry → Environment → World → State
 converts from to target value stack e w =
     if is_kind value.kind from && leads_to w target (followed value.value) then computed to (conversion to value.value) stack e w else wrong w
 
--- A local gets its initial value. What is left of its block stands behind it.
+-- A local receives its initial value; then the rest of its block follows.
 abbrev pub initialises : (number : ℕ) → Kind → Items → Operand → List Entry → Environment → World → State
 initialises number kind items value stack e w =
     if is_kind value.kind kind
     then declared (region_at w e.home) Proceeding number kind (Some value.value) (Rest items ∷ stack) e w
     else wrong w
 
--- what waits for a value gets it
+-- passes a value to the continuation that waits for it
 abbrev pub supplied : Awaiting → Operand → List Entry → Environment → World → State
 supplied (ConvertTo from to target) value stack e w = converts from to target value stack e w
 supplied (Operate operator) value stack e w = computed (unary_kind operator) (unary_result operator value.value) stack e w
@@ -227,7 +227,7 @@ step_given value stack e w = wrong w
 
 -- ---- statements
 
--- the condition of a loop is evaluated, at first and again after each pass
+-- evaluates the condition of a loop, at first and again after each iteration
 abbrev pub tests : (condition : Expression) → (body : Statement) → List Entry → Environment → World → State
 tests condition body stack e w = Running (Evaluating condition) (Needs (Test condition body) ∷ stack) e w
 
@@ -251,7 +251,7 @@ step_executing (Swap left right) stack e w = swaps left right stack e w
 step_executing (Throw tag value) stack e w = throws tag value stack e w
 step_executing (Try s handler) stack e w = tries s handler stack e w
 
--- An initial value is evaluated before its local is made. Without one the local holds nothing yet.
+-- An initial value is evaluated before its local is declared. A local without one holds nothing yet.
 abbrev pub declares : (number : ℕ) → Ty → Option Converted → Items → List Entry → Environment → World → State
 declares number t None items stack e w =
     declared (region_at w e.home) Proceeding number (kind_of t) None (Rest items ∷ stack) e w
@@ -267,7 +267,7 @@ continues_with (MoreItems (OpenRegion region number p key) items) stack e w = op
 continues_with (MoreItems (DeclareAlias region number t p source) items) stack e w = aliases number (kind_of t) source items stack e w
 continues_with (MoreItems (DeclareKey region number) items) stack e w = opens_dynamic number items stack e w
 
--- The end of a function's body without a `return` is a return without a value.
+-- The end of a function's body without a `return` acts like a return without a value.
 abbrev pub step_proceeding : List Entry → Environment → World → State
 step_proceeding [] e w = wrong w
 step_proceeding (Needs a ∷ stack) e w = wrong w
@@ -285,7 +285,7 @@ step_proceeding (Handler handler ∷ stack) e w = Running Proceeding stack e w
 step_proceeding (Caller outer ∷ stack) e w = Running Proceeding stack outer w
 step_proceeding (Main ∷ stack) e w = wrong w
 
--- ---- unwinding: each step leaves one entry
+-- ---- unwinding: each step pops one entry
 
 abbrev pub step_breaking : List Entry → Environment → World → State
 step_breaking [] e w = wrong w
@@ -321,12 +321,12 @@ step_continuing (Handler handler ∷ stack) e w = Running Continuing stack e w
 step_continuing (Caller outer ∷ stack) e w = wrong w
 step_continuing (Main ∷ stack) e w = wrong w
 
--- the caller gets the value, if there is one
+-- passes the returned value, if any, to the caller
 abbrev pub returned : Option Operand → List Entry → Environment → World → State
 returned (Some value) stack e w = Running (Given value) stack e w
 returned None stack e w = Running Proceeding stack e w
 
--- what `main` returns is the run's end
+-- the value that `main` returns ends the run
 abbrev pub ends_with : Value → World → State
 ends_with (Int word) w = ends (Returned (signed word)) w
 ends_with value w = wrong w
@@ -352,7 +352,8 @@ step_returning value (Handler handler ∷ stack) e w = Running (Returning value)
 step_returning value (Caller outer ∷ stack) e w = returned value stack outer w
 step_returning value (Main ∷ stack) e w = main_returned value w
 
--- An exception is caught by the clauses of a `try`, or goes on. One that nothing catches ends the run, once all is left.
+-- An exception is caught by a clause of a `try`, or propagates. An exception that nothing catches ends the run after all entries were
+-- popped.
 abbrev pub step_throwing : (tag value : ℕ) → List Entry → Environment → World → State
 step_throwing tag value [] e w = ends (Uncaught tag (signed value)) w
 step_throwing tag value (Needs a ∷ stack) e w = Running (Throwing tag value) stack e w
@@ -394,7 +395,7 @@ stepped program (Returning value) stack e w = step_returning value stack e w
 stepped program (Throwing tag value) stack e w = step_throwing tag value stack e w
 stepped program (Catching tag value handler) stack e w = step_catching tag value handler stack e w
 
--- One step, without limits. A run that is over stays as it is.
+-- One step of a source program, without limits. A state that is not running stays as it is.
 abbrev pub step : Program → State → State
 step program (Running focus stack e w) = stepped program focus stack e w
 step program (Ended ending output input) = Ended ending output input

@@ -1,5 +1,5 @@
--- Swaps: the left place is evaluated, then the right one; then both are read, the left one first, and written. (The order is this
--- project's own choice.)
+-- Swaps: first the left place is evaluated, then the right one. After both places of a swap are evaluated, both are read, the left one
+-- first, and written. (The order of evaluation is this project's own choice.)
 use Rattle.std.specs.Prelude.{ℕ, List, [], ◌∷◌, Option, Some, None, if◌then◌else◌, Bool, false}
 use Rattle.cyc_types.specs.declared.typed.Kind.{Kind}
 use Rattle.cyc_types.specs.TypedTrees.{type_of_place, peeked, Side, VariableSide, CellSide}
@@ -7,11 +7,11 @@ use Rattle.cyc_meaning.specs.Values.{Value, Thin, Operand, kind_of, is_kind}
 use Rattle.cyc_meaning.specs.State.{World, Access, Found, Closed, Missing, Located, cell_at, Environment, SwapLeft, SwapRight, Entry, NeedsPlace, Locating, Writing, Swapping, State, Running}
 use Rattle.cyc_meaning.specs.Parts.{dead, wrong, object_of}
 
--- both places are found
+-- both places of a swap are evaluated
 abbrev pub both_places : Kind → (left right : Value) → List Entry → Environment → World → State
 both_places kind left right stack e w = Running (Swapping kind left right None) stack e w
 
--- ---- the places
+-- ---- the places of a swap
 
 abbrev pub finds_right_object : Kind → (left : Value) → Option ℕ → List Entry → Environment → World → State
 finds_right_object kind left (Some object) stack e w = both_places kind left (Thin object 0) stack e w
@@ -30,9 +30,9 @@ swaps (VariableSide l t) right stack e w = finds_left_object (kind_of t) (object
 swaps (CellSide d) right stack e w =
     Running (Locating d) (NeedsPlace (SwapLeft (kind_of (type_of_place d)) (peeked d) right) ∷ stack) e w
 
--- ---- the values
+-- ---- the values of a swap
 
--- the left place's value is read, and then the right one's, which goes into the left place
+-- reads the left place, then the right one, whose value is written to the left place
 abbrev pub swap_read : Kind → (left right : Value) → (before : Option Operand) → Value → List Entry → Environment → World → State
 swap_read kind left right None value stack e w =
     Running (Swapping kind left right (Some (record { kind = kind; value = value }))) stack e w

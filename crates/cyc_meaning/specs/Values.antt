@@ -1,6 +1,6 @@
--- Values, the cells that hold them, and the operands that wait with their kinds. There are no addresses: a pointer names an object
--- by its number. The kinds of values and that a fat pointer takes three words are the Cyclone User's Manual's (1.0); the form is this
--- project's own choice.
+-- Values, the cells that contain them, and the operands that wait with their kinds. Pointers contain no addresses: a pointer names an
+-- object by its number. The kinds of values and that a fat pointer takes three words are the Cyclone User's Manual's (1.0); the form is
+-- this project's own choice.
 use Rattle.std.specs.Prelude.{ℕ, ◌+◌, ◌*◌, ◌/◌, ◌==◌, ◌&&◌, Bool, true, false, max, List, [], ◌∷◌, map, Option, None}
 use Rattle.cyc_types.specs.declared.typed.Kind.{Kind}
 use Rattle.cyc_types.specs.declared.typed.Kind.TheVariants as kinds
@@ -10,20 +10,20 @@ use Rattle.cyc_types.specs.Types.{Ty}
 use Rattle.cyc_types.specs.Types as types
 
 pub data Value : Type 0 where
-  -- A word of 32 bits, which means a signed number in two's complement. That of a char is below 256.
+  -- A word of 32 bits, read as a signed number in two's complement. The word of a char is below 256.
   Int : (word : ℕ) → Value
   -- the null pointer, of any mark
   Null : Value
-  -- a cell of an object
+  -- a thin pointer to a cell of an object
   Thin : (object offset : ℕ) → Value
-  -- A part of an object: its first cell, its number of cells, and the index in it, a word as an int is.
+  -- A fat pointer to a part of an object: its first cell, its number of cells, and the index into it. The index is a word, as an int is.
   Fat : (object start count index : ℕ) → Value
-  -- the region of this number, and the key of a dynamic region
+  -- the handle of the region of this number, or the key of a dynamic region
   Handle : (region : ℕ) → Value
   Key : (region : ℕ) → Value
 
--- A value that waits until it is needed. It has the kind of what gave it, and so its words: a fat null pointer has three, a thin one
--- has one.
+-- A value that waits for its use. A waiting value has the kind of the expression that computed it, and so its number of words. A fat null
+-- pointer has three words, a thin one has one.
 pub record Operand : Type 0 where
   pub kind : Kind
   pub value : Value
@@ -35,7 +35,7 @@ kind_of_mark marks.Nullable = kinds.Nullable
 kind_of_mark marks.NonNull = kinds.NonNull
 kind_of_mark marks.Fat = kinds.Fat
 
--- The kind of the cells of a type. No cell has a struct for its type: a struct is a block of cells.
+-- The kind of a cell of this type. No cell has a struct type: a struct is a block of cells.
 abbrev pub kind_of : Ty → Kind
 kind_of types.Int = kinds.Int
 kind_of types.Char = kinds.Char
@@ -44,7 +44,7 @@ kind_of (types.Handle region) = kinds.Handle
 kind_of (types.Key region) = kinds.Key
 kind_of (types.Struct number regions) = kinds.Int
 
--- kinds are told apart by numbers
+-- the number of a kind, by which kinds are compared
 abbrev pub number_of_kind : Kind → ℕ
 number_of_kind kinds.Int = 0
 number_of_kind kinds.Nullable = 1
@@ -62,13 +62,13 @@ are_kinds [] [] = true
 are_kinds (a ∷ as') (b ∷ bs) = is_kind a b && are_kinds as' bs
 are_kinds as' bs = false
 
--- a thin pointer, which may be null or not
+-- true for a thin pointer, nullable or not
 abbrev pub is_thin : Kind → Bool
 is_thin kinds.Nullable = true
 is_thin kinds.NonNull = true
 is_thin kind = false
 
--- the words of an operand: a fat pointer has three, any other value one
+-- the number of words of an operand: three for a fat pointer, otherwise one
 abbrev pub words_of_kind : Kind → ℕ
 words_of_kind kinds.Int = 1
 words_of_kind kinds.Char = 1
@@ -80,7 +80,7 @@ words_of_kind kinds.Key = 1
 
 -- ---- cells
 
--- a cell has its kind for good, and holds a value or nothing yet
+-- a cell has a fixed kind, and holds a value or nothing yet
 pub record Cell : Type 0 where
   pub kind : Kind
   pub content : Option Value
@@ -88,11 +88,11 @@ pub record Cell : Type 0 where
 abbrev pub kinds_of : List Cell → List Kind
 kinds_of cells = map (λ (c : Cell). c.kind) cells
 
--- cells that hold nothing yet
+-- a cell of this kind without a value
 abbrev pub blank : Kind → Cell
 blank kind = record { kind = kind; content = None }
 
--- the bytes of a cell: a char has one
+-- the number of bytes of a cell: a char has one
 abbrev pub bytes_of_kind : Kind → ℕ
 bytes_of_kind kinds.Int = 4
 bytes_of_kind kinds.Char = 1
@@ -102,7 +102,7 @@ bytes_of_kind kinds.Fat = 12
 bytes_of_kind kinds.Handle = 4
 bytes_of_kind kinds.Key = 4
 
--- where a cell of this kind begins, behind so many bytes of an object: a char there, and any other at the next multiple of 4
+-- the offset of a cell of this kind after this many bytes: at once for a char, otherwise at the next multiple of 4
 abbrev pub begins : Kind → (at : ℕ) → ℕ
 begins kinds.Int at = 4 * ((at + 3) / 4)
 begins kinds.Char at = at
@@ -112,19 +112,19 @@ begins kinds.Fat at = 4 * ((at + 3) / 4)
 begins kinds.Handle at = 4 * ((at + 3) / 4)
 begins kinds.Key at = 4 * ((at + 3) / 4)
 
--- where it ends
-abbrev pub behind : Kind → (at : ℕ) → ℕ
-behind kind at = begins kind at + bytes_of_kind kind
+-- the offset of the end of that cell
+abbrev pub following : Kind → (at : ℕ) → ℕ
+following kind at = begins kind at + bytes_of_kind kind
 
--- the bytes up to the end of cells of these kinds, which stand behind so many bytes
+-- the number of bytes up to the end of cells of these kinds, laid out after this many bytes
 abbrev pub bytes_from : (at : ℕ) → List Kind → ℕ
 bytes_from at [] = at
-bytes_from at (kind ∷ ks) = bytes_from (behind kind at) ks
+bytes_from at (kind ∷ ks) = bytes_from (following kind at) ks
 
--- the words that have so many bytes
+-- the number of words that contain this many bytes
 abbrev pub words_for : (bytes : ℕ) → ℕ
 words_for bytes = (bytes + 3) / 4
 
--- the words of a block of cells: at least one
+-- the number of words of a block of these cells: at least one
 abbrev pub block_size : List Cell → ℕ
 block_size cells = max 1 (words_for (bytes_from 0 (kinds_of cells)))

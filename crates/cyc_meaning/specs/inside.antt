@@ -1,4 +1,4 @@
--- what the laws and the contracts of the compiler add to that
+-- definitions that the laws and the contracts of the compiler use
 pub mod Effects
 pub mod Nesting
 pub mod Variables

@@ -1,5 +1,5 @@
-//! The source's meaning: what a typed tree does when it runs, and how many pages and calls it asks for. The definitions stand in
-//! `specs/`; there is no running code.
+//! The meaning of the source: the behavior of a typed tree when it runs, and its demand for pages and calls. The definitions are in
+//! `specs/`; the crate contains no running code.
 #![tactic(auto)]
 
 pub mod laws;

@@ -1,5 +1,5 @@
--- The words in which the laws of the step are said: what is seen of it, by its focus and the control stack alone, what it
--- changes, and what stays. (This project's own choice.)
+-- Definitions for the laws of the step: the visible effects of a step, its changes to the world, and the parts that stay. The division of
+-- effects is this project's own choice.
 use Rattle.std.specs.Prelude.{◌≡◌, ℕ, suc, ◌+◌, ◌%◌, Bool, true, false, if◌then◌else◌, List, [], ◌∷◌, ◌++◌, drop, Option, Some, slice_get}
 use Rattle.cyc_types.specs.declared.typed.Kind.{Kind}
 use Rattle.cyc_types.specs.declared.typed.Callee.TheVariants as callees
@@ -10,7 +10,7 @@ use Rattle.cyc_words.specs.Demand.{total, region_pages, demand_of}
 use Rattle.cyc_meaning.specs.Objects.{made_in, made_unique, freed}
 use Rattle.cyc_meaning.specs.Step.{values_of}
 
--- the bytes that are printed: the one of `putchar`, called with an int
+-- the bytes that a step prints: one for `putchar` of an int
 abbrev pub printed_of : List Value → List ℕ
 printed_of (Int word ∷ []) = word % 256 ∷ []
 printed_of arguments = []
@@ -19,7 +19,7 @@ abbrev pub printed_by : Focus → List ℕ
 printed_by (Calling callees.Putchar arguments) = printed_of (values_of arguments)
 printed_by focus = []
 
--- how many bytes are read, where there are any: the one of `getchar`
+-- the number of bytes that a step reads, if any are left: one for `getchar`
 abbrev pub read_of : List Value → ℕ
 read_of [] = 1
 read_of arguments = 0
@@ -28,8 +28,8 @@ abbrev pub read_by : Focus → ℕ
 read_by (Calling callees.Getchar arguments) = read_of (values_of arguments)
 read_by focus = 0
 
--- How many calls are under way after a step: one more where a function is called, one less where the end of a call is left, and
--- as many as before elsewhere.
+-- The number of active calls after a step. A call of a function adds one, the end of a call subtracts one, and any other step leaves it
+-- unchanged.
 abbrev pub calls_after : Focus → List Entry → ℕ
 calls_after (Calling (callees.Function number) arguments) stack = suc (calls_in stack)
 calls_after Proceeding (Caller outer ∷ stack) = calls_in stack
@@ -38,15 +38,16 @@ calls_after (Throwing tag value) (Caller outer ∷ stack) = calls_in stack
 calls_after (Throwing tag value) (Main ∷ stack) = calls_in stack
 calls_after focus stack = calls_in stack
 
--- ---- what changes
+-- ---- changes of the world
 
--- What one step makes of the world, where these bytes are printed and so many are read: nothing, or one of these.
+-- The effect of one step on the world: no change, or one of these changes. The bytes that it prints and the number of bytes that it reads
+-- are given.
 pub data Changes (w : World) : (printed : List ℕ) → (count : ℕ) → World → Type 0 where
   Keeps : Changes w [] 0 w
   Opens : (sort : Sort) → Changes w [] 0 (opened_as sort w)
   Closes : (number : ℕ) (r : Region) → region_at w number ≡ Found r → Changes w [] 0 (closed w number r)
   Makes : (number : ℕ) (r : Region) (kind : Kind) (content : Option Value) → region_at w number ≡ Found r → Changes w [] 0 (made w (variable number kind content))
-  -- an object that is no variable: in a region, or a unique one
+  -- allocates an object that is not a variable: in a region, or as a unique object
   MakesIn : (number : ℕ) (r : Region) (cells : List Cell) → region_at w number ≡ Found r → Changes w [] 0 (made_in w number r cells)
   MakesUnique : (cells : List Cell) → Changes w [] 0 (made_unique w cells)
   Frees : (number : ℕ) (x : Object) → slice_get w.objects number ≡ Some x → x.owner ≡ Unique true → Changes w [] 0 (freed w number x)
@@ -56,15 +57,16 @@ pub data Changes (w : World) : (printed : List ℕ) → (count : ℕ) → World 
 
 -- ---- demand
 
--- the pages that the store keeps for all, and those of a region where it has any
+-- the number of pages in use in total, and those of one region, if it has any
 abbrev pub pages_of : World → ℕ
 pages_of w = demand_of (counted w.regions) w.classes
 
 abbrev pub pages_in : Region → ℕ
 pages_in r = if has_pages r.sort r.is_open then region_pages r.blocks else 0
 
--- What a change makes of the demand. A region that opens has its first page if the store keeps it, and one that closes gives its pages
--- back; a block may need a page more in its region, or in its class, whose pages never fall. Nothing else changes the demand.
+-- The effect of a change on the demand. A region that opens needs its first page if it has pages at all, and a region that closes frees its
+-- pages. A block may need one more page in its region or in its class; the pages of a class never decrease. No other step changes the
+-- demand for pages.
 abbrev pub DemandChanges : {w new : World} {printed : List ℕ} {count : ℕ} → Changes w printed count new → Type 0
 DemandChanges {w} {new} (Opens sort) = pages_of new ≡ pages_of w + pages_in (new_region sort)
 DemandChanges {w} {new} (Closes number r found) = pages_of new + pages_in r ≡ pages_of w + pages_in (record r { is_open = false })
@@ -73,21 +75,21 @@ DemandChanges {w} {new} (MakesIn number r cells found) =
 DemandChanges {w} {new} (MakesUnique cells) = pages_of new + total w.classes ≡ pages_of w + total new.classes
 DemandChanges {w} {new} change = pages_of new ≡ pages_of w
 
--- after a step that does not end the run
+-- the change made by a step that does not end the run
 abbrev pub ChangesIn : World → (printed : List ℕ) → (count : ℕ) → State → Type 0
 ChangesIn old printed count (Running focus stack e new) = Changes old printed count new
 ChangesIn old printed count (Ended ending output input) = Unit {0}
 ChangesIn old printed count (Dead output input) = Unit {0}
 ChangesIn old printed count (Wrong output input) = Unit {0}
 
--- ---- what stays
+-- ---- facts that are preserved
 
--- a region stays of its sort, and once closed it is closed for good
+-- a region keeps its sort, and stays closed once it is closed
 pub record RegionStays (old new : Region) : Type 0 where
   pub sort : new.sort ≡ old.sort
   pub closed : old.is_open ≡ false → new.is_open ≡ false
 
--- what a region owns stays its own, a unique object stays unique, and once freed it is freed for good
+-- the owner of an object: a region stays the owner, a unique object stays unique, and a freed object stays freed
 abbrev pub OwnerStays : (old new : Owner) → Type 0
 OwnerStays (InRegion region) new = new ≡ InRegion region
 OwnerStays (Unique true) new = (live : Bool) × (new ≡ Unique live)
@@ -98,14 +100,14 @@ pub record ObjectStays (old new : Object) : Type 0 where
   pub owner : OwnerStays old.owner new.owner
   pub kinds : kinds_of new.cells ≡ kinds_of old.cells
 
--- No number is used again: what has one, has it for good.
+-- No number is reused: each region and each object keeps its number.
 pub record WorldStays (old new : World) : Type 0 where
   pub regions : (number : ℕ) (r : Region) → slice_get old.regions number ≡ Some r
       → (s : Region) × (slice_get new.regions number ≡ Some s) × RegionStays r s
   pub objects : (number : ℕ) (x : Object) → slice_get old.objects number ≡ Some x
       → (y : Object) × (slice_get new.objects number ≡ Some y) × ObjectStays x y
 
--- in a run that is not over
+-- the facts that stay in a running state
 abbrev pub StaysIn : World → State → Type 0
 StaysIn old (Running focus stack e new) = WorldStays old new
 StaysIn old (Ended ending output input) = Unit {0}

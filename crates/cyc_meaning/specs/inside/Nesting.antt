@@ -1,5 +1,5 @@
--- Regions of blocks and lexical regions end in the opposite order of that in which they were opened: what holds of every state, by its
--- control stack (Grossman et al. 2002). Dynamic regions are closed by programs, whenever they like, and are none of these.
+-- Regions of blocks and lexical regions are closed in the reverse order of their opening (Grossman et al. 2002). The nesting of regions is
+-- an invariant of every state, stated on its control stack. Dynamic regions are closed by programs at any time, and are not covered.
 use Rattle.std.specs.Prelude.{◌≡◌, ℕ, ◌<◌, ◌==◌, Bool, true, false, List, [], ◌∷◌, length, Option, None, Some, slice_get}
 use Rattle.std.specs.List.{list_any}
 use Rattle.cyc_types.specs.declared.typed.PointerOperator.TheVariants as pointers
@@ -7,14 +7,14 @@ use Rattle.cyc_types.specs.TypedTrees.{NoArguments, Expression, Copy, Move, Peek
 use Rattle.cyc_meaning.specs.State.{Sort, Lexical, Dynamic, Region, World, Access, Found, Closed, Missing, found_region, globals_number, Environment, Awaiting, ApplyPointer, Store, StoreCell, FreeObject, CloseByKey, PlaceBy, MakePlain, MakeFields}
 use Rattle.cyc_meaning.specs.State.{FillElement, OpenBy, LoadFrom, Entry, Needs, NeedsPlace, Rest, CloseRegion, CloseLexical, Handler, Caller, Focus, Evaluating, Given, GivenPlace, Proceeding, Writing, Beginning, Swapping, State, Running, Ended, Dead, Wrong}
 
--- the regions that will end, innermost first, and that of the globals, which never does
+-- the regions that stack entries will close, innermost first, followed by the region of the globals, which is never closed
 abbrev pub ends_of : List Entry → List ℕ
 ends_of [] = globals_number ∷ []
 ends_of (CloseRegion region home ∷ stack) = region ∷ ends_of stack
 ends_of (CloseLexical region ∷ stack) = region ∷ ends_of stack
 ends_of (entry ∷ stack) = ends_of stack
 
--- programs close no region of this sort by themselves
+-- true if the program cannot close regions of this sort by a statement
 abbrev pub IsScoped : Sort → Type 0
 IsScoped Dynamic = ⊥
 IsScoped sort = Unit {0}
@@ -28,25 +28,25 @@ abbrev pub AreOpen : List Region → List ℕ → Type 0
 AreOpen regions [] = Unit {0}
 AreOpen regions (n ∷ ns) = IsFound (found_region (slice_get regions n)) × AreOpen regions ns
 
--- a region that was opened later has a greater number
+-- the numbers are decreasing and below this bound, so a region that was opened later has a greater number
 abbrev pub AreBelow : ℕ → List ℕ → Type 0
 AreBelow bound [] = Unit {0}
 AreBelow bound (n ∷ ns) = (n < bound) × AreBelow n ns
 
--- variables live in the region of variables that ends next, and a call begins with none
+-- the home of variables is the region of variables that closes next; a call begins without one
 abbrev pub IsHome : ℕ → List Entry → Type 0
 IsHome home [] = home ≡ globals_number
 IsHome home (CloseRegion region outer ∷ stack) = (home ≡ region) × IsHome outer stack
 IsHome home (Caller outer ∷ stack) = (home ≡ globals_number) × IsHome outer.home stack
 IsHome home (entry ∷ stack) = IsHome home stack
 
--- the lexical ones of them
+-- the lexical regions among those that will be closed
 abbrev pub lexicals_of : List Entry → List ℕ
 lexicals_of [] = []
 lexicals_of (CloseLexical region ∷ stack) = region ∷ lexicals_of stack
 lexicals_of (entry ∷ stack) = lexicals_of stack
 
--- a lexical region that is open
+-- true for an open lexical region
 abbrev pub is_scope : Sort → (flag : Bool) → Bool
 is_scope Lexical flag = flag
 is_scope sort flag = false
@@ -55,17 +55,17 @@ abbrev pub is_open_scope : Option Region → Bool
 is_open_scope None = false
 is_open_scope (Some r) = is_scope r.sort r.is_open
 
--- the lexical regions that are open are these
+-- these are exactly the open lexical regions
 abbrev pub AreScopes : List Region → List ℕ → Type 0
 AreScopes regions ns = (number : ℕ) → is_open_scope (slice_get regions number) ≡ list_any (λ (n : ℕ). n == number) ns
 
--- all these regions are open, they nest, variables live in the innermost, and no other lexical region is open
+-- All regions that will be closed are open and nested, the innermost region of variables is the home, and no other lexical region is open.
 abbrev pub IsNested : List Entry → Environment → World → Type 0
 IsNested stack e w =
     AreOpen w.regions (ends_of stack) × AreBelow (length w.regions) (ends_of stack) × IsHome e.home stack × AreScopes w.regions (lexicals_of stack)
 
--- Whether this focus touches a cell, an object or a region: it reads or writes a variable or a cell that a pointer led to, compares
--- pointers, makes an object, frees one, or opens or closes a region by its key.
+-- True if the focus accesses a cell, an object or a region. An access reads or writes a variable or a cell, or compares pointers.
+-- Allocating or freeing an object is also an access, and so is opening or closing a region by its key.
 abbrev pub is_access_of : Awaiting → Bool
 is_access_of (ApplyPointer peek pointers.EqualThin left) = true
 is_access_of (ApplyPointer peek pointers.NotEqualThin left) = true
@@ -102,14 +102,14 @@ is_access (Beginning owner count level kind element) stack = true
 is_access (Swapping kind left right before) stack = true
 is_access focus stack = false
 
--- what holds in every state of a run
+-- the invariant of every state of a run
 abbrev pub Nests : State → Type 0
 Nests (Running focus stack e w) = IsNested stack e w
 Nests (Ended ending output input) = Unit {0}
 Nests (Dead output input) = Unit {0}
 Nests (Wrong output input) = Unit {0}
 
--- no `try` is under way
+-- no `try` is active
 abbrev pub IsUntried : List Entry → Type 0
 IsUntried [] = Unit {0}
 IsUntried (Handler handler ∷ stack) = ⊥

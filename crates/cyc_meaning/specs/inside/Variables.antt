@@ -1,14 +1,14 @@
--- Variables of blocks, while they are live: each is a local of one call under way, and a local that is declared again had its former
--- object in a block that was left. It follows from the numbers in the text: those of a block's locals are above those in scope around it.
--- (This project's own choice.)
+-- The live variables of blocks: each is a local of one active call. If a local is declared again, its former object was in a block that was
+-- left. The former object is out of scope by the numbering in the text: the numbers of a block's locals are above those in scope around it.
+-- The invariant on live variables is this project's own choice.
 use Rattle.std.specs.Prelude.{◌≡◌, ◌⊎◌, ℕ, suc, ◌+◌, ◌<◌, ◌≤◌, Bool, true, false, List, [], ◌∷◌, length, Option, Some, None, slice_get}
 use Rattle.cyc_types.specs.TypedTrees.{Statement, Block, If, While, Try, Items, NoItems, MoreItems, Execute, Declare, DeclareRegion, OpenRegion, DeclareAlias, DeclareKey, Clauses, NoClauses, Default, Case, Function, Program}
 use Rattle.cyc_meaning.specs.State.{Sort, Globals, Stack, Region, Owner, InRegion, Unique, Object, Closed, found_region, globals_number, Initialise, Choose, Test, OpenBy, AliasOf, Entry, Needs, Rest}
 use Rattle.cyc_meaning.specs.State.{Loop, CloseRegion, CloseLexical, EndLoan, Handler, Caller, Focus, Executing, Entering, Binding, Naming, Catching, Given, Proceeding, State, Running, Ended, Dead, Wrong}
 
--- ---- numbers in the text
+-- ---- the numbers of locals in the text
 
--- Where these numbers are free from one on, each local that is declared has a number from there on, above those of all locals around it.
+-- All locals that the statement declares have numbers from this one on, above those of all locals in scope around it.
 abbrev mutual
   pub StatementRises : ℕ → Statement → Type 0
   StatementRises m (Block region items) = ItemsRise m items
@@ -32,11 +32,11 @@ abbrev mutual
   ClausesRise m (Case tag None region items clauses) = ItemsRise m items × ClausesRise m clauses
   ClausesRise m (Case tag (Some number) region items clauses) = (m ≤ number) × ItemsRise (suc number) items × ClausesRise m clauses
 
--- parameters come first
+-- the parameters have the lowest numbers
 abbrev pub FunctionsRise : Program → Type 0
 FunctionsRise program = (number : ℕ) (h : Function) → slice_get program.functions number ≡ Some h → ItemsRise (length h.parameters) h.body
 
--- ---- where objects live
+-- ---- the regions that contain objects
 
 abbrev pub region_of : Owner → Option ℕ
 region_of (InRegion region) = Some region
@@ -46,14 +46,14 @@ abbrev pub region_in : Option Object → Option ℕ
 region_in None = None
 region_in (Some x) = region_of x.owner
 
--- the object of this number is one that this region owns
+-- the object of this number belongs to this region
 abbrev pub LivesIn : List Object → (object region : ℕ) → Type 0
 LivesIn objects object region = region_in (slice_get objects object) ≡ Some region
 
 abbrev pub IsShut : List Region → (region : ℕ) → Type 0
 IsShut regions region = found_region (slice_get regions region) ≡ Closed
 
--- a region of variables that is open, and has none but variables
+-- true for a region that contains only variables
 abbrev pub is_of_variables : Sort → Bool
 is_of_variables Globals = true
 is_of_variables Stack = true
@@ -64,18 +64,18 @@ pub record HasVariables (r : Region) : Type 0 where
   pub sort : is_of_variables r.sort ≡ true
   pub blocks : r.blocks ≡ []
 
--- ---- calls and their blocks
+-- ---- active calls and their blocks
 
 abbrev pub Locals : Type 0
 Locals = ℕ → Option ℕ
 
--- the locals of the calls that wait, newest first
+-- the locals of the suspended calls, newest first
 abbrev pub waiting : List Entry → List Locals
 waiting [] = []
 waiting (Caller outer ∷ stack) = outer.locals ∷ waiting stack
 waiting (entry ∷ stack) = waiting stack
 
--- the object is the local of this number of the call at this place
+-- the object is the local of this number of the call at this position
 abbrev pub IsLocal : List Locals → (call number object : ℕ) → Type 0
 IsLocal calls call number object = (locals : Locals) × (slice_get calls call ≡ Some locals) × (locals number ≡ Some object)
 
@@ -86,7 +86,7 @@ IsOfCall region (CloseRegion ending home ∷ stack) = (region ≡ ending) ⊎ Is
 IsOfCall region (Caller outer ∷ stack) = ⊥
 IsOfCall region (entry ∷ stack) = IsOfCall region stack
 
--- what comes next is in a block itself, and in no statement of it
+-- execution continues directly in a block, not inside one of its statements
 abbrev pub IsInBlock : List Entry → Type 0
 IsInBlock [] = ⊥
 IsInBlock (CloseRegion region home ∷ stack) = Unit {0}
@@ -94,11 +94,11 @@ IsInBlock (CloseLexical region ∷ stack) = IsInBlock stack
 IsInBlock (EndLoan lent ∷ stack) = IsInBlock stack
 IsInBlock (entry ∷ stack) = ⊥
 
--- the newest call's locals in blocks that it is in have numbers below this one
+-- the newest call's locals that are in its open blocks have numbers below this one
 abbrev pub AreLow : ℕ → List Entry → Locals → List Object → Type 0
 AreLow m stack locals objects = (number object : ℕ) → locals number ≡ Some object → (region : ℕ) × LivesIn objects object region × (IsOfCall region stack → number < m)
 
--- ---- what is still to be declared
+-- ---- declarations to come
 
 abbrev pub StatementDeclares : Statement → List Entry → Locals → List Object → Type 0
 StatementDeclares s stack locals objects = (m : ℕ) × StatementRises m s × AreLow m stack locals objects
@@ -109,7 +109,7 @@ ItemsDeclare items stack locals objects = (m : ℕ) × ItemsRise m items × AreL
 abbrev pub ClausesDeclare : Clauses → List Entry → Locals → List Object → Type 0
 ClausesDeclare clauses stack locals objects = (m : ℕ) × ClausesRise m clauses × AreLow m stack locals objects
 
--- the local of this number, and what is left of its block
+-- the declaration of the local of this number, followed by the rest of its block
 abbrev pub Names : (number : ℕ) → Items → List Entry → Locals → List Object → Type 0
 Names number items stack locals objects = ItemsRise (suc number) items × AreLow number stack locals objects × IsInBlock stack
 
@@ -136,9 +136,9 @@ DeclareNow (Naming number operand items) stack locals objects = Names number ite
 DeclareNow (Catching tag value clauses) stack locals objects = ClausesDeclare clauses stack locals objects
 DeclareNow focus stack locals objects = Unit {0}
 
--- ---- what is live
+-- ---- live variables
 
--- what a local stands for lives in a block of its call, or in one that was left
+-- each local's object is in an open block of its call, or in a block that was left
 abbrev pub LiveInBlocks : List Entry → Locals → List Object → List Region → Type 0
 LiveInBlocks stack locals objects regions =
     (number object : ℕ) → locals number ≡ Some object → (region : ℕ) × LivesIn objects object region × (IsOfCall region stack ⊎ IsShut regions region)
@@ -148,7 +148,7 @@ WaitInBlocks [] objects regions = Unit {0}
 WaitInBlocks (Caller outer ∷ stack) objects regions = LiveInBlocks stack outer.locals objects regions × WaitInBlocks stack objects regions
 WaitInBlocks (entry ∷ stack) objects regions = WaitInBlocks stack objects regions
 
--- each variable that is live is a global or a local of a call
+-- each live variable is a global or a local of an active call
 abbrev pub HaveNames : (globals : ℕ) → List Locals → List Object → List Region → Type 0
 HaveNames globals calls objects regions =
     (object region : ℕ) (r : Region) → LivesIn objects object region → slice_get regions region ≡ Some r → HasVariables r
@@ -165,22 +165,22 @@ AreGlobals globals objects = (object : ℕ) → object < globals → LivesIn obj
 abbrev pub LiveInRegions : List Object → List Region → Type 0
 LiveInRegions objects regions = (object region : ℕ) → LivesIn objects object region → region < length regions
 
--- all of this, of the newest call with these locals and of those that wait
+-- the whole invariant, for the newest call with these locals and for the suspended calls
 abbrev pub AreNamed : (globals : ℕ) → List Entry → Locals → List Object → List Region → Type 0
 AreNamed globals stack locals objects regions =
     DeclareLater stack locals objects × LiveInBlocks stack locals objects regions × WaitInBlocks stack objects regions
     × HaveNames globals (locals ∷ waiting stack) objects regions × AreDistinct (locals ∷ waiting stack) × AreGlobals globals objects × LiveInRegions objects regions
 
--- what holds in every state of a run of a program with so many globals
+-- the invariant of every state of a run of a program with this many globals
 abbrev pub HasNames : (globals : ℕ) → State → Type 0
 HasNames globals (Running focus stack e w) = DeclareNow focus stack e.locals w.objects × (AreNamed globals stack e.locals w.objects w.regions)
 HasNames globals (Ended ending output input) = Unit {0}
 HasNames globals (Dead output input) = Unit {0}
 HasNames globals (Wrong output input) = Unit {0}
 
--- ---- declaring
+-- ---- declaring a local
 
--- the local that the next step declares
+-- the local that the next step declares, if any
 abbrev pub declared_by : Focus → List Entry → Option ℕ
 declared_by (Naming number operand items) stack = Some number
 declared_by (Binding number (t ∷ types) arguments body) stack = Some number

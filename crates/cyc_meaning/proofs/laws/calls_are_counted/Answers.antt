@@ -1,4 +1,4 @@
--- Depth.
+-- The call depth.
 use Rattle.cyc_meaning.proofs.RunLaws.{start_calls, step_calls}
 use Rattle.cyc_meaning.proofs.laws.calls_are_counted.Goals as goal
 

@@ -1,4 +1,4 @@
--- Demand.
+-- The demand for pages.
 use Rattle.cyc_meaning.proofs.DemandLaws.{demand_changes}
 use Rattle.cyc_meaning.proofs.laws.demand_is_counted.Goals as goal
 

@@ -1,4 +1,4 @@
--- Limits.
+-- The limited run.
 use Rattle.cyc_meaning.specs.Run.{start}
 use Rattle.cyc_meaning.proofs.RunLaws.{limited_agrees, limited_until_full, limited_comes_to, limited_is_full, within_at_start, start_not_full, run_not_full}
 use Rattle.cyc_meaning.proofs.laws.limited_run_agrees.Goals as goal

@@ -1,4 +1,4 @@
--- Numbers.
+-- Numbers of regions and objects.
 use Rattle.cyc_meaning.specs.State.{Running}
 use Rattle.cyc_meaning.proofs.WorldLaws.{steps_stay, world_same}
 use Rattle.cyc_meaning.proofs.laws.numbers_stay.Goals as goal

@@ -1,4 +1,4 @@
--- Changes.
+-- The change that a step makes.
 use Rattle.cyc_meaning.proofs.RunLaws.{step_changes}
 use Rattle.cyc_meaning.proofs.laws.one_change_at_most.Goals as goal
 

@@ -1,4 +1,4 @@
--- Regions.
+-- The nesting of regions.
 use Rattle.cyc_meaning.proofs.Nested.{nests_run, only_accesses_die}
 use Rattle.cyc_meaning.proofs.laws.regions_nest.Goals as goal
 

@@ -1,4 +1,4 @@
--- Exceptions.
+-- Uncaught exceptions.
 use Rattle.cyc_meaning.proofs.Nested.{uncaught_ends}
 use Rattle.cyc_meaning.proofs.laws.uncaught_ends.Goals as goal
 

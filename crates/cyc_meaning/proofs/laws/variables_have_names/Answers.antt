@@ -1,4 +1,4 @@
--- Variables.
+-- The names of variables.
 use Rattle.cyc_meaning.proofs.VariableRuns.{named_at, distinct_at, apart_at, again_at}
 use Rattle.cyc_meaning.proofs.laws.variables_have_names.Goals as goal
 
