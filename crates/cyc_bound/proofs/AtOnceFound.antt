@@ -1,4 +1,5 @@
--- The costliest region of lists so far, with what is still to come, of nodes with lists, and of functions.
+-- The search for the costliest outermost region. The result for the first elements of a list and for its remaining elements gives that for
+-- the list. The same facts about costs are proved for nodes with lists as for lists, and for functions.
 use Rattle.std.proofs.Common.{◌≡◌, ℕ, ◌+◌, ◌<◌, ◌≤◌, ◌⊎◌, min, max, List, [], ◌∷◌, length, get_or, drop, Option, sym, ap, subst, ◌∙◌, inl, inr, arith}
 use Rattle.std.specs.Prelude.{slice_get, Contains}
 use Rattle.std.proofs.lemmas.Bool.{cases_lt}
@@ -24,7 +25,7 @@ use Rattle.cyc_bound.specs.inside.Reached.{AreReached}
 
 -- ---- lists
 
--- the costliest region so far, or in the elements from this one on, is that of all of them
+-- the greater of the cost found so far and that of the elements from this index on is the cost of all elements
 abbrev pub ItemsLeft : Measure → (costs : List ℕ) → List ItemCode → (i most : ℕ) → Type 0
 ItemsLeft m costs js i most = (min too_many (max most (items_at_once m costs (items_of (drop i js)))) ≡ min too_many (items_at_once m costs (items_of js))) × (most ≤ too_many)
 
@@ -33,7 +34,7 @@ ClausesLeft m costs cs i most =
     (min too_many (max most (clauses_at_once m costs (clauses_of (drop i cs) NoClauses))) ≡ min too_many (clauses_at_once m costs (clauses_of cs NoClauses))) × (most ≤ too_many)
 
 module _ (m : Measure) (costs : List ℕ) where
-  -- ---- nodes with lists
+  -- ---- nodes that contain lists
 
   pub block_at_once : (value : Stmt) (r : ℕ) (v : Vec ItemCode Heap) → value ≡ stmt.Block r v → (items : List ItemCode) → items ≡ v.items
       → statement_at_once m costs (view_statement value) ≡ items_at_once m costs (items_of items)
@@ -41,7 +42,7 @@ module _ (m : Measure) (costs : List ℕ) where
       ap (λ (x : Stmt). statement_at_once m costs (view_statement x)) is ∙ ap (λ (s : Statement). statement_at_once m costs s) (view_block r v)
       ∙ ap (λ (js : List ItemCode). items_at_once m costs (items_of js)) (sym same)
 
-  -- the default clause stands behind the others
+  -- the default clause comes after the other clauses
   clauses_with : (cs : List Clause) (default : Clauses) → clauses_at_once m costs (clauses_of cs default) ≡ max (clauses_at_once m costs (clauses_of cs NoClauses)) (clauses_at_once m costs default)
   clauses_with [] default = omega arith
   clauses_with (c ∷ cs) default = omega (arith, clauses_with cs default)
@@ -65,7 +66,7 @@ module _ (program : Program) (m : Measure) (costs : List ℕ) where
   abbrev F : ℕ → ℕ
   F f = min too_many (at_once_of m costs (slice_get program.functions f))
 
-  -- it is that of one of the functions that `main` leads to, or there is none
+  -- the cost is that of a function reachable from `main`, or 0
   abbrev IsOne : ℕ → Type 0
   IsOne most = (most ≡ 0) ⊎ ((f : ℕ) × (count : ℕ) × Row program program.main f count × (most ≡ F f))
 

@@ -1,4 +1,5 @@
--- Bounds of programs of some functions, and the calls under way in their runs. What each gives is said by the language's rules.
+-- Examples of bounds of programs with several functions, and of the active calls in their runs. The expected results come from the
+-- language's rules.
 use Rattle.std.proofs.Common.{◌≡◌, zero, [], ◌∷◌, Some, None, refl, arith}
 use Rattle.cyc_types.specs.declared.typed.Operator.TheVariants as operators
 use Rattle.cyc_types.specs.TypedTrees.{Number, Evaluate, Throw, Try, Execute, Case, Default, Program}
@@ -6,16 +7,16 @@ use Rattle.cyc_meaning.specs.State.{depth}
 use Rattle.cyc_meaning.specs.Run.{run}
 use Rattle.cyc_meaning.proofs.ExampleTrees.{two, both, call, print, items, execute, return, declare, while, function, program_with}
 use Rattle.cyc_bound.specs.Callees.{items_callees}
-use Rattle.cyc_bound.specs.Bound.{Alone, Before, IsHeight, IsBound, IsCircle}
+use Rattle.cyc_bound.specs.Bound.{Alone, Before, IsHeight, IsBound, IsCycle}
 use Rattle.cyc_bound.proofs.WalkLemmas.{so_far_none, so_far_more, so_far_all}
 
--- ---- what a body calls
+-- ---- callees of bodies
 
--- `f(g(1)) + h()`: arguments first, and operands from left to right
+-- `f(g(1)) + h()`: arguments come first, and operands from left to right
 operands_call : items_callees (items (return (two (call 1 (call 2 (Number 1 ∷ []) ∷ [])) operators.Add (call 3 [])) ∷ [])) ≡ 2 ∷ 1 ∷ 3 ∷ []
 operands_call = refl
 
--- `int a = f(); putchar(g());` and a loop: initial values, arguments of services, conditions and bodies
+-- `int a = f(); putchar(g());` and a loop: callees in initial values, in arguments of built-in functions, in conditions and in bodies
 statements_call : items_callees (items (declare 0 (call 1 []) ∷ execute (print (call 2 [])) ∷ while (call 3 []) (Evaluate (call 4 [])) ∷ [])) ≡ 1 ∷ 2 ∷ 3 ∷ 4 ∷ []
 statements_call = refl
 
@@ -23,11 +24,11 @@ statements_call = refl
 clauses_call : items_callees (items (Execute (Try (Evaluate (call 1 [])) (Case 5 None 1 (items (execute (call 2 []) ∷ [])) (Default 2 (items (Execute (Throw 6 (Some (call 3 []))) ∷ []))))) ∷ [])) ≡ 1 ∷ 2 ∷ 3 ∷ []
 clauses_call = refl
 
--- what is on the right of `&&` counts, whether it is evaluated or not
+-- the right operand of `&&` counts, evaluated or not
 skipped_calls : items_callees (items (execute (both (Number 0) (call 1 [])) ∷ [])) ≡ 1 ∷ []
 skipped_calls = refl
 
--- ---- three functions, each of which calls the next
+-- ---- a chain of three functions
 
 abbrev chain : Program
 chain = program_with (function [] (return (call 2 []) ∷ []) ∷ function [] (return (Number 7) ∷ []) ∷ []) (return (call 1 []) ∷ [])
@@ -41,7 +42,7 @@ middle_height = so_far_all chain 1 (2 ∷ []) 1 2 refl (omega arith) (so_far_mor
 chain_bound : IsBound chain 3
 chain_bound = so_far_all chain 0 (1 ∷ []) 1 3 refl (omega arith) (so_far_more chain 0 (1 ∷ []) 0 1 1 2 refl (so_far_none chain 0 (1 ∷ [])) (omega arith) refl middle_height (omega arith))
 
--- and its run has as many calls under way
+-- the run of the chain has as many active calls as the bound
 chain_reaches : depth (run chain [] 14) ≡ 3
 chain_reaches = refl
 
@@ -50,10 +51,10 @@ chain_reaches = refl
 abbrev loop : Program
 loop = program_with (function [] (return (call 1 []) ∷ []) ∷ []) (return (call 1 []) ∷ [])
 
-loop_circle : IsCircle loop (1 ∷ [])
-loop_circle = ((zero, omega arith, refl), (2, Before 0 1 1 1 (zero, omega arith, refl) (Alone 1)))
+loop_cycle : IsCycle loop (1 ∷ [])
+loop_cycle = ((zero, omega arith, refl), (2, Before 0 1 1 1 (zero, omega arith, refl) (Alone 1)))
 
--- where `main` does not lead to it there is a bound all the same
+-- if the cycle is not reachable from `main`, there is a bound
 abbrev apart : Program
 apart = program_with (function [] (return (call 1 []) ∷ []) ∷ []) (return (Number 0) ∷ [])
 

@@ -1,4 +1,4 @@
--- Rows of calls, and lists of what a function calls.
+-- Chains of calls, and lists of callees.
 use Rattle.std.proofs.Common.{◌≡◌, ℕ, suc, ◌≤◌, List, [], ◌∷◌, Option, Some, subst, sym, arith}
 use Rattle.std.specs.Prelude.{slice_get, Contains}
 use Rattle.cyc_words.proofs.Members.{all_from_members}
@@ -8,20 +8,20 @@ use Rattle.cyc_bound.specs.Callees.{items_callees}
 use Rattle.cyc_bound.specs.Bound.{callees_of, Calls, Row, Alone, Before}
 use Rattle.cyc_bound.specs.inside.UnderWay.{AreOf, Waits}
 
--- ---- rows
+-- ---- chains of calls
 
 module _ (program : Program) where
-  -- a row goes on with what its last function calls
-  pub behind : (first last next count : ℕ) → Row program first last count → Calls program last next → Row program first next (suc count)
-  behind first last next count (Alone function) call = Before function next next 1 call (Alone next)
-  behind first last next count (Before f g l n here row) call = Before f g next (suc n) here (behind g l next n row call)
+  -- a chain can be extended by a callee of its last function
+  pub following : (first last next count : ℕ) → Row program first last count → Calls program last next → Row program first next (suc count)
+  following first last next count (Alone function) call = Before function next next 1 call (Alone next)
+  following first last next count (Before f g l n here row) call = Before f g next (suc n) here (following g l next n row call)
 
-  -- as many calls are under way as the row from `main` to the newest has, or fewer
+  -- there are at most as many active calls as the chain from `main` to the newest call has functions
   pub row_of : (function : ℕ) (stack : List Entry) → Waits program function stack → (count : ℕ) × Row program program.main function count × (calls_in stack ≤ count)
   row_of function [] h = (1, subst (λ (f : ℕ). Row program program.main f 1) (sym h) (Alone program.main), omega arith)
   row_of function (Caller outer ∷ stack) (caller, call, h) =
       let (count, row, less) = row_of caller stack h in
-      (suc count, behind program.main caller function count row call, omega (arith, less))
+      (suc count, following program.main caller function count row call, omega (arith, less))
   row_of function (Main ∷ []) h = (1, subst (λ (f : ℕ). Row program program.main f 1) (sym h) (Alone program.main), omega arith)
   row_of function (Main ∷ entry ∷ stack) h = absurd h
   row_of function (Needs a ∷ stack) h = row_of function stack h.1
@@ -35,9 +35,9 @@ module _ (program : Program) where
   row_of function (EndLoan lent ∷ stack) h = row_of function stack h.1
   row_of function (Handler handler ∷ stack) h = row_of function stack h.1
 
--- ---- what a function calls
+-- ---- callees of a function
 
--- a function calls what stands in its body
+-- a function calls the callees in its body
 pub body_is_of : (program : Program) (function : ℕ) (h : Function) → slice_get program.functions function ≡ Some h → AreOf program function (items_callees h.body)
 body_is_of program function h there =
     all_from_members (λ (callee : ℕ). Calls program function callee) (items_callees h.body) (λ callee k. subst (λ (o : Option Function). Contains (callees_of o) callee) (sym there) k)

@@ -1,4 +1,5 @@
--- What is found of lists so far, with what is still to come, and what nodes with lists call.
+-- The search for callees. The callees in the first elements of a list and in its remaining elements are those of the list. The fact about
+-- the callees of lists is also proved for nodes with lists.
 use Rattle.std.proofs.Common.{◌≡◌, ℕ, List, [], ◌∷◌, ◌++◌, drop, Option, refl, sym, ap, ◌∙◌, append_assoc}
 use Rattle.std.specs.declared.vec.Vec.{Vec}
 use Rattle.std.specs.declared.boxed.Box.{Box}
@@ -24,7 +25,7 @@ use Rattle.cyc_bound.specs.Callees.{callee_of, expression_callees, initial_calle
 
 -- ---- lists
 
--- the list so far and what the elements from this one on add is what all of them add
+-- the list so far, followed by the callees of the elements from this index on, is the list for all elements
 abbrev pub ArgumentsLeft : List ConvertedCode → (i : ℕ) → (old found : List ℕ) → Type 0
 ArgumentsLeft cs i old found = found ++ arguments_callees (arguments_of (drop i cs)) ≡ old ++ arguments_callees (arguments_of cs)
 
@@ -37,7 +38,7 @@ ItemsLeft js i old found = found ++ items_callees (items_of (drop i js)) ≡ old
 abbrev pub ClausesLeft : List Clause → (i : ℕ) → (old found : List ℕ) → Type 0
 ClausesLeft cs i old found = found ++ clauses_callees (clauses_of (drop i cs) NoClauses) ≡ old ++ clauses_callees (clauses_of cs NoClauses)
 
--- ---- nodes with lists
+-- ---- nodes that contain lists
 
 pub call_calls : (value : Expr) {w : _} (f : Callee) (v : Vec ConvertedCode Heap) (t : ValueTypeCode) → value ≡ expr.Call w f v t → (items : List ConvertedCode) → items ≡ v.items
     → expression_callees (view_expression value) ≡ arguments_callees (arguments_of items) ++ callee_of f
@@ -63,7 +64,7 @@ pub block_calls : (value : Stmt) (r : ℕ) (v : Vec ItemCode Heap) → value ≡
 block_calls value r v is items same =
     ap (λ (x : Stmt). statement_callees (view_statement x)) is ∙ ap statement_callees (view_block r v) ∙ ap (λ (js : List ItemCode). items_callees (items_of js)) (sym same)
 
--- the default clause stands behind the others
+-- the default clause comes after the other clauses
 clauses_with : (cs : List Clause) (default : Clauses) → clauses_callees (clauses_of cs default) ≡ clauses_callees (clauses_of cs NoClauses) ++ clauses_callees default
 clauses_with [] default = refl
 clauses_with (c ∷ cs) default =

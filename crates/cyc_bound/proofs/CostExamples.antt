@@ -1,4 +1,4 @@
--- What runs of small programs cost, worked out by hand from the language's rules, and what their runs take.
+-- The costs of small programs, computed by hand from the language's rules, and the steps of their runs.
 use Rattle.std.proofs.Common.{◌≡◌, ℕ, max, List, [], ◌∷◌, true, false, refl}
 use Rattle.std.specs.Prelude.{map}
 use Rattle.cyc_types.specs.declared.typed.Operator.TheVariants as operators
@@ -15,14 +15,14 @@ use Rattle.cyc_bound.specs.AtOnce.{items_at_once}
 use Rattle.cyc_bound.specs.Pages.{most_pages}
 use Rattle.cyc_bound.specs.Steps.{IsOver}
 
--- what a run costs by so many calls, one behind the other
+-- the cost of a run after this many rounds
 abbrev cost_by : Program → (rounds : ℕ) → Measure → ℕ
 cost_by program rounds m = run_cost program m (costs_after program m rounds)
 
 -- ---- `return 7;`
 
--- The call takes 4 steps and what is left of its body 1, the statement 2, and its value 3. The last one is the end of `main`, which only an exception
--- leaves by a step of its own.
+-- The call costs 4 steps and its rest 1, the statement 2, and its value 3. The last stack entry is the end of `main`, which only an
+-- exception pops by a step of its own.
 abbrev seven : Program
 seven = program (return (Number 7) ∷ [])
 
@@ -43,7 +43,7 @@ twice = program_with (function [] (return (Number 7) ∷ []) ∷ []) (return (tw
 twice_costs : cost_by twice 2 measures.Steps ≡ 38
 twice_costs = refl
 
--- by a call more it costs no more
+-- another round changes no cost
 twice_settles : next_costs twice measures.Steps (costs_after twice measures.Steps 2) ≡ costs_after twice measures.Steps 2
 twice_settles = refl
 
@@ -52,7 +52,7 @@ twice_settles = refl
 abbrev again : Program
 again = program_with (function [] (return (call 1 []) ∷ []) ∷ []) (return (call 1 []) ∷ [])
 
--- it makes nothing, so that its pages have a bound all the same
+-- the function allocates nothing, so its pages have a bound
 again_pages : most_pages false (cost_by again 1) ≡ 1
 again_pages = refl
 
@@ -64,20 +64,20 @@ again_settles = refl
 abbrev loop : Program
 loop = program (while (Number 1) (Evaluate (Number 2)) ∷ return (Number 0) ∷ [])
 
--- it makes nothing, so that its pages have a bound all the same
+-- the function allocates nothing, so its pages have a bound
 loop_pages : most_pages false (cost_by loop 1) ≡ 1
 loop_pages = refl
 
 -- ---- blocks
 
--- an array of 600 words, and one more: two pages and one for the heap by the rule, of which the run asks for two
+-- an array of 600 words, and another one: two pages plus one for the heap by the rule; the run needs two
 abbrev arrays : Program
 arrays = program (execute (array OnHeap fat (Number 600) (Number 0)) ∷ execute (array OnHeap fat (Number 600) (Number 0)) ∷ return (Number 0) ∷ [])
 
 arrays_pages : most_pages false (cost_by arrays 1) ≡ 3
 arrays_pages = refl
 
--- of two branches the one with more counts
+-- of two branches the costlier one counts
 abbrev branches : Program
 branches = program (Execute (If (Number 1) (Evaluate (new AsUnique at (Number 1))) (block [])) ∷ return (Number 0) ∷ [])
 
@@ -89,7 +89,7 @@ branches_ask = refl
 
 -- ---- lexical regions
 
--- The costliest outermost region of a program. `main` leads to each function here.
+-- The cost of the costliest outermost region of a program; `main` leads to each function in this example.
 abbrev greatest : List ℕ → ℕ
 greatest [] = 0
 greatest (n ∷ ns) = max n (greatest ns)
@@ -97,14 +97,14 @@ greatest (n ∷ ns) = max n (greatest ns)
 abbrev at_once_by : Program → (rounds : ℕ) → Measure → ℕ
 at_once_by program rounds m = greatest (map (λ (h : Function). items_at_once m (costs_after program m rounds) h.body) program.functions)
 
--- where lexical regions give back
+-- the cost by regions that are open simultaneously, after this many rounds
 abbrev back_by : Program → (rounds : ℕ) → Measure → ℕ
 back_by program rounds measures.Openings = at_once_by program rounds measures.Openings
 back_by program rounds measures.RegionBlocks = at_once_by program rounds measures.RegionBlocks
 back_by program rounds measures.RegionWords = at_once_by program rounds measures.RegionWords
 back_by program rounds m = cost_by program rounds m
 
--- rnew(h) 7, where h is this local
+-- rnew(h) 7, for the handle in this local
 abbrev made_by : ℕ → Item
 made_by number = execute (new (ByHandle (variable number (Handle Heap))) at (Number 7))
 
@@ -116,21 +116,21 @@ in_a_region = block (DeclareRegion 2 0 ∷ made_by 0 ∷ made_by 0 ∷ [])
 abbrev region_each_turn : Program
 region_each_turn = program (while (Number 1) in_a_region ∷ return (Number 0) ∷ [])
 
--- nothing may last, and each turn asks for one page beside the heap's
+-- nothing outlasts the regions, and each iteration needs one page beside the heap's
 each_turn_gives_back : cost_by region_each_turn 1 measures.Lasting ≡ 0
 each_turn_gives_back = refl
 
 each_turn_pages : most_pages true (back_by region_each_turn 1) ≡ 2
 each_turn_pages = refl
 
--- where nothing is taken off, its blocks have no bound
+-- if nothing is subtracted, its blocks have no bound
 each_turn_blocks : cost_by region_each_turn 1 measures.Blocks ≡ too_many
 each_turn_blocks = refl
 
 each_turn_asks : demand (run region_each_turn [] 20) ≡ 2
 each_turn_asks = refl
 
--- heap_region; and then the same loop: the heap's handle is a value, which may come to any `rnew`
+-- the value `heap_region`, followed by the loop of the example above: this handle may reach any `rnew`
 abbrev heap_handle : Program
 heap_handle = program (execute HeapRegion ∷ while (Number 1) in_a_region ∷ return (Number 0) ∷ [])
 
@@ -140,7 +140,8 @@ heap_handle_lasts = refl
 heap_handle_blocks : cost_by heap_handle 1 measures.Blocks ≡ too_many
 heap_handle_blocks = refl
 
--- while (1) { region<`a> h; rnew(h) 7; { region<`b> k; rnew(k) 7; } } return 0; the inner region's page and block count beside the outer one's
+-- while (1) { region<`a> h; rnew(h) 7; { region<`b> k; rnew(k) 7; } } return 0;
+-- The inner region's page and block are added to the outer one's.
 abbrev nested : Program
 nested = program (while (Number 1) (block (DeclareRegion 2 0 ∷ made_by 0 ∷ Execute (block (DeclareRegion 3 1 ∷ made_by 1 ∷ [])) ∷ [])) ∷ return (Number 0) ∷ [])
 
@@ -160,7 +161,7 @@ opened_by_callee = program_with (function [] (DeclareRegion 2 0 ∷ made_by 0 �
 callee_pages : most_pages true (back_by opened_by_callee 2) ≡ 2
 callee_pages = refl
 
--- one that is called in a region, whose region is open at the same time
+-- a function that is called inside a region and opens one, so that both are open simultaneously
 abbrev called_in_region : Program
 called_in_region = program_with (function [] (DeclareRegion 2 0 ∷ made_by 0 ∷ return (Number 7) ∷ []) ∷ []) (while (Number 1) (block (DeclareRegion 2 0 ∷ execute (call 1 []) ∷ made_by 0 ∷ [])) ∷ return (Number 0) ∷ [])
 
@@ -170,34 +171,34 @@ called_openings = refl
 called_blocks : at_once_by called_in_region 2 measures.RegionBlocks ≡ 2
 called_blocks = refl
 
--- of two regions that are not open at the same time the costlier one counts
+-- of two regions that are never open simultaneously, the costlier one counts
 abbrev in_turn : Program
 in_turn = program (Execute in_a_region ∷ Execute (block (DeclareRegion 2 0 ∷ made_by 0 ∷ [])) ∷ return (Number 0) ∷ [])
 
 in_turn_blocks : at_once_by in_turn 1 measures.RegionBlocks ≡ 2
 in_turn_blocks = refl
 
--- a loop in a region has no bound where its turns make something
+-- a loop inside a region has no bound if its iterations allocate
 abbrev loop_in_region : Program
 loop_in_region = program (Execute (block (DeclareRegion 2 0 ∷ while (Number 1) (block (made_by 0 ∷ [])) ∷ [])) ∷ return (Number 0) ∷ [])
 
 loop_in_region_blocks : at_once_by loop_in_region 1 measures.RegionBlocks ≡ too_many
 loop_in_region_blocks = refl
 
--- a `try` in a region has made what its body made when a clause makes more
+-- a `try` inside a region: the allocations of its body remain when a clause allocates more
 abbrev try_in_region : Program
 try_in_region = program (Execute (block (DeclareRegion 2 0 ∷ try_to (block (made_by 0 ∷ [])) (otherwise (made_by 0 ∷ [])) ∷ [])) ∷ return (Number 0) ∷ [])
 
 try_in_region_blocks : at_once_by try_in_region 1 measures.RegionBlocks ≡ 2
 try_in_region_blocks = refl
 
--- A function that opens a region, and calls itself behind the region's end. As much as is counted is enough for it, and no less; but its
--- regions are never open at the same time.
-abbrev again_behind : Program
-again_behind = program_with (function [] (Execute in_a_region ∷ return (call 1 []) ∷ []) ∷ []) (return (call 1 []) ∷ [])
+-- A function that opens a region, and calls itself after the region's end. Only the greatest counted value suffices as the function's cost,
+-- but its regions are never open simultaneously.
+abbrev again_after : Program
+again_after = program_with (function [] (Execute in_a_region ∷ return (call 1 []) ∷ []) ∷ []) (return (call 1 []) ∷ [])
 
-behind_is_enough : next_costs again_behind measures.RegionBlocks (too_many ∷ too_many ∷ []) ≡ too_many ∷ too_many ∷ []
-behind_is_enough = refl
+after_is_enough : next_costs again_after measures.RegionBlocks (too_many ∷ too_many ∷ []) ≡ too_many ∷ too_many ∷ []
+after_is_enough = refl
 
-behind_blocks : greatest (map (λ (h : Function). items_at_once measures.RegionBlocks (too_many ∷ too_many ∷ []) h.body) again_behind.functions) ≡ 2
-behind_blocks = refl
+after_blocks : greatest (map (λ (h : Function). items_at_once measures.RegionBlocks (too_many ∷ too_many ∷ []) h.body) again_after.functions) ≡ 2
+after_blocks = refl

@@ -1,4 +1,4 @@
--- What parts of a state cost at least, and how costs of a stack compare by what is known of the value that is to come.
+-- Lower bounds on the costs of the parts of a state, and costs of stacks compared by the known facts about the awaited value.
 use Rattle.std.proofs.Common.{◌≡◌, ℕ, zero, suc, ◌+◌, ◌*◌, ◌-◌, ◌^◌, ◌<◌, ◌≤◌, min, Bool, true, false, List, [], ◌∷◌, length, Option, Some, None, refl, sym, ap, ◌∙◌, arith, mul-le-mul_right}
 use Rattle.std.specs.Prelude.{◌==◌, nat_le, if◌then◌else◌}
 use Rattle.std.proofs.lemmas.Bool.{leb-true, le-leb, lt-leb, eqb-true}
@@ -11,7 +11,7 @@ use Rattle.cyc_types.specs.TypedTrees.{Expression, Number, NullPointer, HeapRegi
 use Rattle.cyc_types.specs.TypedTrees.{Dereference, Target, Member, Element, OnHeap, AsUnique, ByHandle, Initial, Plain, Fields, Array, Convert, Arguments, NoArguments, MoreArguments, Statement, Block, Empty, Evaluate}
 use Rattle.cyc_types.specs.TypedTrees.{Swap, If, While, Break, Continue, Throw, Try, Items, NoItems, MoreItems, Execute, Declare, DeclareRegion, OpenRegion, DeclareAlias, DeclareKey, Clauses, NoClauses, Default, Case}
 use Rattle.cyc_types.specs.TypedTrees as typed
-use Rattle.cyc_meaning.specs.Values.{Handle, number_of_kind, is_kind, bytes_of_kind, behind, words_for}
+use Rattle.cyc_meaning.specs.Values.{Handle, number_of_kind, is_kind, bytes_of_kind, following, words_for}
 use Rattle.cyc_meaning.specs.Allocation.{most_words}
 use Rattle.cyc_meaning.specs.State.{Awaiting, ConvertTo, Operate, Chain, Apply, ApplyPointer, Decide, Store, StoreCell, Pass, Follow, FollowMember, Index, Advance, CountElements, FreeObject, CloseByKey, PlaceBy}
 use Rattle.cyc_meaning.specs.State.{BesideHandle, MakePlain, MakeFields, MakeArray, FillElement, Initialise, Choose, Test, Return, ThrowWith, OpenBy, AliasOf, AwaitingPlace, LoadFrom, TakeAddress, StoreTo, SwapLeft}
@@ -56,9 +56,9 @@ kind_by_number kinds.Key = refl
 pub kind_is : (a b : Kind) → is_kind a b ≡ true → a ≡ b
 kind_is a b same = sym (kind_by_number a) ∙ ap (λ (n : ℕ). kind_of_number n) (eqb-true (number_of_kind a) (number_of_kind b) same) ∙ kind_by_number b
 
--- ---- arrays
+-- ---- array lengths
 
--- an array that fits has no more elements than its kind may have
+-- an array that fits has at most as many elements as its kind allows
 pub elements_fit : (kind : Kind) (count : ℕ) → words_for (count * bytes_of_kind kind) ≤ most_words → min count (most_elements kind) ≡ count
 elements_fit kinds.Int count fits = omega (arith, fits)
 elements_fit kinds.Char count fits = omega (arith, fits)
@@ -123,7 +123,7 @@ pub length_is : (m : Measure) (array : Option ℕ → ℕ) (n : Option ℕ) → 
 length_is m array None = refl
 length_is m array (Some n) = refl
 
--- ---- at least a step
+-- ---- lower bounds of one step
 
 module _ (m : Measure) (costs : List ℕ) where
   pub callee_least : (callee : Callee) → step_cost m ≤ callee_cost m costs callee
@@ -262,7 +262,7 @@ module _ (m : Measure) (costs : List ℕ) where
   focus_least (Throwing tag value) less = omega arith
   focus_least (Catching tag value handler) less = clauses_least handler
 
-  -- ---- elements
+  -- ---- costs of elements
 
   pub elements_from : (element count index : ℕ) → index ≤ count → elements_left m element count index ≡ (count - index) * (step_cost m + element) + 2 * step_cost m
   elements_from element count index less = ap (λ (b : Bool). if b then (count - index) * (step_cost m + element) + 2 * step_cost m else too_many) (le-leb index count less)
@@ -274,27 +274,27 @@ module _ (m : Measure) (costs : List ℕ) where
       go true is less = leb-true index count is
       go false is less = absurd (omega (arith, less))
 
--- ---- sites
+-- ---- sites of allocation
 
--- nothing that is made on the heap costs more than if it were made by a handle
+-- an allocation on the heap costs at most as much as one by a handle
 abbrev pub IsNoMore : Measure → Type 0
 IsNoMore m = ((size : ℕ) → block_cost m sites.Heap size ≤ block_cost m sites.Region size) × (array_block_cost m sites.Heap ≤ array_block_cost m sites.Region)
 
 module _ (m : Measure) (costs : List ℕ) (no_more : IsNoMore m) where
   fields_no_more : (count bytes : ℕ) (fields : Arguments) → fields_cost m costs sites.Heap count bytes fields ≤ fields_cost m costs sites.Region count bytes fields
   fields_no_more count bytes NoArguments = omega (arith, no_more.0 (size_of_bytes bytes))
-  fields_no_more count bytes (MoreArguments (Convert from to a) fields) = omega (arith, fields_no_more (suc count) (behind to bytes) fields)
+  fields_no_more count bytes (MoreArguments (Convert from to a) fields) = omega (arith, fields_no_more (suc count) (following to bytes) fields)
 
   array_no_more : (kind : Kind) (element : ℕ) (n : Option ℕ) → array_cost m sites.Heap kind element n ≤ array_cost m sites.Region kind element n
   array_no_more kind element None = omega (arith, no_more.1)
   array_no_more kind element (Some n) = omega (arith, no_more.0 (size_of_bytes (min n (most_elements kind) * bytes_of_kind kind)))
 
   pub initial_no_more : (initial : Initial) → initial_cost m costs sites.Heap initial ≤ initial_cost m costs sites.Region initial
-  initial_no_more (Plain kind a) = omega (arith, no_more.0 (size_of_bytes (behind kind 0)))
+  initial_no_more (Plain kind a) = omega (arith, no_more.0 (size_of_bytes (following kind 0)))
   initial_no_more (Fields fields) = fields_no_more 0 0 fields
   initial_no_more (Array place level count kind element) = omega (arith, array_no_more kind (expression_cost m costs element) (written_length count))
 
--- where a handle of the heap is handed on nothing costs less by a handle than on the heap
+-- if the focus passes on a handle of the heap, an allocation by a handle costs at least as much as one on the heap
 abbrev pub Fits : Measure → Focus → Type 0
 Fits m (Given v) = v.value ≡ Handle heap_number → IsNoMore m
 Fits m focus = Unit {0}
@@ -315,10 +315,10 @@ always_fits m no_more (Ended ending output input) = tt
 always_fits m no_more (Dead output input) = tt
 always_fits m no_more (Wrong output input) = tt
 
--- ---- stacks
+-- ---- costs of stacks
 
 module _ (m : Measure) (costs : List ℕ) where
-  -- where no value comes a stack costs least
+  -- a stack costs least if no value is passed to it
   nothing_of_any : (stack : List Entry) → stack_cost m costs Anything stack < too_many → stack_cost m costs Nothing stack ≤ stack_cost m costs Anything stack
   nothing_of_any [] less = omega arith
   nothing_of_any (Needs (ConvertTo from to target) ∷ stack) less = omega arith
@@ -383,7 +383,7 @@ module _ (m : Measure) (costs : List ℕ) where
   nothing_of_kind k n (Needs (PlaceBy initial) ∷ stack) = omega arith
   nothing_of_kind k n (Needs (BesideHandle region) ∷ stack) = omega arith
   nothing_of_kind k n (Needs (MakePlain owner kind) ∷ stack) = omega arith
-  nothing_of_kind k n (Needs (MakeFields owner before fields) ∷ stack) = omega (arith, fields_least m costs (site_of_owner owner) (suc (length before)) (behind k (bytes_before before)) fields)
+  nothing_of_kind k n (Needs (MakeFields owner before fields) ∷ stack) = omega (arith, fields_least m costs (site_of_owner owner) (suc (length before)) (following k (bytes_before before)) fields)
   nothing_of_kind k n (Needs (MakeArray owner level kind element) ∷ stack) = omega (arith, array_least m costs (site_of_owner owner) kind (expression_cost m costs element) n)
   nothing_of_kind k n (Needs (FillElement object count index level kind element) ∷ stack) = omega arith
   nothing_of_kind k n (Needs (Initialise number kind items) ∷ stack) = omega arith
@@ -410,7 +410,7 @@ module _ (m : Measure) (costs : List ℕ) where
   nothing Anything stack less = nothing_of_any stack less
   nothing (OfKind k n) stack less = nothing_of_kind k n stack
 
-  -- a value of which more is known costs no more
+  -- a value with more known facts costs no more
   pub known : (k : Kind) (n : Option ℕ) (stack : List Entry) → stack_cost m costs Anything stack < too_many → stack_cost m costs (OfKind k n) stack ≤ stack_cost m costs Anything stack
   known k n [] less = omega arith
   known k n (Needs (ConvertTo from to target) ∷ stack) less = omega arith
@@ -497,7 +497,7 @@ module _ (m : Measure) (costs : List ℕ) where
   kept k n (Caller outer ∷ stack) = omega arith
   kept k n (Main ∷ stack) = omega arith
 
--- ---- classes
+-- ---- classes of blocks
 
 pub class_from-here : (left class size : ℕ) → 0 < left → size ≤ 2 ^ class → class_from left class size ≡ class
 class_from-here zero class size some fits = absurd (omega (arith, some))

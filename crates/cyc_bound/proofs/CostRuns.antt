@@ -1,4 +1,4 @@
--- What whole runs cost: they are over after so many steps, and spend no more than that.
+-- The costs of whole runs: they are over after that many steps, and spend at most that cost.
 use Rattle.std.proofs.Common.{◌≡◌, ℕ, zero, suc, ◌+◌, ◌*◌, ◌-◌, ◌<◌, ◌≤◌, min, Bool, true, false, List, [], ◌∷◌, length, Option, Some, None, refl, sym, subst, arith, suc-mul}
 use Rattle.std.specs.Prelude.{◌==◌, if◌then◌else◌, slice_get, map}
 use Rattle.cyc_words.proofs.Items.{get_or-map}
@@ -18,7 +18,7 @@ use Rattle.cyc_bound.proofs.CostWorlds.{all_counts}
 use Rattle.cyc_bound.proofs.CostSteps.{step_costs}
 
 module _ (program : Program) (m : Measure) where
-  -- the heap is there at the start, and nothing else is spent
+  -- at the start only the heap is spent
   globals_spent : (globals : List GlobalVariable) → objects_spent m (map global_object globals) ≡ 0
   globals_spent [] = refl
   globals_spent (g ∷ globals) = omega (arith, globals_spent globals)
@@ -45,7 +45,7 @@ module _ (program : Program) (m : Measure) where
     pub start_costs : (input : List ℕ) → CostsAtMost m costs (run_cost program m costs) (start program input)
     start_costs input = start_called input (slice_get program.functions program.main) refl
 
-    -- what is counted beside steps, where each state before fits
+    -- the bound for a measure other than steps, if each earlier state fits
     pub run_costs : (input : List ℕ) → step_cost m ≡ 0 → (n : ℕ) → ((i : ℕ) → i < n → FitsIn m (run program input i)) → CostsAtMost m costs (run_cost program m costs) (run program input n)
     run_costs input free zero fits = start_costs input
     run_costs input free (suc n) fits =
@@ -55,7 +55,7 @@ module _ (program : Program) (m : Measure) where
         (step_costs program m costs closed (spent m) (all_counts m) k (omega (arith, less, free)) (run program input n) (fits n (omega arith))
         (subst (λ (most : ℕ). CostsAtMost m costs most (run program input n)) same (run_costs input free n (λ i below. fits i (omega (arith, below))))))
 
-  -- ---- steps
+  -- ---- the number of steps
 
   pub steps_cost : (costs : List ℕ) → IsClosed program m costs → IsNoMore m → (n k : ℕ) (s : State) → k + n * step_cost m < too_many → CostsAtMost m costs (k + n * step_cost m) s → CostsAtMost m costs k (steps program n s)
   steps_cost costs closed no_more zero k s few h = subst (λ (most : ℕ). CostsAtMost m costs most s) (none k) h
@@ -75,7 +75,7 @@ module _ (program : Program) where
   over_stays (suc n) (Dead output input) over = over_stays n (Dead output input) over
   over_stays (suc n) (Wrong output input) over = over_stays n (Wrong output input) over
 
-  -- what goes on costs a step at least
+  -- a running state costs at least a step
   spent_all : (costs : List ℕ) (s : State) → CostsAtMost measures.Steps costs 0 s → IsOver s
   spent_all costs (Running focus stack e w) h = absurd (omega (arith, h, focus_least measures.Steps costs focus (omega (arith, h))))
   spent_all costs (Ended ending output input) h = tt

@@ -1,5 +1,5 @@
--- A step makes what a run costs no more: what it does next, what waits and what is spent come to a step less, or stay where steps are not
--- counted.
+-- A step does not raise the cost of a run. The sum of the costs of the focus, of the stack and of the past never increases. The sum
+-- decreases at each step if steps are counted.
 use Rattle.std.proofs.Common.{◌≡◌, ℕ, suc, ◌+◌, ◌*◌, ◌-◌, ◌%◌, ◌^◌, ◌<◌, ◌≤◌, min, List, [], ◌∷◌, ◌++◌, drop, length, reverse, Option, Some, None, refl, ap, arith, suc-mul}
 use Rattle.std.specs.Prelude.{◌==◌, unwrap_or, slice_get, get_or}
 use Rattle.cyc_words.proofs.Items.{get_or-map}
@@ -126,7 +126,7 @@ module _ (program : Program) (m : Measure) (costs : List ℕ) (counted : World �
       loads_from program m costs counted adds k few (kind_of type) (e.locals source) (Needs (AliasOf number source items) ∷ stack) e w (omega (arith, h))
   continuing_with (MoreItems (DeclareKey region number) items) stack e w h = omega (arith, h, adds.opened Dynamic w)
 
-  -- ---- unwinding: each entry that is left costs a step at least
+  -- ---- unwinding: each popped entry costs at least a step
 
   abbrev N : Entry → List Entry → World → ℕ
   N entry stack w = t + (S Nothing (entry ∷ stack) + counted w)
@@ -215,7 +215,7 @@ module _ (program : Program) (m : Measure) (costs : List ℕ) (closed : IsClosed
   abbrev R : Delivery → List Entry → World → ℕ
   R d stack w = stack_cost m costs d stack + counted w
 
-  -- a function that is called begins with its body, for which its cost is enough
+  -- a called function begins with its body, for which its cost suffices
   begins_call : (number : ℕ) (arguments : List Operand) (outer : Environment) (stack : List Entry) (w : World) (o : Option Function) → slice_get program.functions number ≡ o
       → step_cost m + get_or costs number 0 + R Anything stack w ≤ k → D (called o arguments (Caller outer ∷ stack) w)
   begins_call number arguments outer stack w None there h = tt

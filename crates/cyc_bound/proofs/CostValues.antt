@@ -1,5 +1,5 @@
--- A step of places and values makes what a run costs no more: what it does next, what waits and what is spent come to a step less, or stay
--- where steps are not counted.
+-- The steps of places and values do not raise the cost of a run. The sum of the costs of the focus, of the stack and of the past never
+-- increases. The sum decreases at each step if steps are counted.
 use Rattle.std.proofs.Common.{◌≡◌, ℕ, zero, suc, ◌+◌, ◌*◌, ◌-◌, ◌<◌, ◌≤◌, min, Bool, true, false, List, [], ◌∷◌, length, reverse, Option, Some, None, refl, ap, arith, suc-mul}
 use Rattle.std.specs.Prelude.{◌==◌, ◌&&◌, nat_le, if◌then◌else◌, slice_get}
 use Rattle.std.proofs.lemmas.Bool.{leb-true, eqb-false}
@@ -14,7 +14,7 @@ use Rattle.cyc_types.specs.Types.{Ty}
 use Rattle.cyc_types.specs.TypedTrees.{Expression, Number, NullPointer, HeapRegion, Counter, Copy, Move, Peek, Load, AddressOf, AddressOfCell, NumberOfElements, FreeUnique, FreeKey, Call, Unary, Binary, Assign, New, Dereference, Target, Member, Element, Placement, OnHeap, AsUnique}
 use Rattle.cyc_types.specs.TypedTrees.{ByHandle, Initial, Plain, Fields, Array, Converted, Convert, Arguments, NoArguments, MoreArguments, Operations, NoOperations, ThenCompute, ThenTest, ThenPointer, ThenPointerPeek, Side, VariableSide, CellSide, Statement, Items, StructType, Program}
 use Rattle.cyc_types.specs.TypedTrees as typed
-use Rattle.cyc_meaning.specs.Values.{Value, Int, Null, Thin, Fat, Handle, Key, Operand, kind_of, is_kind, bytes_of_kind, behind, words_for, block_size}
+use Rattle.cyc_meaning.specs.Values.{Value, Int, Null, Thin, Fat, Handle, Key, Operand, kind_of, is_kind, bytes_of_kind, following, words_for, block_size}
 use Rattle.cyc_meaning.specs.Operators.{Result, Gives, Raises, Misfits, is_zero, binary_result, unary_result, unary_kind, truth, truth_of, decides, array_size}
 use Rattle.cyc_meaning.specs.Pointers.{element_count, pointer_result, takes_kind, Reach, At, Stops, Nowhere, followed}
 use Rattle.cyc_meaning.specs.Conversion.{conversion}
@@ -61,7 +61,7 @@ module _ (program : Program) (m : Measure) (costs : List ℕ) (counted : World �
   either true s u first second = first
   either false s u first second = second
 
-  -- where the first one may rest on what was tested
+  -- a conditional result, in which each case may use the outcome of the test
   either_by : (b : Bool) (s u : State) → (b ≡ true → B s) → (b ≡ false → B u) → B (if b then s else u)
   either_by true s u first second = first refl
   either_by false s u first second = second refl
@@ -75,7 +75,7 @@ module _ (program : Program) (m : Measure) (costs : List ℕ) (counted : World �
   pub returns_now : (o : Option Operand) (stack : List Entry) (e : Environment) (w : World) → t + A stack w ≤ k → B (Running (Returning o) stack e w)
   returns_now o stack e w h = omega (arith, h, few, nothing m costs Anything stack (omega (arith, h, few)))
 
-  -- what comes has this kind
+  -- the computed value has this kind
   computes_as : (kind : Kind) (r : Result) (stack : List Entry) (e : Environment) (w : World) → t + (S (OfKind kind None) stack + counted w) ≤ k → B (computed kind r stack e w)
   computes_as kind (Gives value) stack e w h = omega (arith, h, kept m costs kind (number_of value) stack)
   computes_as kind (Raises tag) stack e w h = omega (arith, h, few, nothing m costs (OfKind kind None) stack (omega (arith, h, few)))
@@ -112,7 +112,7 @@ module _ (program : Program) (m : Measure) (costs : List ℕ) (counted : World �
   stores_at (Handle region) v focus stack e w h = tt
   stores_at (Key region) v focus stack e w h = tt
 
-  -- a value that is stored is handed on
+  -- a stored value is passed on
   stores_given : (place : Value) (v : Operand) (stack : List Entry) (e : Environment) (w : World) → t + A stack w ≤ k → B (stored_at place v (Given v) stack e w)
   stores_given place v stack e w h = stores_at place v (Given v) stack e w (gives_value v stack e w h)
 
@@ -231,10 +231,10 @@ module _ (program : Program) (m : Measure) (costs : List ℕ) (counted : World �
   making owner values stack e w h = filling (created w owner (blanks_of values)) owner values stack e w refl h
 
   making_plain : (owner : Owner) (kind : Kind) (v : Operand) (stack : List Entry) (e : Environment) (w : World)
-      → 3 * t + block_cost m (site_of_owner owner) (size_of_bytes (behind kind 0)) + A stack w ≤ k → B (makes_plain owner kind v stack e w)
+      → 3 * t + block_cost m (site_of_owner owner) (size_of_bytes (following kind 0)) + A stack w ≤ k → B (makes_plain owner kind v stack e w)
   making_plain owner kind v stack e w h = either_by (is_kind v.kind kind) _ _ (λ same.
-      let size : block_cost m (site_of_owner owner) (size_of_bytes (behind v.kind 0)) ≡ block_cost m (site_of_owner owner) (size_of_bytes (behind kind 0)) =
-      ap (λ (a : Kind). block_cost m (site_of_owner owner) (size_of_bytes (behind a 0))) (kind_is v.kind kind same) in
+      let size : block_cost m (site_of_owner owner) (size_of_bytes (following v.kind 0)) ≡ block_cost m (site_of_owner owner) (size_of_bytes (following kind 0)) =
+      ap (λ (a : Kind). block_cost m (site_of_owner owner) (size_of_bytes (following a 0))) (kind_is v.kind kind same) in
       making owner (v ∷ []) stack e w (omega (arith, h, size))) (λ other. tt)
 
   making_fields : (owner : Owner) (before : List Operand) (fields : Arguments) (stack : List Entry) (e : Environment) (w : World)
@@ -467,7 +467,7 @@ module _ (program : Program) (m : Measure) (costs : List ℕ) (counted : World �
   choosing (Some false) first second stack e w one other = omega (arith, one)
   choosing None first second stack e w one other = tt
 
-  -- a loop has a cost only where all of it costs nothing
+  -- the cost of a loop, which is bounded only if all of its parts cost nothing
   abbrev pub L : Expression → Statement → ℕ
   L condition body = loop_cost (t + (expression_cost m costs condition + statement_cost m costs body))
 

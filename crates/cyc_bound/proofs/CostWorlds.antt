@@ -1,11 +1,11 @@
--- What changes of the world make of what is spent: making and opening add their costs, and nothing else does.
+-- The effect of changes of the world on the spent costs: allocating and opening add their costs, and nothing else does.
 use Rattle.std.proofs.Common.{◌≡◌, ℕ, zero, suc, ◌+◌, ◌≤◌, true, false, List, [], ◌∷◌, ◌++◌, set, reverse, Option, Some, None, refl, sym, ap, ◌∙◌, arith}
 use Rattle.std.specs.Prelude.{slice_get, ◌*◌}
 use Rattle.std.proofs.lemmas.Grind.{reverse_onto}
 use Rattle.cyc_words.proofs.Items.{map-set}
 use Rattle.cyc_types.specs.declared.typed.Kind.{Kind}
 use Rattle.cyc_types.specs.declared.typed.Kind.TheVariants as kinds
-use Rattle.cyc_meaning.specs.Values.{Value, Operand, Cell, kinds_of, bytes_of_kind, begins, behind, bytes_from, block_size}
+use Rattle.cyc_meaning.specs.Values.{Value, Operand, Cell, kinds_of, bytes_of_kind, begins, following, bytes_from, block_size}
 use Rattle.cyc_meaning.specs.State.{Sort, Region, Owner, InRegion, Unique, Object, World, Access, Found, Closed, Missing, region_at, Located, cell_at, new_region, opened_as, closed, variable, made, written}
 use Rattle.cyc_meaning.specs.Objects.{made_in, made_unique, created_in, created, freed}
 use Rattle.cyc_meaning.specs.Allocation.{blanks_of, blanks}
@@ -17,24 +17,24 @@ use Rattle.cyc_bound.specs.declared.costs.Site.TheVariants as sites
 use Rattle.cyc_bound.specs.Costs.{block_cost, size_of_bytes}
 use Rattle.cyc_bound.specs.inside.Remaining.{site_of_owner, bytes_before, blocks_spent, sort_spent, regions_spent, object_spent, objects_spent, spent}
 
--- ---- sizes
+-- ---- sizes of objects
 
 bytes_joined : (at : ℕ) (done rest : List Kind) → bytes_from at (done ++ rest) ≡ bytes_from (bytes_from at done) rest
 bytes_joined at [] rest = refl
-bytes_joined at (a ∷ done) rest = bytes_joined (behind a at) done rest
+bytes_joined at (a ∷ done) rest = bytes_joined (following a at) done rest
 
 kinds_joined : (before : List Operand) (v : Operand) → kinds_of (blanks_of (before ++ v ∷ [])) ≡ kinds_of (blanks_of before) ++ v.kind ∷ []
 kinds_joined [] v = refl
 kinds_joined (x ∷ before) v = ap (λ (ks : List Kind). x.kind ∷ ks) (kinds_joined before v)
 
--- the bytes of fields, whose values are newest first
+-- the bytes of fields, whose values are listed newest first
 bytes_of_fields : (before : List Operand) → bytes_from 0 (kinds_of (blanks_of (reverse before))) ≡ bytes_before before
 bytes_of_fields [] = refl
 bytes_of_fields (v ∷ before) =
     ap (λ (vs : List Operand). bytes_from 0 (kinds_of (blanks_of vs))) (reverse_more v before)
     ∙ ap (λ (ks : List Kind). bytes_from 0 ks) (kinds_joined (reverse before) v)
     ∙ bytes_joined 0 (kinds_of (blanks_of (reverse before))) (v.kind ∷ [])
-    ∙ ap (λ (at : ℕ). behind v.kind at) (bytes_of_fields before)
+    ∙ ap (λ (at : ℕ). following v.kind at) (bytes_of_fields before)
   where
     reverse_more : (v : Operand) (before : List Operand) → reverse (v ∷ before) ≡ reverse before ++ v ∷ []
     reverse_more v before = reverse_onto before v []
@@ -51,7 +51,7 @@ begins_first kinds.Fat = refl
 begins_first kinds.Handle = refl
 begins_first kinds.Key = refl
 
-begins_next : (kind : Kind) (at : ℕ) → begins kind (behind kind at) ≡ behind kind at
+begins_next : (kind : Kind) (at : ℕ) → begins kind (following kind at) ≡ following kind at
 begins_next kinds.Int at = omega arith
 begins_next kinds.Char at = omega arith
 begins_next kinds.Nullable at = omega arith
@@ -62,7 +62,7 @@ begins_next kinds.Key at = omega arith
 
 bytes_of_blanks : (at count : ℕ) (kind : Kind) → begins kind at ≡ at → bytes_from at (kinds_of (blanks count kind)) ≡ at + count * bytes_of_kind kind
 bytes_of_blanks at zero kind even = omega arith
-bytes_of_blanks at (suc count) kind even = bytes_of_blanks (behind kind at) count kind (begins_next kind at) ∙ next (begins kind at) at (bytes_of_kind kind) count even
+bytes_of_blanks at (suc count) kind even = bytes_of_blanks (following kind at) count kind (begins_next kind at) ∙ next (begins kind at) at (bytes_of_kind kind) count even
   where
     next : (here at bytes count : ℕ) → here ≡ at → here + bytes + count * bytes ≡ at + suc count * bytes
     next here at bytes count even = omega (arith, even)
@@ -73,9 +73,9 @@ elements_size count kind = ap (λ (bytes : ℕ). size_of_bytes bytes) (bytes_of_
     none : (n : ℕ) → 0 + n ≡ n
     none n = omega arith
 
--- ---- what is spent
+-- ---- spent costs
 
--- of regions of which the first one is at this site, what is made in the one with this number is at
+-- the site of the region of this number, if the first region is at this site
 abbrev pub site_at : Site → ℕ → Site
 site_at site zero = site
 site_at site (suc n) = sites.Region
@@ -85,7 +85,7 @@ module _ (m : Measure) where
   blocks_more site [] size = omega arith
   blocks_more site (x ∷ sizes) size = omega (arith, blocks_more site sizes size)
 
-  -- a region in which nothing was made
+  -- appending a region without blocks
   pub regions_more : (site : Site) (regions : List Region) (sort : Sort) → regions_spent m site (regions ++ new_region sort ∷ []) ≡ regions_spent m site regions + sort_spent m sort
   regions_more site [] sort = omega arith
   regions_more site (x ∷ regions) sort = omega (arith, regions_more sites.Region regions sort)
@@ -122,7 +122,7 @@ module _ (m : Measure) where
       omega (arith, k, same)
   objects_set (z ∷ objects) (suc n) x y there same = omega (arith, objects_set objects n x y there same)
 
-  -- ---- changes
+  -- ---- changes of the world
 
   owner_site : (region : ℕ) (size : ℕ) → block_cost m (site_at sites.Heap region) size ≡ block_cost m (site_of_owner (InRegion region)) size
   owner_site zero size = refl
@@ -142,7 +142,7 @@ module _ (m : Measure) where
   pub spent_unique : (w : World) (cells : List Cell) → spent m (made_unique w cells) ≡ spent m w + block_cost m sites.Unique (block_size cells)
   spent_unique w cells = omega (arith, objects_more w.objects (record { owner = Unique true; cells = cells }))
 
-  -- an object that is made costs its block
+  -- a new object costs its block
   spent_created : (w new : World) (owner : Owner) (cells : List Cell) → created w owner cells ≡ Found new → spent m new ≡ spent m w + block_cost m (site_of_owner owner) (block_size cells)
   spent_created w new (InRegion region) cells is = go (region_at w region) refl is
     where
@@ -174,9 +174,9 @@ module _ (m : Measure) where
       ap (λ (ks : List Kind). object_spent m at.object.owner (size_of_bytes (bytes_from 0 ks))) kinds in
       omega (arith, objects_set w.objects object at.object (record at.object { cells = cells }) there same)
 
--- ---- ways to count
+-- ---- counting functions
 
--- A way to count what is spent of a world: each change adds no more than it costs.
+-- A function that counts the spent cost of a world: each change adds at most its cost.
 pub record Counts (m : Measure) (counted : World → ℕ) : Type 0 where
   pub opened : (sort : Sort) (w : World) → counted (opened_as sort w) ≤ counted w + sort_spent m sort
   pub closed : (w : World) (n : ℕ) (r : Region) → region_at w n ≡ Found r → counted (closed w n r) ≤ counted w

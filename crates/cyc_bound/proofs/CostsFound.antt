@@ -1,4 +1,5 @@
--- What is added up of lists so far, with what is still to come, and what nodes with lists cost.
+-- The computation of costs. The cost of the first elements of a list and of its remaining elements is that of the list. The fact about the
+-- costs of lists is also proved for nodes with lists.
 use Rattle.std.proofs.Common.{◌≡◌, ℕ, zero, suc, ◌+◌, ◌*◌, ◌<◌, ◌≤◌, min, max, List, [], ◌∷◌, length, get_or, drop, Option, Some, None, refl, sym, ap, subst, ◌∙◌, arith, suc-mul}
 use Rattle.std.specs.Prelude.{map}
 use Rattle.std.proofs.lemmas.List.{drop_all}
@@ -29,7 +30,7 @@ use Rattle.cyc_types.specs.TypedTrees.{Expression, Statement, Clauses, Function}
 use Rattle.cyc_types.specs.TypedTrees as typed
 use Rattle.cyc_types.specs.TypedTreeView.{view_expression, view_placement, view_initial, view_converted, view_statement, view_item, view_function, arguments_of, operations_of, items_of, clauses_of, default_of}
 use Rattle.cyc_types.proofs.TypedTreeViewLemmas.{view_typed_call, view_typed_binary, view_typed_fields, view_block, view_typed_try}
-use Rattle.cyc_meaning.specs.Values.{behind}
+use Rattle.cyc_meaning.specs.Values.{following}
 use Rattle.cyc_bound.specs.declared.costs.Measure.{Measure}
 use Rattle.cyc_bound.specs.declared.costs.Site.{Site}
 use Rattle.cyc_bound.specs.Costs.{too_many, step_cost, most_elements, array_cost, loop_cost, callee_cost, expression_cost, site_of, written_length, placement_cost, initial_cost}
@@ -38,7 +39,7 @@ use Rattle.cyc_bound.specs.inside.ItemCosts.{operation_cost, clauses_then}
 
 -- ---- lists
 
--- the sum so far and the cost of the elements from this one on is the cost of all of them
+-- the sum so far plus the cost of the elements from this index on is the cost of all elements
 abbrev pub ArgumentsLeft : Measure → (costs : List ℕ) → List ConvertedCode → (i total : ℕ) → Type 0
 ArgumentsLeft m costs cs i total =
     (min too_many (total + arguments_cost m costs (arguments_of (drop i cs))) ≡ min too_many (arguments_cost m costs (arguments_of cs))) × (total ≤ too_many)
@@ -47,7 +48,7 @@ abbrev pub OperationsLeft : Measure → (costs : List ℕ) → List Operation �
 OperationsLeft m costs os i total =
     (min too_many (total + operations_cost m costs (operations_of (drop i os))) ≡ min too_many (operations_cost m costs (operations_of os))) × (total ≤ too_many)
 
--- and the bytes are few
+-- as `ArgumentsLeft`, for fields; the number of bytes stays small
 abbrev pub FieldsLeft : Measure → (costs : List ℕ) → Site → List ConvertedCode → (i total bytes : ℕ) → Type 0
 FieldsLeft m costs site cs i total bytes =
     (min too_many (total + fields_cost m costs site i bytes (arguments_of (drop i cs))) ≡ min too_many (fields_cost m costs site 0 0 (arguments_of cs))) × (bytes ≤ 16 * i)
@@ -55,11 +56,11 @@ FieldsLeft m costs site cs i total bytes =
 abbrev pub ItemsLeft : Measure → (costs : List ℕ) → List ItemCode → (i total : ℕ) → Type 0
 ItemsLeft m costs js i total = min too_many (total + items_cost m costs (items_of (drop i js))) ≡ min too_many (items_cost m costs (items_of js))
 
--- clauses that were tried cost steps, and the costliest of them counts
+-- each tried clause costs a step, and the costliest clause counts
 abbrev pub ClausesLeft : Measure → (costs : List ℕ) → List Clause → (last i tried most : ℕ) → Type 0
 ClausesLeft m costs cs last i tried most = (min too_many (max most (tried + clauses_then m costs (drop i cs) last)) ≡ min too_many (clauses_then m costs cs last)) × (most ≤ too_many)
 
--- ---- sums that end where no more is counted
+-- ---- saturating sums
 
 pub one_part_cost : (steps a first result whole : ℕ) → whole ≡ steps + a → first ≡ min too_many a → result ≡ min too_many (steps + first) → result ≡ min too_many whole
 one_part_cost steps a first result whole is one two = omega (arith, is, one, two)
@@ -84,7 +85,7 @@ loop_capped (suc turn) = go (min too_many (suc turn)) (omega arith)
     go zero some = absurd (omega (arith, some))
     go (suc n) some = omega arith
 
--- ---- one part more
+-- ---- one more part
 
 one_cost_more : (total cost next part rest whole : ℕ) → min too_many (total + (part + rest)) ≡ whole → cost ≡ min too_many part → next ≡ min too_many (total + cost) → min too_many (next + rest) ≡ whole
 one_cost_more total cost next part rest whole so_far one two = omega (arith, so_far, one, two)
@@ -126,25 +127,25 @@ module _ (m : Measure) (costs : List ℕ) where
       least : (total : ℕ) → total ≤ too_many → total ≡ min too_many (total + 0)
       least total few = omega (arith, few)
 
-  behind_few : (kind : Kind) (bytes i : ℕ) → bytes ≤ 16 * i → behind kind bytes ≤ 16 * (i + 1)
-  behind_few kinds.Int bytes i few = omega (arith, few)
-  behind_few kinds.Char bytes i few = omega (arith, few)
-  behind_few kinds.Nullable bytes i few = omega (arith, few)
-  behind_few kinds.NonNull bytes i few = omega (arith, few)
-  behind_few kinds.Fat bytes i few = omega (arith, few)
-  behind_few kinds.Handle bytes i few = omega (arith, few)
-  behind_few kinds.Key bytes i few = omega (arith, few)
+  after_few : (kind : Kind) (bytes i : ℕ) → bytes ≤ 16 * i → following kind bytes ≤ 16 * (i + 1)
+  after_few kinds.Int bytes i few = omega (arith, few)
+  after_few kinds.Char bytes i few = omega (arith, few)
+  after_few kinds.Nullable bytes i few = omega (arith, few)
+  after_few kinds.NonNull bytes i few = omega (arith, few)
+  after_few kinds.Fat bytes i few = omega (arith, few)
+  after_few kinds.Handle bytes i few = omega (arith, few)
+  after_few kinds.Key bytes i few = omega (arith, few)
 
   pub fields_next : (site : Site) (cs : List ConvertedCode) (i total bytes : ℕ) (c : ConvertedCode) (cost next more : ℕ) → i < length cs → c ≡ get_or cs i c → FieldsLeft m costs site cs i total bytes
-      → cost ≡ min too_many (converted_cost m costs (view_converted c)) → next ≡ min too_many (total + cost) → more ≡ behind c.to bytes → FieldsLeft m costs site cs (i + 1) next more
+      → cost ≡ min too_many (converted_cost m costs (view_converted c)) → next ≡ min too_many (total + cost) → more ≡ following c.to bytes → FieldsLeft m costs site cs (i + 1) next more
   fields_next site cs i total bytes c cost next more less at h one two is =
-      let first : fields_cost m costs site i bytes (arguments_of (drop i cs)) ≡ converted_cost m costs (view_converted c) + fields_cost m costs site (suc i) (behind c.to bytes) (arguments_of (drop (i + 1) cs)) =
+      let first : fields_cost m costs site i bytes (arguments_of (drop i cs)) ≡ converted_cost m costs (view_converted c) + fields_cost m costs site (suc i) (following c.to bytes) (arguments_of (drop (i + 1) cs)) =
       ap (λ (l : List ConvertedCode). fields_cost m costs site i bytes (arguments_of l)) (drop_read cs i c less at) in
       let count : suc i ≡ i + 1 = omega arith in
       let so_far = one_cost_more total cost next _ _ _ (ap (λ (n : ℕ). min too_many (total + n)) (sym first) ∙ h.0) one two in
-      let counted = subst (λ (n : ℕ). min too_many (next + fields_cost m costs site n (behind c.to bytes) (arguments_of (drop (i + 1) cs))) ≡ min too_many (fields_cost m costs site 0 0 (arguments_of cs))) count so_far in
+      let counted = subst (λ (n : ℕ). min too_many (next + fields_cost m costs site n (following c.to bytes) (arguments_of (drop (i + 1) cs))) ≡ min too_many (fields_cost m costs site 0 0 (arguments_of cs))) count so_far in
       subst (λ (n : ℕ). (min too_many (next + fields_cost m costs site (i + 1) n (arguments_of (drop (i + 1) cs))) ≡ min too_many (fields_cost m costs site 0 0 (arguments_of cs))) × (n ≤ 16 * (i + 1))) (sym is)
-      (counted, behind_few c.to bytes i h.1)
+      (counted, after_few c.to bytes i h.1)
 
   pub fields_all : (site : Site) (cs : List ConvertedCode) (i total bytes count made result : ℕ) → length cs ≤ i → i ≤ length cs → count ≡ length cs → FieldsLeft m costs site cs i total bytes
       → made ≡ min too_many (fields_made_cost m site count bytes) → result ≡ min too_many (total + made) → result ≡ min too_many (fields_cost m costs site 0 0 (arguments_of cs))
@@ -172,7 +173,7 @@ module _ (m : Measure) (costs : List ℕ) where
       turned : (step total result : ℕ) → result ≡ min too_many (1 * step + total) → result ≡ min too_many (total + step)
       turned step total result is = omega (arith, is)
 
-  -- the clause that is walked next is tried, and executed or not
+  -- the next clause is tried, and executed or not
   pub clauses_next : (cs : List Clause) (last i tried most : ℕ) (c : Clause) (items caught next both more : ℕ) → i < length cs → c ≡ get_or cs i c → ClausesLeft m costs cs last i tried most
       → items ≡ min too_many (items_cost m costs (items_of c.items.items)) → next ≡ min too_many (1 * step_cost m + tried) → caught ≡ min too_many (caught_cost m c.number items)
       → both ≡ min too_many (next + caught) → more ≡ max most both → ClausesLeft m costs cs last (i + 1) next more
@@ -211,13 +212,13 @@ module _ (m : Measure) (costs : List ℕ) where
   then_capped [] last = omega arith
   then_capped (c ∷ cs) last = omega (arith, then_capped cs last)
 
-  -- the default clause stands behind the others
+  -- the default clause comes after the other clauses
   pub clauses_capped : (cs : List Clause) (default : Option Body) (last result : ℕ) → last ≡ min too_many (clauses_cost m costs (default_of default)) → result ≡ min too_many (clauses_then m costs cs last)
       → result ≡ min too_many (clauses_cost m costs (clauses_of cs (default_of default)))
   clauses_capped cs default last result one two =
       two ∙ ap (λ (n : ℕ). min too_many (clauses_then m costs cs n)) one ∙ then_capped cs (clauses_cost m costs (default_of default)) ∙ ap (λ (n : ℕ). min too_many n) (sym (clauses_with cs (default_of default)))
 
--- ---- nodes with lists
+-- ---- nodes that contain lists
 
 module _ (m : Measure) (costs : List ℕ) where
   pub call_costs : (value : Expr) {w : _} (f : Callee) (v : Vec ConvertedCode Heap) (t : ValueTypeCode) → value ≡ expr.Call w f v t → (items : List ConvertedCode) → items ≡ v.items

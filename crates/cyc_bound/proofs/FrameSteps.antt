@@ -1,4 +1,4 @@
--- What a step does depends on the newest entry alone: what waits below it stays as it is.
+-- A step depends only on the newest stack entry: the entries below it are unchanged.
 use Rattle.std.proofs.Common.{◌≡◌, ℕ, suc, List, [], ◌∷◌, ◌++◌, length, reverse, Option, Some, None, refl}
 use Rattle.std.specs.Prelude.{◌==◌, slice_get}
 use Rattle.cyc_types.specs.declared.typed.Kind.TheVariants as kinds
@@ -97,7 +97,7 @@ module _ (program : Program) (below : List Entry) where
   continuing_with (MoreItems (DeclareAlias region number type p source) items) stack e w = loads_from program below (kind_of type) (e.locals source) (Needs (AliasOf number source items) ∷ stack) e w
   continuing_with (MoreItems (DeclareKey region number) items) stack e w = refl
 
-  -- ---- entries that are left
+  -- ---- popped entries
 
   closes : (a : Access Region) (focus : Focus) (region home : ℕ) (stack : List Entry) (e : Environment) (w : World) → closing a focus region home (stack ++ below) e w ≡ U (closing a focus region home stack e w)
   closes (Found r) focus region home stack e w = refl

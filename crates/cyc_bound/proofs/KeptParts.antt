@@ -1,4 +1,4 @@
--- What the parts of a step leave: no more handles of the heap and keys, and no outermost region that costs more than before.
+-- The parts of a step create no handle of the heap and no key, and leave no outermost region that costs more than before.
 use Rattle.std.proofs.Common.{◌≡◌, ℕ, suc, Bool, true, false, List, [], ◌∷◌, ◌++◌, length, reverse, Option, Some, None, refl, zero, ◌+◌, ◌<◌, ◌≤◌, set, sym, ap, subst, ◌∙◌, arith}
 use Rattle.std.specs.Prelude.{if◌then◌else◌, slice_get, nat_lt}
 use Rattle.std.specs.List.{AllByRecursion}
@@ -75,7 +75,7 @@ sorted_set (heap ∷ regions) (suc n) r s there same h =
 pub own_closed : (w : World) (n : ℕ) (r : Region) → region_at w n ≡ Found r → IsOwnWorld w → IsOwnWorld (closed w n r)
 own_closed w n r found o = (sorted_set w.regions n r (record r { is_open = false }) (region_found w n r found) refl o.0, o.1)
 
--- the next region's handle is not the heap's
+-- the handle of the next region is not that of the heap
 pub handle_own : (regions : List Region) → AreSorted regions → IsOwn (Handle (length regions))
 handle_own [] h = absurd h
 handle_own (heap ∷ regions) h = tt
@@ -114,7 +114,7 @@ own_written w object offset at value found own o =
     let cells = all_set IsOwnCell at.object.cells offset (record at.cell { content = Some value }) own (cells_own w object offset at found o) in
     (o.0, all_set (λ (y : Object). AllByRecursion IsOwnCell y.cells) w.objects object (record at.object { cells = set at.object.cells offset (record at.cell { content = Some value }) }) cells o.1)
 
--- ---- what is computed
+-- ---- computed values
 
 abbrev pub OwnResult : Result → Type 0
 OwnResult (Gives value) = IsOwn value
@@ -197,7 +197,7 @@ pointer_own operator first second = tt
 
 -- ---- costs
 
--- all that regions cost at once, they cost together
+-- the total cost of regions open simultaneously is at most their cost in sequence
 module _ (m : Measure) (costs : List ℕ) where
   mutual
     statement_within : (s : Statement) → statement_cost m costs s < too_many → statement_at_once m costs s ≤ statement_cost m costs s

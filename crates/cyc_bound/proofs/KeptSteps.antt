@@ -1,4 +1,5 @@
--- Where lexical regions give back, a step makes no handle of the heap and no key, and opens no outermost region that costs more than before.
+-- If lexical regions free their content, a step creates no handle of the heap and no key, and opens no outermost region that costs more
+-- than before.
 use Rattle.std.proofs.Common.{◌≡◌, ℕ, suc, Bool, true, false, List, [], ◌∷◌, length, reverse, Option, Some, None, refl, ◌+◌, ◌<◌, ◌≤◌, max, arith}
 use Rattle.std.specs.Prelude.{◌==◌, ◌*◌, ◌&&◌, nat_le, if◌then◌else◌, slice_get}
 use Rattle.cyc_types.specs.declared.typed.Kind.{Kind}
@@ -40,7 +41,7 @@ use Rattle.cyc_bound.specs.inside.Remaining.{Anything, focus_delivers, stack_cos
 use Rattle.cyc_bound.specs.inside.Outermost.{IsOwn, IsOwnContent, IsOwnOperand, AreOwn, focus_own, IsOwnWorld, IsKeptFocus, IsKeptEntry, AreKept, IsKept}
 use Rattle.cyc_bound.proofs.KeptParts.{reverse_own, writes_own, blanks_own, all_blank, own_made, own_opened, own_closed, handle_own, own_created, own_freed, content_own, own_written, OwnResult, conversion_own, truth_own, unary_own, binary_own, count_own, pointer_own, items_within}
 
--- a lexical region is opened next
+-- the items begin with a lexical region
 abbrev pub OpensIn : Items → Type 0
 OpensIn (MoreItems (DeclareRegion region number) items) = Unit {0}
 OpensIn items = ⊥
@@ -59,7 +60,7 @@ MayOpen opens (Ended ending output input) = Unit {0}
 MayOpen opens (Dead output input) = Unit {0}
 MayOpen opens (Wrong output input) = Unit {0}
 
--- what is called opens no costlier region
+-- a called function opens no costlier region
 abbrev pub CalleeFits : Program → Measure → (costs : List ℕ) → (most : ℕ) → Focus → Type 0
 CalleeFits program m costs most (Calling (callees.Function number) arguments) = at_once_of m costs (slice_get program.functions number) ≤ most
 CalleeFits program m costs most focus = Unit {0}
@@ -253,7 +254,7 @@ module _ (program : Program) (lasting : List ℕ) (opens : Bool) (m : Measure) (
   placing initial (Handle region) stack e w h o = making_initial (InRegion region) initial (Needs (BesideHandle region) ∷ stack) e w ((tt, omega arith), h) o
   placing initial value stack e w h o = tt
 
-  -- ---- regions: there is no key
+  -- ---- regions; there are no keys
 
   opening_with : (number lent : ℕ) (items : Items) (key : Value) (stack : List Entry) (e : Environment) (w : World) → IsOwn key → W stack → IsOwnWorld w → K (opens_with number lent items key stack e w)
   opening_with number lent items (Key region) stack e w own h o = absurd own
@@ -456,7 +457,7 @@ module _ (program : Program) (lasting : List ℕ) (opens : Bool) (m : Measure) (
   continuing_with (MoreItems (DeclareAlias region number type p source) items) stack e w free allows now h o = loads_from (kind_of type) (e.locals source) (Needs (AliasOf number source items) ∷ stack) e w ((tt, now), h) o
   continuing_with (MoreItems (DeclareKey region number) items) stack e w free allows now h o = absurd (omega (arith, free))
 
-  -- ---- entries that are left
+  -- ---- popped entries
 
   proceeding : (stack : List Entry) (e : Environment) (w : World) → stack_cost measures.Lasting lasting Anything stack ≤ 0 → (OpensOn stack → opens ≡ true) → W stack → IsOwnWorld w → K (step_proceeding stack e w)
   proceeding [] e w free allows h o = tt

@@ -1,4 +1,4 @@
--- Where functions cost more, nothing that calls them costs less.
+-- If functions cost more, no caller costs less.
 use Rattle.std.proofs.Common.{ℕ, zero, suc, ◌+◌, ◌≤◌, min, List, [], ◌∷◌, Option, Some, None, arith, mul-le-mul_left}
 use Rattle.std.specs.Prelude.{map}
 use Rattle.cyc_types.specs.declared.typed.Kind.{Kind}
@@ -8,7 +8,7 @@ use Rattle.cyc_types.specs.TypedTrees.{Expression, Number, NullPointer, HeapRegi
 use Rattle.cyc_types.specs.TypedTrees.{New, Dereference, Target, Member, Element, Placement, OnHeap, AsUnique, ByHandle, Initial, Plain, Fields, Array, Converted, Convert, Arguments, NoArguments, MoreArguments}
 use Rattle.cyc_types.specs.TypedTrees.{Operations, NoOperations, ThenCompute, ThenTest, ThenPointer, ThenPointerPeek, Side, VariableSide, CellSide, Statement, Block, Empty, Evaluate, Swap, If, While, Return, Break}
 use Rattle.cyc_types.specs.TypedTrees.{Continue, Throw, Try, Item, Items, NoItems, MoreItems, Execute, Declare, DeclareRegion, OpenRegion, DeclareAlias, DeclareKey, Clauses, NoClauses, Default, Case, Function, Program}
-use Rattle.cyc_meaning.specs.Values.{behind}
+use Rattle.cyc_meaning.specs.Values.{following}
 use Rattle.cyc_bound.specs.declared.costs.Measure.{Measure}
 use Rattle.cyc_bound.specs.declared.costs.Site.{Site}
 use Rattle.cyc_bound.specs.Costs.{too_many, step_cost, most_elements, elements_cost, array_cost, callee_cost, expression_cost, site_of, written_length, place_cost, placement_cost, initial_cost, fields_cost, converted_cost}
@@ -78,7 +78,7 @@ module _ (m : Measure) (costs others : List ℕ) (below : Below costs others) wh
 
     fields_more : (site : Site) (count bytes : ℕ) (cs : Arguments) → fields_cost m costs site count bytes cs ≤ fields_cost m others site count bytes cs
     fields_more site count bytes NoArguments = omega arith
-    fields_more site count bytes (MoreArguments (Convert from to a) cs) = omega (arith, expression_more a, fields_more site (suc count) (behind to bytes) cs)
+    fields_more site count bytes (MoreArguments (Convert from to a) cs) = omega (arith, expression_more a, fields_more site (suc count) (following to bytes) cs)
 
     converted_more : (c : Converted) → converted_cost m costs c ≤ converted_cost m others c
     converted_more (Convert from to a) = omega (arith, expression_more a)

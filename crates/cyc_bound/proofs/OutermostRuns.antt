@@ -1,5 +1,5 @@
--- Where lexical regions give back: from where the outermost one of those that are open was opened, what they have cost and still cost is no
--- more than what it costs.
+-- The cost since the opening of the present outermost region, if lexical regions free their content. The spent and remaining costs of the
+-- open regions are at most the cost of that region.
 use Rattle.std.proofs.Common.{◌≡◌, ℕ, zero, suc, ◌+◌, ◌*◌, ◌-◌, ◌<◌, ◌≤◌, ◌⊎◌, Bool, true, false, List, [], ◌∷◌, ◌++◌, drop, set, length, Option, Some, None, refl, sym, ap, subst, ◌∙◌, inl, inr, arith, length-append}
 use Rattle.std.specs.Prelude.{◌==◌, if◌then◌else◌, slice_get, map}
 use Rattle.std.specs.List.{list_any}
@@ -27,7 +27,7 @@ use Rattle.cyc_bound.specs.Costs.{too_many, step_cost, block_cost, items_cost, I
 use Rattle.cyc_bound.specs.AtOnce.{at_once_of}
 use Rattle.cyc_bound.specs.inside.Remaining.{focus_delivers, site_of_owner, stack_cost, focus_cost, sort_spent, regions_spent, TakesAtMost, CostsAtMost}
 use Rattle.cyc_bound.specs.inside.Outermost.{IsOwnCell, AreOwnObjects, AreSorted, AreKept, IsKept}
-use Rattle.cyc_bound.proofs.CallLemmas.{behind, row_of}
+use Rattle.cyc_bound.proofs.CallLemmas.{following, row_of}
 use Rattle.cyc_bound.proofs.CallSteps.{IsInSome}
 use Rattle.cyc_bound.proofs.CallRuns.{run_in}
 use Rattle.cyc_bound.proofs.CostLemmas.{IsNoMore, always_fits}
@@ -37,9 +37,9 @@ use Rattle.cyc_bound.proofs.FrameValues.{under}
 use Rattle.cyc_bound.proofs.FrameSteps.{stepping}
 use Rattle.cyc_bound.proofs.KeptSteps.{CalleeFits, CalleeFitsIn, MayOpen, step_kept}
 
--- ---- what is counted since a region was opened
+-- ---- costs counted since the opening of a region
 
--- all that was made in the regions with this number and greater ones
+-- the cost of everything allocated in the regions from this number on
 abbrev pub since : Measure → (from : ℕ) → World → ℕ
 since m from w = regions_spent m sites.Region (drop from w.regions)
 
@@ -111,14 +111,14 @@ module _ (m : Measure) where
     read = λ w input. omega arith;
   }
 
-  -- a region that was opened last
+  -- appending the region that was opened last
   last_since : (regions : List Region) (sort : Sort) → S (length regions) (regions ++ new_region sort ∷ []) ≡ sort_spent m sort
   last_since [] sort = omega arith
   last_since (r ∷ regions) sort = last_since regions sort
 
--- ---- which lexical regions are open
+-- ---- open lexical regions
 
--- those with this number or greater ones, which were opened
+-- all open lexical regions have numbers from this one on
 abbrev pub IsFrom : (from : ℕ) → List Region → Type 0
 IsFrom from regions = ((n : ℕ) → is_open_scope (slice_get regions n) ≡ true → from ≤ n) × (from ≤ length regions)
 
@@ -180,14 +180,14 @@ from_after from w printed count (Wrong output input) change h = tt
 
 -- ---- states
 
--- what is counted of lexical regions that are open at once
+-- the measures of lexical regions that are open simultaneously
 abbrev pub IsRegional : Measure → Type 0
 IsRegional measures.Openings = Unit {0}
 IsRegional measures.RegionBlocks = Unit {0}
 IsRegional measures.RegionWords = Unit {0}
 IsRegional m = ⊥
 
--- what is known of a measure, where functions and outermost regions cost so much
+-- the facts about a measure, given the costs of functions and of outermost regions
 pub record Facts (program : Program) (m : Measure) (costs : List ℕ) (most : ℕ) : Type 0 where
   pub closed : IsClosed program m costs
   pub few : most < too_many
@@ -199,8 +199,9 @@ module _ (program : Program) (lasting : List ℕ) (tables : Measure → List ℕ
   abbrev AreOutside : List Entry → Type 0
   AreOutside stack = (m : Measure) → IsRegional m → AreKept false m (tables m) (cost m) stack
 
-  -- No lexical region is open; or those from this number on may be, for which the entries wait that stand above others, and together with what
-  -- they still cost they have cost no more than the outermost one.
+  -- Either no lexical region is open, or the open ones have numbers from some number on. If some are open, the entries above some point of
+  -- the stack belong to the open lexical regions. The spent and remaining costs of these entries are at most the cost of the outermost
+  -- region.
   pub data Split (focus : Focus) (w : World) : List Entry → Type 0 where
     Outside : (stack : List Entry) → AreOutside stack → Split focus w stack
     Inside : (from : ℕ) (entry : Entry) (rest below : List Entry) → AreOutside below → IsFrom (suc from) w.regions
@@ -242,7 +243,7 @@ module _ (program : Program) (lasting : List ℕ) (tables : Measure → List ℕ
             step_costs program m (tables m) f.closed (since m (suc from)) (since_counts m from) (cost m) (omega (arith, f.few, f.free)) (Running focus (entry ∷ rest) e w)
             (always_fits m f.no_more (Running focus (entry ∷ rest) e w)) (omega (arith, less))
 
-    -- where no lexical region may be open none is
+    -- if the invariant allows no open lexical region, none is open
     no_lexicals : (m : Measure) (stack : List Entry) → AreKept false m (tables m) (cost m) stack → lexicals_of stack ≡ []
     no_lexicals m [] h = refl
     no_lexicals m (CloseLexical region ∷ stack) h = absurd (let e : false ≡ true = h.0.0 in cc)
@@ -255,7 +256,7 @@ module _ (program : Program) (lasting : List ℕ) (tables : Measure → List ℕ
     some_region [] h = absurd h
     some_region (heap ∷ regions) h = omega arith
 
-    -- the outermost region is opened
+    -- opening an outermost region
     opening : (region number : ℕ) (items : Items) (stack : List Entry) (e : Environment) (w : World) → IsNested (Rest (MoreItems (DeclareRegion region number) items) ∷ stack) e w
         → ((m : Measure) → IsRegional m → IsKept false m (tables m) (cost m) (Running Proceeding (Rest (MoreItems (DeclareRegion region number) items) ∷ stack) e w))
         → IsSplit (stepped program Proceeding (Rest (MoreItems (DeclareRegion region number) items) ∷ stack) e w)
@@ -301,7 +302,7 @@ module _ (program : Program) (lasting : List ℕ) (tables : Measure → List ℕ
     callee_fits : (m : Measure) → Facts program m (tables m) (cost m) → (focus : Focus) (stack : List Entry) (e : Environment) (w : World) → IsInSome program (Running focus stack e w) → CalleeFits program m (tables m) (cost m) focus
     callee_fits m f (Calling (callees.Function number) arguments) stack e w (g, (now, h)) =
         let (count, row, less) = row_of program g stack h in
-        f.rows number (suc count) (behind program program.main g number count row now.0)
+        f.rows number (suc count) (following program program.main g number count row now.0)
     callee_fits m f focus stack e w is = tt
 
     callee_fits_in : (m : Measure) → Facts program m (tables m) (cost m) → (s : State) → IsInSome program s → CalleeFitsIn program m (tables m) (cost m) s

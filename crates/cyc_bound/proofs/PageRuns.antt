@@ -1,4 +1,4 @@
--- No run asks for more pages than its costs tell.
+-- No run demands more pages than its costs state.
 use Rattle.std.proofs.Common.{◌≡◌, ℕ, zero, suc, ◌+◌, ◌-◌, ◌*◌, ◌/◌, ◌<◌, ◌≤◌, max, Bool, true, false, List, [], ◌∷◌, drop, set, length, get_or, Option, Some, None, refl, sym, ap, subst, ◌∙◌, inl, inr, arith}
 use Rattle.std.specs.Prelude.{◌==◌, ◌&&◌, nat_le, if◌then◌else◌, slice_get}
 use Rattle.std.specs.List.{AllByRecursion}
@@ -36,12 +36,12 @@ use Rattle.cyc_bound.proofs.OutermostRuns.{since, IsRegional, Facts, Split, Outs
 
 -- ---- regions
 
--- the one counts the blocks that are made at a site, and the other their words
+-- one measure counts the blocks at a site, the other their words
 pub record AreBlocks (ones sums : Measure) (site : Site) : Type 0 where
   pub one : (size : ℕ) → block_cost ones site size ≡ 1
   pub all : (size : ℕ) → block_cost sums site size ≡ size
 
--- what is filled in order has no more pages than blocks, and two that stand side by side have more words than one
+-- blocks placed in order need at most as many pages as blocks, and two consecutive pages contain more words than one page
 abbrev Grows : (ones sums : Measure) → Site → (pages filled : ℕ) → (sizes : List ℕ) → (after : ℕ) → Type 0
 Grows ones sums site pages filled sizes after =
     (after ≤ pages + blocks_spent ones site sizes) × ((suc page_words * after ≤ suc page_words * pages + filled + 2 * blocks_spent sums site sizes) × (pages ≤ after))
@@ -59,7 +59,7 @@ pages_grow ones sums site are pages filled (size ∷ sizes) =
         let more = leb-false (filled + size) page_words is in
         (omega (arith, past.0, are.one size), (omega (arith, past.1.0, more, are.all size), omega (arith, past.1.1)))
 
--- the pages of regions, of which the first one is at a site and the others have handles, are one for each and some behind the first ones
+-- the regions need one page each, plus the further pages for the blocks and words of these measures
 pub record RegionsAsk (ones sums : Measure) (site : Site) (regions : List Region) (pages : ℕ) : Type 0 where
   pub further : ℕ
   pub all : pages ≤ regions_spent measures.Openings site regions + further
@@ -107,14 +107,14 @@ demand_split (sizes ∷ regions) classes = omega (arith, demand_split regions cl
 
 -- ---- runs that are over
 
--- a run that is full stays as it is, whatever its limits
+-- a full run stays full, whatever its limits
 over : (program : Program) (pages more limit count : ℕ) (output input : List ℕ)
     → limited_steps program pages limit count (Ended Full output input) ≡ limited_steps program more limit count (Ended Full output input)
 over program pages more limit count output input =
     limited_over_stays program pages limit count (Ended Full output input) (λ going. let e : HasEnded Full ≡ GoesOn = going in cc)
     ∙ sym (limited_over_stays program more limit count (Ended Full output input) (λ going. let e : HasEnded Full ≡ GoesOn = going in cc))
 
--- the regions of a state ask for no more pages
+-- the regions of a state need at most this many pages
 abbrev RegionsWithin : ℕ → State → Type 0
 RegionsWithin most (Running focus stack e w) = pages_of w.regions ≤ most
 RegionsWithin most (Ended ending output input) = Unit {0}
@@ -127,7 +127,7 @@ spent_in m (Ended ending output input) = 0
 spent_in m (Dead output input) = 0
 spent_in m (Wrong output input) = 0
 
--- ---- classes
+-- ---- classes of unique blocks
 
 live_within : (class : ℕ) (objects : List Object) → live_in class objects ≤ objects_spent (measures.Uniques class) objects
 live_within class [] = omega arith
@@ -148,7 +148,7 @@ module _ (program : Program) (cost : Measure → ℕ) where
   abbrev P : ℕ → ℕ
   P class = pages_for class (cost (measures.Uniques class))
 
-  -- each class has no more pages than its blocks ask for
+  -- each class has at most the pages that its blocks need
   pub record AreFew (classes : List ℕ) : Type 0 where
     pub all : length classes ≡ suc greatest_class
     pub few : (class : ℕ) → class ≤ greatest_class → get_or classes class 0 ≤ P class
@@ -241,7 +241,7 @@ module _ (program : Program) (cost : Measure → ℕ) where
   IsSpent (Dead output input) = Unit {0}
   IsSpent (Wrong output input) = Unit {0}
 
-  -- no state has spent more than a run costs
+  -- no state has spent more than the cost of a run
   spent_most : (m : Measure) (most : ℕ) (input : List ℕ) (n : ℕ) → step_cost m ≡ 0 → ((i : ℕ) → FitsIn m (run program input i)) → IsRunCost program m most × (most < too_many) → spent_in m (run program input n) ≤ most
   spent_most m most input n free fits ((costs, are, is), less) =
       within (run program input n) (run_costs program m costs are.0 (omega (arith, is, less)) input free n (λ i below. fits i))
@@ -252,7 +252,7 @@ module _ (program : Program) (cost : Measure → ℕ) where
       within (Dead output input) h = omega arith
       within (Wrong output input) h = omega arith
 
-  -- unique blocks by what they cost
+  -- the number of unique blocks is bounded by the costs
   abbrev pub UniquesCost : Type 0
   UniquesCost = (class : ℕ) → class ≤ greatest_class → IsRunCost program (measures.Uniques class) (cost (measures.Uniques class)) × (cost (measures.Uniques class) < too_many)
 
@@ -312,7 +312,7 @@ module _ (program : Program) (cost : Measure → ℕ) where
         let spends = are_spent (run program input (suc n)) (uniques_spent (suc n)) in
         subst IsFew (sym last) (few_next (run program input n) (subst IsSpent last spends) (few_all n))
 
-    -- with the pages of regions
+    -- the total demand, given the pages of regions
     within_pages : (s : State) (regions : ℕ) → IsFew s → RegionsWithin regions s → demand s ≤ regions + unique_pages cost (suc greatest_class)
     within_pages (Running focus stack e w) regions h less = omega (arith, demand_split (counted w.regions) w.classes, less, total_few w.classes h)
     within_pages (Ended ending output input) regions h less = omega arith
@@ -322,7 +322,7 @@ module _ (program : Program) (cost : Measure → ℕ) where
     pub demand_by : (regions n : ℕ) → RegionsWithin regions (run program input n) → demand (run program input n) ≤ regions + unique_pages cost (suc greatest_class)
     demand_by regions n less = within_pages (run program input n) regions (few_all n) less
 
--- ---- where nothing is taken off
+-- ---- if nothing is subtracted
 
 sum_blocks : (site : Site) → (site ≡ sites.Unique → ⊥) → AreBlocks measures.Blocks measures.Words site
 sum_blocks sites.Heap region = record { one = λ size. refl; all = λ size. refl }
@@ -340,7 +340,7 @@ further_within further blocks words by_blocks by_words =
     let less : further ≤ 2 * words / suc page_words = le-div further (2 * words) (suc page_words) (omega arith) (omega (arith, by_words)) in
     omega (arith, by_blocks, less)
 
--- more blocks and words ask for no fewer
+-- more blocks and words need at least as many pages
 further_more : (further blocks words most all : ℕ) → further ≤ blocks → suc page_words * further ≤ 2 * words → blocks ≤ most → words ≤ all → further ≤ further_pages most all
 further_more further blocks words most all by_blocks by_words less few = further_within further most all (omega (arith, by_blocks, less)) (omega (arith, by_words, few))
 
@@ -370,7 +370,7 @@ module _ (program : Program) (cost : Measure → ℕ) (input : List ℕ) where
         (all_spent measures.Blocks tt refl ((λ size. omega arith), omega arith) (are.1 measures.Blocks tt) n)
         (all_spent measures.Words tt refl ((λ size. omega arith), omega arith) (are.1 measures.Words tt) n)
 
-  -- ---- where lexical regions give back
+  -- ---- lexical regions that free their content
 
   module _ (are : AreCounted program true cost) where
     abbrev tables : Measure → List ℕ
@@ -397,7 +397,7 @@ module _ (program : Program) (cost : Measure → ℕ) (input : List ℕ) where
     abbrev lasting : List ℕ
     lasting = are.0.0
 
-    -- nothing that may last is made
+    -- nothing that may outlast regions is created
     free : (n : ℕ) → CostsAtMost measures.Lasting lasting 0 (run program input n)
     free n =
         let none : run_cost program measures.Lasting lasting ≡ 0 = sym are.0.2 in
@@ -407,7 +407,7 @@ module _ (program : Program) (cost : Measure → ℕ) (input : List ℕ) where
     kept : (n : ℕ) → IsKept true measures.Openings (tables measures.Openings) (cost measures.Openings) (run program input n)
     kept n = run_kept program lasting tables cost facts input free measures.Openings (facts measures.Openings tt) n
 
-    -- no handle of the heap is handed on
+    -- no handle of the heap is passed on
     own_fits : (m : Measure) (s : State) → IsKept true measures.Openings (tables measures.Openings) (cost measures.Openings) s → FitsIn m s
     own_fits m (Running focus stack e w) h = go focus h.0.0
       where
@@ -421,7 +421,7 @@ module _ (program : Program) (cost : Measure → ℕ) (input : List ℕ) where
     heap_spent : (m : Measure) → step_cost m ≡ 0 → IsRunCost program m (cost m) × (cost m < too_many) → (n : ℕ) → spent_in m (run program input n) ≤ cost m
     heap_spent m free is n = spent_most program cost m (cost m) input n free (λ i. own_fits m (run program input i) (kept i)) is
 
-    -- neither the heap nor a dynamic region has pages where it is no open lexical region
+    -- a region that is neither the heap nor dynamic has pages only while it is an open lexical region
     left_pages : (sort : Sort) (flag : Bool) → IsLeft sort → has_pages sort flag ≡ is_scope sort flag
     left_pages Heap flag left = absurd left
     left_pages Globals flag left = refl
@@ -447,7 +447,7 @@ module _ (program : Program) (cost : Measure → ℕ) (input : List ℕ) where
         go true has rest = absurd (let e : true ≡ false = sym has ∙ (left_pages r.sort r.is_open left.0 ∙ h 0) in cc)
         go false has rest = rest
 
-    -- the pages of lexical regions that are open at once
+    -- the pages of lexical regions that are open simultaneously
     abbrev AtOnce : ℕ
     AtOnce = cost measures.Openings + further_pages (cost measures.RegionBlocks) (cost measures.RegionWords)
 
@@ -495,7 +495,7 @@ module _ (program : Program) (cost : Measure → ℕ) (input : List ℕ) where
         back_in (run program input n) (nests_run program input n) (kept n) (run_split program lasting tables cost facts input free n)
         (heap_spent measures.HeapBlocks refl (are.1 measures.HeapBlocks tt) n) (heap_spent measures.HeapWords refl (are.1 measures.HeapWords tt) n)
 
-  -- ---- both
+  -- ---- both rules
 
   pub demand_within : (gives_back : Bool) → AreCounted program gives_back cost → (n : ℕ) → demand (run program input n) ≤ most_pages gives_back cost
   demand_within true are n = demand_by program cost (uniques_of true are) input (most_region_pages true cost) n (back_within are n)
@@ -507,7 +507,7 @@ module _ (program : Program) (input : List ℕ) (most : ℕ) (least : (n : ℕ) 
   pub pages_within : (pages limit n : ℕ) → most ≤ pages → is_within pages limit (run program input n) ≡ nat_le (depth (run program input n)) limit
   pages_within pages limit n enough = ap (λ (b : Bool). b && nat_le (depth (run program input n)) limit) (le-leb (demand (run program input n)) pages (omega (arith, least n, enough)))
 
-  -- under both limits a step comes to the same
+  -- a step under both limits has the same result as a step under one
   alike : (pages more limit : ℕ) → most ≤ pages → most ≤ more → (count n : ℕ)
       → limited_steps program pages limit count (run program input n) ≡ limited_steps program more limit count (run program input n)
   alike pages more limit enough also zero n = refl

@@ -1,4 +1,4 @@
--- Pages of regions by either rule, and all pages together.
+-- The pages of regions by either rule, and all pages together.
 use Rattle.std.proofs.Common.{◌≡◌, ℕ, zero, suc, ◌+◌, ◌-◌, ◌<◌, ◌≤◌, ◌⊎◌, Bool, true, false, Option, Some, None, refl, sym, subst, inl, inr, arith}
 use Rattle.std.specs.Prelude.{◌==◌}
 use Rattle.std.proofs.lemmas.Bool.{cases_eq, eq-eqb, ne_eqb}
@@ -16,7 +16,7 @@ use Rattle.cyc_bound.specs.inside.RegionCosts.{IsAtOnceFound, AreRegionsCounted,
 use Rattle.cyc_bound.specs.inside.Rounds.{IsFound}
 
 module _ (program : Program) where
-  -- a cost that was found
+  -- a cost that was found is the cost of a run
   pub found : (m : Measure) (o : Option ℕ) (cost : ℕ) → o ≡ Some cost → IsFound program m o → IsRunCost program m cost
   found m o cost is h = subst (λ (n : Option ℕ). IsFound program m n) is h
 
@@ -27,7 +27,7 @@ module _ (program : Program) where
   not_found_at_once m None other h = h
   not_found_at_once m (Some cost) other h = absurd (other cost refl)
 
-  -- whether regions give back
+  -- the cost of lasting things decides whether regions free their content
   pub gives_by : (cost : ℕ) (o : Option ℕ) → o ≡ Some cost → IsFound program measures.Lasting o → GivesBack program (cost == 0)
   gives_by cost o is h = go (cases_eq cost 0)
     where
@@ -37,7 +37,7 @@ module _ (program : Program) where
           let more : cost ≡ suc (cost - 1) = omega (arith, some) in
           subst (λ (b : Bool). GivesBack program b) (sym (ne_eqb cost 0 some)) (inl (cost - 1, subst (λ (n : ℕ). IsRunCost program measures.Lasting n) more (found measures.Lasting o cost is h)))
 
-  -- more is not told apart
+  -- all costs above the greatest counted value count as that value
   pub too_many_at_once : (m : Measure) (cost : ℕ) → IsAtOnce program m cost → too_many ≤ cost → IsAtOnce program m too_many
   too_many_at_once m cost h many = subst (λ (n : ℕ). IsAtOnce program m n) (capped h) h
     where
@@ -135,4 +135,4 @@ module _ (program : Program) where
   pub no_uniques : (b : Bool) (bound : PageBound) → GivesBack program b → ((count : ℕ) → bound ≡ bounds.Pages count → ⊥) → IsUniqueAnswer program bound → IsPageAnswer program bound
   no_uniques b (bounds.Pages count) gives other h = absurd (other count refl)
   no_uniques b bounds.TooMany gives other (class, below, is) = (b, gives, measures.Uniques class, below, of_uniques b class too_many is)
-  no_uniques b bounds.Circle gives other (class, below, is) = (b, gives, measures.Uniques class, below, is)
+  no_uniques b bounds.Cycle gives other (class, below, is) = (b, gives, measures.Uniques class, below, is)

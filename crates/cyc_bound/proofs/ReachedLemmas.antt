@@ -1,5 +1,4 @@
--- A walk over the functions that `main` leads to: each of those that were found is led to, and what the walk is through with calls nothing
--- that was not found.
+-- The walk over the functions reachable from `main`: each function found is reachable, and the callees of each visited function are found.
 use Rattle.std.proofs.Common.{◌≡◌, ℕ, suc, ◌+◌, ◌<◌, ◌≤◌, ◌⊎◌, Bool, List, [], ◌∷◌, ◌++◌, length, get_or, sym, ap, subst, ◌∙◌, inl, inr, arith}
 use Rattle.std.specs.Prelude.{slice_get, Contains}
 use Rattle.std.proofs.lemmas.Bool.{cases_lt}
@@ -9,11 +8,11 @@ use Rattle.cyc_words.proofs.Items.{get_or_before}
 use Rattle.cyc_types.specs.TypedTrees.{Program}
 use Rattle.cyc_bound.specs.Bound.{callees_of, Calls, Row, Alone, Before}
 use Rattle.cyc_bound.specs.inside.Reached.{AreMarked, IsNoted, AreLedTo, AreReached}
-use Rattle.cyc_bound.proofs.CallLemmas.{behind}
+use Rattle.cyc_bound.proofs.CallLemmas.{following}
 use Rattle.cyc_bound.proofs.WalkLemmas.{calls_at}
 
 module _ (program : Program) where
-  -- what is known when the walk is through with the functions before this place
+  -- the facts when the walk has visited the functions before this position
   pub record IsWalked (marks : List Bool) (found : List ℕ) (place : ℕ) : Type 0 where
     pub marked : AreMarked marks found
     pub first : Contains found program.main
@@ -32,7 +31,7 @@ module _ (program : Program) where
     | inr more ↦ ap (λ (l : List ℕ). get_or l k 0) more ∙ get_or_before before f k less
   ]
 
-  -- nothing else is new
+  -- no other function is new
   new_one : (before : List ℕ) (f : ℕ) (marks : List Bool) (after : List ℕ) → IsNoted before f marks after → (g : ℕ) → Contains after g → Contains before g ⊎ (f ≡ g)
   new_one before f marks after h g is = elim h.alike [
     | inl same ↦ inl (subst (λ (l : List ℕ). Contains l g) same is)
@@ -64,7 +63,7 @@ module _ (program : Program) where
         kept found f marked after h callee (w.closed k below callee before);
   }
 
-  -- and of this function, with the callees before this one
+  -- the facts while the walk visits a function, after the callees before this index
   pub record IsAtPlace (function : ℕ) (callees : List ℕ) (i : ℕ) (marks : List Bool) (found : List ℕ) (place : ℕ) : Type 0 where
     pub walked : IsWalked marks found place
     pub less : place < length found
@@ -77,7 +76,7 @@ module _ (program : Program) where
   place_next function callees i callee marks marked found after place h less at n =
       let call = calls_at program function callees i callee h.are less at in
       let led = h.walked.led function (subst (λ (g : ℕ). Contains found g) h.here (Contains-get_or found place 0 h.less)) in record {
-        walked = walk_more marks marked found after place callee h.walked (omega (arith, h.less)) (suc led.0, behind program program.main function callee led.0 led.1 call) n;
+        walked = walk_more marks marked found after place callee h.walked (omega (arith, h.less)) (suc led.0, following program program.main function callee led.0 led.1 call) n;
         less = longer n.alike;
         here = same_at found callee marked after n place h.less ∙ h.here;
         are = h.are;
@@ -109,7 +108,7 @@ module _ (program : Program) where
     ];
   }
 
-  -- the walk is through with all
+  -- the walk has visited all functions
   pub walk_ends : (marks : List Bool) (found : List ℕ) (place : ℕ) → IsWalked marks found place → length found ≤ place → AreReached program found
   walk_ends marks found place w whole = (λ f count row. from program.main f count row w.first, w.led)
     where

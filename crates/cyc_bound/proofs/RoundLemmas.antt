@@ -1,5 +1,4 @@
--- What rounds make of costs: they stay below all that are enough, and come to at least as many calls, one behind the other, as there were
--- rounds.
+-- The effect of rounds on costs: they stay below all sufficient costs, and cover at least as many nested calls as there were rounds.
 use Rattle.std.proofs.Common.{◌≡◌, ℕ, suc, ◌+◌, ◌<◌, ◌≤◌, max, List, length, get_or, sym, ap, subst, ◌∙◌, inl, inr, arith}
 use Rattle.std.proofs.lemmas.Bool.{cases_eq, cases_lt}
 use Rattle.std.proofs.lemmas.List.{length-set, get_or-set_same, get_or-set_other, set_past}
@@ -50,14 +49,14 @@ module _ (program : Program) (m : Measure) where
 
   -- ---- one round
 
-  -- as AreRaised, for the functions before this one
+  -- `AreRaised`, for the functions before this one
   pub record AreRaisedTo (before : List ℕ) (i : ℕ) (after : List ℕ) : Type 0 where
     pub all : length after ≡ length before
     pub more : Below before after
     pub next : (f : ℕ) → f < i → N before f ≤ get_or after f 0
     pub least : (others : List ℕ) → IsClosed program m others → Below before others → Below after others
 
-  -- any function may be made costlier at any time
+  -- any function's cost may be raised at any time
   pub to_same : (before : List ℕ) (i : ℕ) (after : List ℕ) (f : ℕ) → AreRaisedTo before i after → AreRaisedTo before i (raised program m after f)
   to_same before i after f h = record {
     all = length-set after f (max (get_or after f 0) (N after f)) ∙ h.all;

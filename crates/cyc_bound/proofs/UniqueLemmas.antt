@@ -25,14 +25,14 @@ blocks_some (suc (suc (suc (suc (suc (suc (suc (suc (suc zero))))))))) below = o
 blocks_some (suc (suc (suc (suc (suc (suc (suc (suc (suc (suc zero)))))))))) below = omega arith
 blocks_some (suc (suc (suc (suc (suc (suc (suc (suc (suc (suc (suc class))))))))))) below = absurd (omega (arith, below))
 
--- fewer than there are blocks and blocks in a page
+-- the pages of a class are fewer than the blocks plus the blocks in a page
 few_pages : (class blocks : ℕ) → class ≤ greatest_class → blocks < too_many → pages_for class blocks ≤ 2 ^ 51
 few_pages class blocks below few =
     let in_page : blocks_in_page class ≤ 1024 = div-le_self 1024 (2 ^ class) in
     omega (arith, div-le_self (blocks + (blocks_in_page class - 1)) (blocks_in_page class), few, in_page)
 
 module _ (program : Program) where
-  -- ---- what is not less than is counted
+  -- ---- costs at the greatest counted value
 
   pub not_found : (m : Measure) (o : Option ℕ) → ((cost : ℕ) → o ≡ Some cost → ⊥) → IsFound program m o → StillGrow program m
   not_found m None other h = h
@@ -46,7 +46,7 @@ module _ (program : Program) where
   pub so_far_none : UniquesSoFar program 0 0
   so_far_none = (λ m. 0, (refl, (omega arith, λ other less. absurd (omega (arith, less)))))
 
-  -- as before, but for one class
+  -- the cost function, changed for one class
   abbrev with_class : (class blocks : ℕ) → (Measure → ℕ) → Measure → ℕ
   with_class class blocks cost (measures.Uniques other) = if other == class then blocks else cost (measures.Uniques other)
   with_class class blocks cost m = cost m

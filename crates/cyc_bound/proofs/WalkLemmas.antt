@@ -1,13 +1,13 @@
--- What the walk over calls goes by: paths and circles, rows that are joined, and heights.
+-- Lemmas for the walk over calls: paths and cycles, rows that are joined, and heights.
 use Rattle.std.proofs.Common.{◌≡◌, ℕ, zero, suc, ◌+◌, ◌<◌, ◌≤◌, max, List, [], ◌∷◌, ◌++◌, length, get_or, set, drop, subst, sym, ap, ◌∙◌, inl, inr, arith}
 use Rattle.std.specs.Prelude.{slice_get, Contains}
 use Rattle.std.proofs.lemmas.Bool.{cases_eq, cases_lt}
 use Rattle.std.proofs.lemmas.List.{get_or-set_same, get_or-set_other, get_or_default, set_past}
 use Rattle.cyc_words.proofs.Members.{Contains-read}
 use Rattle.cyc_types.specs.TypedTrees.{Program}
-use Rattle.cyc_bound.specs.Bound.{callees_of, Calls, Row, Alone, Before, IsAtMost, IsHeight, most_calls, LeadTo, IsCircle}
+use Rattle.cyc_bound.specs.Bound.{callees_of, Calls, Row, Alone, Before, IsAtMost, IsHeight, most_calls, LeadTo, IsCycle}
 use Rattle.cyc_bound.specs.inside.Walk.{AreHeights}
-use Rattle.cyc_bound.proofs.CallLemmas.{behind}
+use Rattle.cyc_bound.proofs.CallLemmas.{following}
 
 module _ (program : Program) where
   -- ---- paths
@@ -17,31 +17,31 @@ module _ (program : Program) where
   lead_more (x ∷ []) f g h call = (h, call)
   lead_more (x ∷ y ∷ path) f g h call = (h.0, lead_more (y ∷ path) f g h.1 call)
 
-  -- where a path comes back to one of its functions there is a circle
-  pub circle_from : (path : List ℕ) (n f count : ℕ) → LeadTo program path f → n < length path → get_or path n 0 ≡ f → Row program program.main f count → IsCircle program (drop n path)
-  circle_from [] n f count h less at row = absurd (omega (arith, less))
-  circle_from (x ∷ path) zero f count h less at row =
+  -- a path that returns to one of its functions contains a cycle
+  pub cycle_from : (path : List ℕ) (n f count : ℕ) → LeadTo program path f → n < length path → get_or path n 0 ≡ f → Row program program.main f count → IsCycle program (drop n path)
+  cycle_from [] n f count h less at row = absurd (omega (arith, less))
+  cycle_from (x ∷ path) zero f count h less at row =
       (subst (λ (g : ℕ). LeadTo program (x ∷ path) g) (sym at) h, (count, subst (λ (g : ℕ). Row program program.main g count) (sym at) row))
-  circle_from (x ∷ []) (suc n) f count h less at row = absurd (omega (arith, less))
-  circle_from (x ∷ y ∷ path) (suc n) f count h less at row = circle_from (y ∷ path) n f count h.1 (omega (arith, less)) at row
+  cycle_from (x ∷ []) (suc n) f count h less at row = absurd (omega (arith, less))
+  cycle_from (x ∷ y ∷ path) (suc n) f count h less at row = cycle_from (y ∷ path) n f count h.1 (omega (arith, less)) at row
 
-  -- ---- rows
+  -- ---- chains of calls
 
   pub row_counts : (f g m n : ℕ) → m ≡ n → Row program f g m → Row program f g n
   row_counts f g m n same row = subst (λ (k : ℕ). Row program f g k) same row
 
-  pub row_behind : (first last next count : ℕ) → Row program first last count → Calls program last next → Row program first next (count + 1)
-  row_behind first last next count row call = row_counts first next (suc count) (count + 1) (omega arith) (behind program first last next count row call)
+  pub row_after : (first last next count : ℕ) → Row program first last count → Calls program last next → Row program first next (count + 1)
+  row_after first last next count row call = row_counts first next (suc count) (count + 1) (omega arith) (following program first last next count row call)
 
-  -- two rows, of which the second begins with the last function of the first
+  -- joining two chains, the second of which begins with the last function of the first
   pub rows_joined : (f g l m n : ℕ) → Row program f g m → Row program g l (suc n) → Row program f l (m + n)
   rows_joined f g l m n (Alone h) later = row_counts h l (suc n) (1 + n) (omega arith) later
   rows_joined f g l m n (Before a next b k call row) later =
       row_counts a l (suc (k + n)) (suc k + n) (omega arith) (Before a next l (k + n) call (rows_joined next b l k n row later))
 
-  -- ---- heights
+  -- ---- heights of functions
 
-  -- the height of a function by so many of those that it calls
+  -- the height of a function, computed from the first callees up to this number
   pub record IsSoFar (f : ℕ) (callees : List ℕ) (i height : ℕ) : Type 0 where
     pub some : 1 ≤ height
     pub few : height ≤ most_calls
@@ -88,7 +88,7 @@ module _ (program : Program) where
           let same : next ≡ get_or callees k 0 = sym at ∙ get_or_default callees k next 0 less in
           omega (arith, h.above k (omega (arith, less, whole)) l n (subst (λ (g : ℕ). Row program g l n) same row))
 
-  -- a height more is noted
+  -- the table after storing another height
   pub heights_more : (heights : List ℕ) (f height : ℕ) → AreHeights program heights → IsHeight program f height → height ≤ most_calls → AreHeights program (set heights f height)
   heights_more heights f height are is few g above = elim (cases_eq g f) [
     | inl same ↦ elim (cases_lt f (length heights)) [
@@ -102,7 +102,7 @@ module _ (program : Program) where
         subst (λ (n : ℕ). 0 < n → IsHeight program g n × (n ≤ most_calls)) there (are g) above
   ]
 
-  -- a call of a function that is as high as is told makes a row longer than that
+  -- a call of a function with the greatest reported height gives a longer chain
   pub deep_through : (f : ℕ) (callees : List ℕ) (i callee count before : ℕ) → callees ≡ callees_of (slice_get program.functions f) → i < length callees → callee ≡ get_or callees i callee
       → Row program program.main f before → 1 ≤ before → IsHeight program callee count → most_calls ≤ count → (last n : ℕ) × Row program program.main last n × (most_calls < n)
   deep_through f callees i callee count before are less at row some is many =
@@ -112,20 +112,20 @@ module _ (program : Program) where
   pub calls_at : (f : ℕ) (callees : List ℕ) (i callee : ℕ) → callees ≡ callees_of (slice_get program.functions f) → i < length callees → callee ≡ get_or callees i callee → Calls program f callee
   calls_at f callees i callee are less at = subst (λ (cs : List ℕ). Contains cs callee) are (Contains-read callees i callee less at)
 
-  -- ---- circles
+  -- ---- cycles of calls
 
   round : (f : ℕ) (functions : List ℕ) (g : ℕ) → LeadTo program (f ∷ functions) g → Row program f g (suc (suc (length functions)))
   round f [] g h = Before f g g 1 h (Alone g)
   round f (next ∷ functions) g h = Before f next g (suc (suc (length functions))) h.0 (round next functions g h.1)
 
-  -- rows that go round as often as wanted
+  -- chains that go round a cycle as often as wanted
   grows : (f count : ℕ) (functions : List ℕ) → LeadTo program (f ∷ functions) f → Row program program.main f count → (times : ℕ) → (n : ℕ) × Row program program.main f n × (times ≤ n)
   grows f count functions h row zero = (count, row, omega arith)
   grows f count functions h row (suc times) =
       let (n, so_far, less) = grows f count functions h row times in
       (n + suc (length functions), rows_joined program.main f f n (suc (length functions)) so_far (round f functions f h), omega (arith, less))
 
-  pub no_bound : (functions : List ℕ) (bound : ℕ) → IsCircle program functions → IsAtMost program program.main bound → ⊥
+  pub no_bound : (functions : List ℕ) (bound : ℕ) → IsCycle program functions → IsAtMost program program.main bound → ⊥
   no_bound [] bound is most = is
   no_bound (f ∷ functions) bound is most =
       let (n, row, less) = grows f is.1.0 functions is.0 is.1.1 (suc bound) in

@@ -1,6 +1,6 @@
--- What a run costs at most, read off a typed tree: its steps, or the regions or the blocks of one sort that it makes. Costs of parts that
--- are executed one after the other are added, of two of which one is executed the greater one counts, and an array's element counts as
--- often as it may be evaluated. A loop that costs anything has no bound, and its cost is as great as is counted. (This project's own choice.)
+-- Upper bounds on the costs of a run, computed from a typed tree: its steps, or its regions or blocks of one kind. The costs of consecutive
+-- parts are added, of two alternatives the greater one counts, and an array's element counts for each possible evaluation. A loop that
+-- costs anything has no bound; its cost is the greatest counted value. The definition of these costs is this project's own choice.
 use Rattle.std.specs.Prelude.{◌≡◌, ◌<◌, ◌≤◌, ℕ, zero, suc, ◌+◌, ◌*◌, ◌^◌, ◌==◌, if◌then◌else◌, min, max, List, [], map, length, Option, None, Some, get_or}
 use Rattle.cyc_words.specs.Demand.{class_of}
 use Rattle.cyc_types.specs.declared.typed.Kind.{Kind}
@@ -10,7 +10,7 @@ use Rattle.cyc_types.specs.declared.typed.Callee.TheVariants as callees
 use Rattle.cyc_types.specs.TypedTrees.{Expression, Number, HeapRegion, Load, AddressOfCell, NumberOfElements, FreeUnique, FreeKey, Call, Unary, Binary, Assign, Store, New, Dereference, Target, Member, Element, Placement, OnHeap, AsUnique, ByHandle}
 use Rattle.cyc_types.specs.TypedTrees.{Initial, Plain, Fields, Array, Converted, Convert, Arguments, NoArguments, MoreArguments, Operations, NoOperations, ThenCompute, ThenTest, ThenPointer, ThenPointerPeek, Side, VariableSide, CellSide, Statement}
 use Rattle.cyc_types.specs.TypedTrees.{Block, Evaluate, Swap, If, While, Return, Throw, Try, Item, Items, NoItems, MoreItems, Execute, Declare, DeclareRegion, OpenRegion, DeclareAlias, DeclareKey, Clauses, NoClauses, Default, Case, Function, Program}
-use Rattle.cyc_meaning.specs.Values.{bytes_of_kind, behind, words_for}
+use Rattle.cyc_meaning.specs.Values.{bytes_of_kind, following, words_for}
 use Rattle.cyc_meaning.specs.Allocation.{most_words}
 use Rattle.cyc_bound.specs.declared.costs.Measure.{Measure}
 use Rattle.cyc_bound.specs.declared.costs.Measure.TheVariants as measures
@@ -19,28 +19,28 @@ use Rattle.cyc_bound.specs.declared.costs.Site.TheVariants as sites
 use Rattle.cyc_bound.specs.declared.steps.StepBound.{StepBound}
 use Rattle.cyc_bound.specs.declared.steps.StepBound.TheVariants as bounds
 
--- as much as is counted: what costs more is not told apart
+-- the greatest counted value; all greater costs count as this value
 abbrev pub too_many : ℕ
 too_many = 2 ^ 50
 
--- ---- what is counted
+-- ---- unit costs
 
--- a step
+-- the cost of a step
 abbrev pub step_cost : Measure → ℕ
 step_cost measures.Steps = 1
 step_cost m = 0
 
--- a region that has pages: the heap, or one that a program declares
+-- the cost of opening a region with pages: the heap, or one that a program declares
 abbrev pub opening_cost : Measure → ℕ
 opening_cost measures.Openings = 1
 opening_cost m = 0
 
--- what may outlast every lexical region: the heap's handle where it is a value, and a dynamic region
+-- the cost of something that may outlast every lexical region: a handle of the heap used as a value, or a dynamic region
 abbrev pub lasting_cost : Measure → ℕ
 lasting_cost measures.Lasting = 1
 lasting_cost m = 0
 
--- a block of so many words, by where it is made: on the heap, by a handle, or as a unique one
+-- the cost of a block of this many words, by its site: on the heap, by a handle, or unique
 abbrev pub block_cost : Measure → Site → (size : ℕ) → ℕ
 block_cost measures.Blocks sites.Heap size = 1
 block_cost measures.Blocks sites.Region size = 1
@@ -53,7 +53,7 @@ block_cost measures.RegionWords sites.Region size = size
 block_cost (measures.Uniques class) sites.Unique size = if class_of size == class then 1 else 0
 block_cost m site size = 0
 
--- a block of an array whose length is not known
+-- the cost of a block for an array of unknown length
 abbrev pub array_block_cost : Measure → Site → ℕ
 array_block_cost measures.Blocks sites.Heap = 1
 array_block_cost measures.Blocks sites.Region = 1
@@ -68,36 +68,36 @@ array_block_cost m site = 0
 
 -- ---- new objects
 
--- the words of an object of so many bytes
+-- the number of words of an object with this many bytes
 abbrev pub size_of_bytes : ℕ → ℕ
 size_of_bytes bytes = max 1 (words_for bytes)
 
--- the most elements of this kind that an array may have
+-- the largest number of elements of this kind in an array
 abbrev pub most_elements : Kind → ℕ
 most_elements kinds.Char = 4000
 most_elements kinds.Fat = 333
 most_elements kind = 1000
 
--- the length of an array, where it is written
+-- the length of an array, if it is written as a number
 abbrev pub written_length : Expression → Option ℕ
 written_length (Number n) = Some n
 written_length a = None
 
--- where an object is made that is placed so
+-- the site of an object with this placement
 abbrev pub site_of : Placement → Site
 site_of OnHeap = sites.Heap
 site_of AsUnique = sites.Unique
 site_of (ByHandle a) = sites.Region
 
--- A cell that is made and written: its block, one step for it, one for the write and two to hand the pointer on.
+-- The cost of a new cell: its block, one step for the allocation, one for the write, and two to pass on the pointer.
 abbrev pub plain_cost : Measure → Site → Kind → ℕ
-plain_cost m site kind = 3 * step_cost m + block_cost m site (size_of_bytes (behind kind 0))
+plain_cost m site kind = 3 * step_cost m + block_cost m site (size_of_bytes (following kind 0))
 
--- so many fields are there, and so many bytes
+-- the cost of allocating and writing this many fields, which have this many bytes
 abbrev pub fields_made_cost : Measure → Site → (count bytes : ℕ) → ℕ
 fields_made_cost m site count bytes = count * step_cost m + (2 * step_cost m + block_cost m site (size_of_bytes bytes))
 
--- an array of so many elements, each of which costs so much
+-- the cost of evaluating this many elements, each of this cost
 abbrev pub elements_cost : Measure → (element count : ℕ) → ℕ
 elements_cost m element count = count * (step_cost m + element) + 3 * step_cost m
 
@@ -108,7 +108,7 @@ array_cost m site kind element (Some n) =
 
 -- ---- expressions
 
--- a call, once its arguments are evaluated, by what functions cost
+-- the cost of a call after the evaluation of its arguments, given the costs of functions
 abbrev pub callee_cost : Measure → (costs : List ℕ) → Callee → ℕ
 callee_cost m costs (callees.Function number) = 2 * step_cost m + get_or costs number 0
 callee_cost m costs service = 2 * step_cost m
@@ -134,7 +134,7 @@ abbrev mutual
   place_cost m costs (Member k a s f t) = 2 * step_cost m + expression_cost m costs a
   place_cost m costs (Element a i t) = 3 * step_cost m + (expression_cost m costs a + expression_cost m costs i)
 
-  -- a handle is evaluated, and is let go once the object is made
+  -- the cost of evaluating a handle, and of dropping it after the allocation
   pub placement_cost : Measure → (costs : List ℕ) → Placement → ℕ
   placement_cost m costs OnHeap = 0
   placement_cost m costs AsUnique = 0
@@ -146,13 +146,13 @@ abbrev mutual
   initial_cost m costs site (Array p l n k a) =
       expression_cost m costs n + array_cost m site k (expression_cost m costs a) (written_length n)
 
-  -- behind so many fields, which have so many bytes
+  -- the cost of the further fields, after this many fields of this many bytes
   pub fields_cost : Measure → (costs : List ℕ) → Site → (count bytes : ℕ) → Arguments → ℕ
   fields_cost m costs site count bytes NoArguments = fields_made_cost m site count bytes
   fields_cost m costs site count bytes (MoreArguments (Convert from to a) cs) =
-      expression_cost m costs a + step_cost m + fields_cost m costs site (suc count) (behind to bytes) cs
+      expression_cost m costs a + step_cost m + fields_cost m costs site (suc count) (following to bytes) cs
 
-  -- evaluated and converted
+  -- the cost of evaluating and converting an expression
   pub converted_cost : Measure → (costs : List ℕ) → Converted → ℕ
   converted_cost m costs (Convert from to a) = expression_cost m costs a + step_cost m
 
@@ -169,7 +169,7 @@ abbrev mutual
 
 -- ---- statements
 
--- what may be left out
+-- the cost of an optional value
 abbrev pub value_cost : Measure → (costs : List ℕ) → Option Converted → ℕ
 value_cost m costs None = 0
 value_cost m costs (Some c) = converted_cost m costs c
@@ -182,12 +182,12 @@ abbrev pub side_cost : Measure → (costs : List ℕ) → Side → ℕ
 side_cost m costs (VariableSide l t) = 0
 side_cost m costs (CellSide d) = place_cost m costs d
 
--- any number of turns, of which each costs so much
+-- the cost of any number of iterations, each of this cost
 abbrev pub loop_cost : ℕ → ℕ
 loop_cost zero = 0
 loop_cost (suc turn) = too_many
 
--- the items of a clause, with the local that gets the exception's int
+-- the cost of the items of a clause, with the local that receives the exception's int
 abbrev pub caught_cost : Measure → Option ℕ → (items : ℕ) → ℕ
 caught_cost m None items = 2 * step_cost m + items
 caught_cost m (Some number) items = 3 * step_cost m + items
@@ -204,7 +204,7 @@ abbrev mutual
   statement_cost m costs (Try s cs) = step_cost m + (statement_cost m costs s + clauses_cost m costs cs)
   statement_cost m costs s = 2 * step_cost m
 
-  -- one item of a block
+  -- the cost of one item of a block
   pub item_cost : Measure → (costs : List ℕ) → Item → ℕ
   item_cost m costs (Execute s) = statement_cost m costs s
   item_cost m costs (Declare n t v) = step_cost m + value_cost m costs v
@@ -217,7 +217,7 @@ abbrev mutual
   items_cost m costs NoItems = step_cost m
   items_cost m costs (MoreItems j js) = item_cost m costs j + items_cost m costs js
 
-  -- clauses are tried one by one
+  -- the cost of clauses, which are tried one by one
   pub clauses_cost : Measure → (costs : List ℕ) → Clauses → ℕ
   clauses_cost m costs NoClauses = 2 * step_cost m
   clauses_cost m costs (Default r js) = caught_cost m None (step_cost m + items_cost m costs js)
@@ -225,53 +225,55 @@ abbrev mutual
 
 -- ---- functions
 
--- a call of a function, from the opening of its region on
+-- the cost of a call of a function, from the opening of its region on
 abbrev pub function_cost : Measure → (costs : List ℕ) → Function → ℕ
 function_cost m costs h = length h.parameters * step_cost m + (4 * step_cost m + items_cost m costs h.body)
 
--- what functions cost by what their bodies cost, where those that they call cost so much
+-- the costs of functions computed from their bodies, given the costs of their callees
 abbrev pub next_costs : Program → Measure → (costs : List ℕ) → List ℕ
 next_costs program m costs = map (λ (h : Function). min too_many (function_cost m costs h)) program.functions
 
--- nowhere more
+-- each cost in the first list is at most that in the second
 abbrev pub Below : List ℕ → List ℕ → Type 0
 Below costs others = (f : ℕ) → get_or costs f 0 ≤ get_or others f 0
 
--- what is told of each function is enough for its body
+-- the cost of each function suffices for its body
 abbrev pub IsClosed : Program → Measure → (costs : List ℕ) → Type 0
 IsClosed program m costs = Below (next_costs program m costs) costs
 
--- What functions cost: the least that is enough for all of them, and so one number for each. Where functions lead back to themselves and
--- nothing is counted on the way round, they cost no more than what else they do.
+-- The costs of functions: the least that suffice for all of them, so they are unique. If functions call each other in a cycle and nothing
+-- is counted on the way, the cycle adds nothing.
 abbrev pub AreCosts : Program → Measure → (costs : List ℕ) → Type 0
 AreCosts program m costs = IsClosed program m costs × ((others : List ℕ) → IsClosed program m others → Below costs others)
 
--- What a run costs, where functions cost so much: with the heap, which is there from the start, and the end of the call of `main`.
+-- The cost of a run, given the costs of functions. The cost of a run includes the heap, which exists from the start, and the end of the
+-- call of `main`.
 abbrev pub run_cost : Program → Measure → (costs : List ℕ) → ℕ
 run_cost program m costs = min too_many (step_cost m + (opening_cost m + get_or costs program.main 0))
 
 abbrev pub IsRunCost : Program → Measure → ℕ → Type 0
 IsRunCost program m cost = (costs : List ℕ) × AreCosts program m costs × (cost ≡ run_cost program m costs)
 
--- ---- costs that are not told
+-- ---- costs without a bound
 
--- by so many calls, one behind the other, where the last of them cost nothing
+-- the costs after this many rounds, in which the innermost calls cost nothing
 abbrev pub costs_after : Program → Measure → (rounds : ℕ) → List ℕ
 costs_after program m zero = []
 costs_after program m (suc rounds) = next_costs program m (costs_after program m rounds)
 
--- the rounds in which costs may settle
+-- the number of rounds after which the search for costs stops
 abbrev pub most_rounds : ℕ
 most_rounds = 16
 
--- after as many rounds costs still grow
+-- the costs still grow after the last round
 abbrev pub StillGrow : Program → Measure → Type 0
 StillGrow program m = IsClosed program m (costs_after program m most_rounds) → ⊥
 
--- ---- what is told of steps
+-- ---- the result for steps
 
--- a number of steps by which every run is over; that no number below `too_many` is one by the costs; or that the costs still grow
+-- a number of steps after which every run is over; or no such number of steps below `too_many` follows from the costs; or the costs still
+-- grow
 abbrev pub IsStepAnswer : Program → StepBound → Type 0
 IsStepAnswer program (bounds.Steps count) = IsRunCost program measures.Steps count × (count < too_many)
 IsStepAnswer program bounds.TooMany = IsRunCost program measures.Steps too_many
-IsStepAnswer program bounds.Circle = StillGrow program measures.Steps
+IsStepAnswer program bounds.Cycle = StillGrow program measures.Steps

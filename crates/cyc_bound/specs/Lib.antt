@@ -1,10 +1,11 @@
--- which functions a program calls, and how many calls may be under way
+-- the functions that a program calls, and a bound on the active calls
 pub mod Callees
 pub mod Bound
--- runs that are over, and what they cost at most
+-- runs that are over, and upper bounds on their costs
 pub mod Steps
 pub mod Costs
 pub mod AtOnce
 pub mod Pages
--- What the functions of this crate promise each other and what its proofs say: no public contract of the product means it.
+-- Contracts between this crate's functions, and statements of its proofs. No public contract of the product depends on these internal
+-- definitions.
 pub mod inside

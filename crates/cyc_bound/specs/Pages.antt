@@ -1,9 +1,9 @@
--- How many pages a program may ask for, by what its runs cost: of regions by the blocks that are made in them and by their words, and of
--- unique blocks by how many of each class are made.
+-- An upper bound on the pages of a program, computed from the costs of its runs. The counted costs are the number and the words of the
+-- blocks in regions, and the number of unique blocks of each class.
 --
--- Where nothing can outlast every lexical region but what `new` makes, the end of a region that is declared outside of others gives back
--- all that was opened and made in it. Else nothing is taken off for what closes. Nothing is for what `ufree` gives back. (This project's own
--- choice.)
+-- If only objects made by `new` can outlast every lexical region, the end of an outermost region frees everything that was opened and
+-- allocated in it. If other objects may outlast every lexical region, nothing is subtracted when regions close. Freeing a unique block by
+-- `ufree` subtracts nothing from the bound. The bound on pages is this project's own choice.
 use Rattle.std.specs.Prelude.{◌≡◌, ◌<◌, ◌≤◌, ◌⊎◌, ℕ, zero, suc, ◌+◌, ◌*◌, ◌/◌, Bool, true, false, min}
 use Rattle.cyc_words.specs.Demand.{page_words, greatest_class, pages_for}
 use Rattle.cyc_types.specs.TypedTrees.{Program}
@@ -16,13 +16,13 @@ use Rattle.cyc_bound.specs.AtOnce.{IsAtOnce}
 
 -- ---- two ways to count
 
--- Whether lexical regions give back: where a run costs no handle of the heap as a value and no dynamic region. Each object that is made by a
--- handle is in a lexical region then.
+-- True if lexical regions free everything allocated by a handle: a run uses no handle of the heap as a value, and no dynamic region. In
+-- such a program, each object allocated by a handle is in a lexical region.
 abbrev pub GivesBack : Program → (gives_back : Bool) → Type 0
 GivesBack program true = IsRunCost program measures.Lasting 0
 GivesBack program false = ((cost : ℕ) × IsRunCost program measures.Lasting (suc cost)) ⊎ StillGrow program measures.Lasting
 
--- What pages are asked for by. Where lexical regions give back the heap is counted apart.
+-- The measures that determine the pages. If lexical regions free what is allocated by a handle, the heap is counted separately.
 abbrev pub IsForPages : (gives_back : Bool) → Measure → Type 0
 IsForPages gives_back (measures.Uniques class) = class ≤ greatest_class
 IsForPages gives_back measures.Openings = Unit {0}
@@ -34,31 +34,32 @@ IsForPages false measures.Blocks = Unit {0}
 IsForPages false measures.Words = Unit {0}
 IsForPages gives_back m = ⊥
 
--- how much of it there may be: what regions have that are open at once, and else what a run costs
+-- the cost for one measure: that of regions open simultaneously if regions free their content, otherwise that of a run
 abbrev pub IsCost : Program → (gives_back : Bool) → Measure → ℕ → Type 0
 IsCost program true measures.Openings cost = IsAtOnce program measures.Openings cost
 IsCost program true measures.RegionBlocks cost = IsAtOnce program measures.RegionBlocks cost
 IsCost program true measures.RegionWords cost = IsAtOnce program measures.RegionWords cost
 IsCost program gives_back m cost = IsRunCost program m cost
 
--- that is how much there may be, and it is less than is counted
+-- the cost for each measure, provided that all are less than the greatest counted value
 abbrev pub AreCounted : Program → (gives_back : Bool) → (cost : Measure → ℕ) → Type 0
 AreCounted program gives_back cost =
     GivesBack program gives_back × ((m : Measure) → IsForPages gives_back m → IsCost program gives_back m (cost m) × (cost m < too_many))
 
 -- ---- pages
 
--- Pages behind the first ones of regions. Each begins with a block, and two that stand side by side in a region have more words than one
--- page: by so many blocks and words in all.
+-- The number of pages after the first ones of regions, given the total blocks and words. Each further page begins with a block, and two
+-- consecutive pages of a region contain more words than one page.
 abbrev pub further_pages : (blocks words : ℕ) → ℕ
 further_pages blocks words = min blocks (2 * words / suc page_words)
 
--- the pages of as many classes of unique blocks, from the least on
+-- the pages of the first classes of unique blocks
 abbrev pub unique_pages : (cost : Measure → ℕ) → (classes : ℕ) → ℕ
 unique_pages cost zero = 0
 unique_pages cost (suc class) = unique_pages cost class + pages_for class (cost (measures.Uniques class))
 
--- a page for each region and what else they ask for: where they give back, for the heap, and for the lexical regions that are open at once
+-- The pages of all regions: one for each, and the further ones. If lexical regions free their content, the pages of the heap and those of
+-- the regions open simultaneously are added.
 abbrev pub most_region_pages : (gives_back : Bool) → (cost : Measure → ℕ) → ℕ
 most_region_pages true cost =
     1 + further_pages (cost measures.HeapBlocks) (cost measures.HeapWords)
@@ -68,11 +69,11 @@ most_region_pages false cost = cost measures.Openings + further_pages (cost meas
 abbrev pub most_pages : (gives_back : Bool) → (cost : Measure → ℕ) → ℕ
 most_pages gives_back cost = most_region_pages gives_back cost + unique_pages cost (suc greatest_class)
 
--- ---- what is told
+-- ---- the result for pages
 
--- What is told of pages: a number that no run goes past; that one of the counts has no bound below `too_many` by the costs; or that one of
--- them still grows.
+-- The result for pages: a number that no run exceeds. The result has no number if one of the counts has no bound below `too_many` by the
+-- costs. The result also has no number if one of the counts still grows.
 abbrev pub IsPageAnswer : Program → PageBound → Type 0
 IsPageAnswer program (bounds.Pages count) = (gives_back : Bool) × (cost : Measure → ℕ) × AreCounted program gives_back cost × (count ≡ most_pages gives_back cost)
 IsPageAnswer program bounds.TooMany = (gives_back : Bool) × GivesBack program gives_back × (m : Measure) × IsForPages gives_back m × IsCost program gives_back m too_many
-IsPageAnswer program bounds.Circle = (gives_back : Bool) × GivesBack program gives_back × (m : Measure) × IsForPages gives_back m × StillGrow program m
+IsPageAnswer program bounds.Cycle = (gives_back : Bool) × GivesBack program gives_back × (m : Measure) × IsForPages gives_back m × StillGrow program m

@@ -1,7 +1,7 @@
--- Runs that are over. (This project's own choice.)
+-- The states in which a run is over. The definition of states that are over is this project's own choice.
 use Rattle.cyc_meaning.specs.State.{State, Running, Ended, Dead, Wrong}
 
--- a run goes on no more
+-- the state is not running
 abbrev pub IsOver : State → Type 0
 IsOver (Running focus stack e w) = ⊥
 IsOver (Ended ending output input) = Unit {0}

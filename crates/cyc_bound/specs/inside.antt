@@ -1,17 +1,17 @@
--- what waits in a state, and which calls that is of
+-- an invariant on the active calls of a state
 pub mod UnderWay
--- parts of lists, and what the walk over calls promises itself
+-- parts of lists, and the contract of the walk over calls
 pub mod Parts
 pub mod Walk
--- what a run still costs in each of its states
+-- the remaining cost of each state of a run
 pub mod Remaining
--- parts of lists, as costs are added up
+-- the costs of parts of lists
 pub mod ItemCosts
--- what holds where lexical regions give back
+-- an invariant for programs whose lexical regions free their content
 pub mod Outermost
--- rounds in which the costs of functions settle
+-- the rounds in which the costs of functions are found
 pub mod Rounds
--- the functions that `main` leads to
+-- the functions reachable from `main`
 pub mod Reached
--- regions that are open at once
+-- regions that are open simultaneously
 pub mod RegionCosts

@@ -1,4 +1,4 @@
-//! What lexical regions cost that are open at once: the costliest of those that a program declares where no other one is open.
+//! The cost of lexical regions that are open simultaneously: that of the costliest outermost region of a program.
 ghost use Rattle.std.specs.Prelude.{◌≡◌, false, min, slice_get, IfOk};
 ghost use Rattle.cyc_types.specs.TypedTrees.{NoClauses};
 ghost use Rattle.cyc_types.specs.TypedTreeView.{view_statement, view_item, view_program, items_of, clauses_of, default_of};
@@ -13,7 +13,7 @@ use crate::tree_costs::items_cost;
 use cyc_types::typed::{Body, Clause, Item, Stmt, TypedTree};
 use std::alloc::{AllocError, Global};
 
-/// Whether an item declares a lexical region.
+/// Returns true if an item declares a lexical region.
 pub(crate) fn opens(item: &Item) -> bool
     ensures { result ≡ opens (view_item item.now) }
 {
@@ -56,7 +56,7 @@ fn statement_at_once(measure: Measure, costs: &[u64], statement: &Stmt) -> u64
     }
 }
 
-/// An item that declares no region.
+/// Returns the cost of the costliest outermost region inside an item that declares no region.
 #[cycle(at_once)]
 fn item_at_once(measure: Measure, costs: &[u64], item: &Item) -> u64
     ensures { result ≡ min too_many (item_at_once measure costs.now (view_item item.now)) }
@@ -71,7 +71,7 @@ fn item_at_once(measure: Measure, costs: &[u64], item: &Item) -> u64
     }
 }
 
-/// A region is open to the end of its block.
+/// Returns the cost of the costliest outermost region of items; a region is open to the end of its block.
 #[cycle(at_once)]
 fn items_at_once(measure: Measure, costs: &[u64], items: &[Item]) -> u64
     ensures { result ≡ min too_many (items_at_once measure costs.now (items_of items.now)) }
@@ -109,7 +109,7 @@ fn default_at_once(measure: Measure, costs: &[u64], default: &Option<Body>) -> u
     }
 }
 
-/// The costliest outermost region of the function of this number, or 0.
+/// Returns the cost of the costliest outermost region of the function of this number, or 0.
 fn function_at_once(measure: Measure, costs: &[u64], tree: &TypedTree, function: usize) -> u64
     ensures { result ≡ min too_many (at_once_of measure costs.now (slice_get (view_program tree.now).functions function)) }
 {
@@ -119,8 +119,8 @@ fn function_at_once(measure: Measure, costs: &[u64], tree: &TypedTree, function:
     }
 }
 
-/// The costliest outermost region of all functions that `main` leads to, unless what functions cost still grows and
-/// nothing that is enough was found.
+/// Returns the cost of the costliest outermost region of all functions reachable from `main`. There is no result if the costs of functions
+/// still grow and no sufficient costs were found.
 pub(crate) fn cost_at_once(
     alloc: Global,
     tree: &TypedTree,

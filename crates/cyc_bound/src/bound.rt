@@ -1,6 +1,6 @@
-//! The bound on calls: a walk from `main` over the functions that it leads to, each of which is walked once.
+//! The bound on calls: a walk from `main` over the reachable functions, each visited once.
 //!
-//! The walk calls itself for each call on the way to a function, and so as often as a bound may be great and no more.
+//! The walk recurses for each call on the way to a function, so its depth is at most the greatest reported bound.
 ghost use Rattle.std.specs.Prelude.{◌≡◌, ◌+◌, ◌<◌, ◌≤◌, get_or, set, length, vec_len, slice_get, IfOk, IfSome};
 ghost use Rattle.cyc_types.specs.TypedTreeView.{view_program};
 ghost use Rattle.cyc_bound.specs.Bound.{Row, LeadTo, most_calls, IsAnswer};
@@ -10,21 +10,21 @@ use crate::callees::callees_of;
 use cyc_types::typed::TypedTree;
 use std::alloc::{AllocError, Global};
 
-/// The greatest bound that is told: limits allow one call more at most.
+/// The greatest bound that is reported; limits allow at most one call more.
 pub const MOST_CALLS: usize = 4095;
 
-/// How many calls a program may have under way.
+/// The bound on the active calls of a program.
 #[derive(Drop)]
 pub enum CallBound {
-    /// So many at most, that of `main` among them, and no fewer by the text.
+    /// At most this many calls are active, including that of `main`. No smaller number is a bound by the text of the program.
     Calls { count: usize },
-    /// There is no bound: each of these functions calls the next one, and the last one the first.
-    Circle { functions: Vec<usize> },
-    /// More than `MOST_CALLS` functions of which each calls the next.
+    /// No bound exists, because each of these functions calls the next one, and the last one calls the first.
+    Cycle { functions: Vec<usize> },
+    /// No bound is given, because a chain of calls has more than `MOST_CALLS` functions.
     Deep,
 }
 
-/// The height that is known of a function, or 0.
+/// Returns the known height of a function, or 0.
 fn known_height(heights: &[usize], function: usize) -> usize
     ensures { result ≡ get_or heights.now function 0 }
 {
@@ -34,7 +34,7 @@ fn known_height(heights: &[usize], function: usize) -> usize
     }
 }
 
-/// Notes the height of a function.
+/// Stores the height of a function.
 fn note_height(heights: &mut Vec<usize>, function: usize, height: usize)
     ensures { heights.new.items ≡ set heights.old.items function height }
 {
@@ -43,7 +43,7 @@ fn note_height(heights: &mut Vec<usize>, function: usize, height: usize)
     }
 }
 
-/// Where a function stands on a path.
+/// Returns the position of a function on a path.
 fn place_on(path: &[usize], function: usize) -> Option<usize>
     ensures { IfSome result (λ place. (place < length path.now) × (get_or path.now place 0 ≡ function)) }
 {
@@ -55,7 +55,8 @@ fn place_on(path: &[usize], function: usize) -> Option<usize>
     None
 }
 
-/// How far calls lead from a function, to which those on the path lead from `main`. The path is left as it was where the walk goes on.
+/// Returns the length of the longest chain of calls from a function; the functions on the path lead to it from `main`. The path is restored
+/// if the walk continues.
 fn bound_from(
     alloc: Global,
     tree: &TypedTree,
@@ -77,7 +78,7 @@ fn bound_from(
     }
     if let Some(place) = place_on(path, function) {
         let functions = Vec::from_slice(alloc, &path[place..])?;
-        return Ok(CallBound::Circle { functions });
+        return Ok(CallBound::Cycle { functions });
     }
     if left == 0 {
         return Ok(CallBound::Deep);
@@ -101,7 +102,7 @@ fn bound_from(
     Ok(CallBound::Calls { count: height })
 }
 
-/// How many calls may be under way in any run of a program, for all inputs. Only functions that `main` leads to count.
+/// Returns a bound on the active calls in any run of a program, for all inputs. Only functions reachable from `main` count.
 pub fn bound_of_calls(alloc: Global, tree: &TypedTree) -> Result<CallBound, AllocError>
     ensures { IfOk result (λ bound. IsAnswer (view_program tree.now) tree.now.main bound) }
 {

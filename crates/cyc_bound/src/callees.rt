@@ -1,8 +1,11 @@
-//! Which functions a typed tree calls: a walk that adds them to a list, in the order of the text.
+//! The functions that a typed tree calls: a walk that adds them to a list, in the order of the text.
 ghost use Rattle.std.specs.Prelude.{◌≡◌, ◌++◌, option_map, slice_get, OnOk, IfOk};
 ghost use Rattle.cyc_types.specs.TypedTrees.{NoClauses};
-ghost use Rattle.cyc_types.specs.TypedTreeView.{view_expression, view_dereference, view_placement, view_initial, view_converted, view_side, view_statement, view_program, arguments_of, operations_of, items_of, clauses_of, default_of};
-ghost use Rattle.cyc_bound.specs.Callees.{callee_of, expression_callees, dereference_callees, placement_callees, initial_callees, arguments_callees, operations_callees, value_callees, thrown_callees, side_callees, statement_callees, items_callees, clauses_callees};
+ghost use Rattle.cyc_types.specs.TypedTreeView.{view_expression, view_dereference, view_placement, view_initial, view_converted, view_side};
+ghost use Rattle.cyc_types.specs.TypedTreeView.{view_statement, view_program, arguments_of, operations_of, items_of, clauses_of, default_of};
+ghost use Rattle.cyc_bound.specs.Callees.{callee_of, expression_callees, dereference_callees, placement_callees, initial_callees, arguments_callees};
+ghost use Rattle.cyc_bound.specs.Callees.{operations_callees, value_callees, thrown_callees, side_callees, statement_callees, items_callees};
+ghost use Rattle.cyc_bound.specs.Callees.{clauses_callees};
 ghost use Rattle.cyc_bound.specs.Bound.{callees_of};
 ghost use Rattle.cyc_bound.specs.inside.Parts.{operation_callees, item_callees};
 
@@ -259,7 +262,7 @@ fn add_default(default: &Option<Body>, found: &mut Vec<usize>) -> Result<(), All
     }
 }
 
-/// The functions that the function of this number calls, each as often as a call of it is written.
+/// Returns the callees of the function of this number, once for each written call.
 pub(crate) fn callees_of(
     alloc: Global,
     tree: &TypedTree,

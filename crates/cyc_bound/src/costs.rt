@@ -1,49 +1,50 @@
-//! What is counted of a run, sums that end where no more is counted, and what steps, regions and blocks cost.
+//! Kinds of costs, saturating sums, and the costs of steps, regions and blocks.
 ghost use Rattle.std.specs.Prelude.{◌≡◌, ◌+◌, ◌*◌, ◌^◌, ◌≤◌, min, max, get_or};
 ghost use Rattle.cyc_words.specs.Demand.{class_of};
-ghost use Rattle.cyc_meaning.specs.Values.{bytes_of_kind, behind};
-ghost use Rattle.cyc_bound.specs.Costs.{too_many, step_cost, opening_cost, lasting_cost, block_cost, array_block_cost, size_of_bytes, most_elements, plain_cost, fields_made_cost, elements_cost, array_cost, loop_cost, caught_cost};
+ghost use Rattle.cyc_meaning.specs.Values.{bytes_of_kind, following};
+ghost use Rattle.cyc_bound.specs.Costs.{too_many, step_cost, opening_cost, lasting_cost, block_cost, array_block_cost, size_of_bytes, most_elements};
+ghost use Rattle.cyc_bound.specs.Costs.{plain_cost, fields_made_cost, elements_cost, array_cost, loop_cost, caught_cost};
 
 use cyc_types::typed::Kind;
 
-/// What is counted.
+/// The kind of cost that is counted.
 #[derive(Clone, Copy)]
 pub enum Measure {
     /// The steps of a run.
     Steps,
-    /// The regions that a program declares and opens.
+    /// The regions that a program opens.
     Openings,
-    /// The blocks that are made in regions, the heap among them.
+    /// The blocks allocated in regions, including the heap.
     Blocks,
-    /// Their words.
+    /// The words of the blocks counted by the measure above.
     Words,
-    /// The blocks that `new` makes on the heap, and their words.
+    /// The blocks that `new` allocates on the heap, and their words.
     HeapBlocks,
     HeapWords,
-    /// The blocks that are made by handles, and their words.
+    /// The blocks allocated by handles, and their words.
     RegionBlocks,
     RegionWords,
     /// The unique blocks of this class.
     Uniques { class: u32 },
-    /// What may outlast every lexical region: the heap's handle where it is a value, and dynamic regions.
+    /// Things that may outlast every lexical region: handles of the heap used as values, and dynamic regions.
     Lasting,
 }
 
-/// Where an object is made.
+/// The site of an allocation.
 #[derive(Clone, Copy)]
 pub enum Site {
     /// On the heap.
     Heap,
     /// In the region of a handle.
     Region,
-    /// In no region: the object is unique.
+    /// In no region, because the object is unique.
     Unique,
 }
 
-/// As much as is counted: what costs more is not told apart.
+/// The greatest counted value; all greater costs count as this value.
 pub const TOO_MANY: u64 = 1 << 50;
 
-// ---- sums that end where no more is counted
+// ---- saturating sums
 
 pub(crate) fn plus(first: u64, second: u64) -> u64
     ensures { result ≡ min too_many (first + second) }
@@ -65,7 +66,7 @@ pub(crate) fn greater(first: u64, second: u64) -> u64
 
 // ---- steps and regions
 
-/// What a step costs.
+/// Returns the cost of a step.
 pub(crate) fn step_cost(measure: Measure) -> u64
     ensures { result ≡ step_cost measure }
 {
@@ -75,7 +76,7 @@ pub(crate) fn step_cost(measure: Measure) -> u64
     }
 }
 
-/// What it costs to open a region that a program declares.
+/// Returns the cost of opening a region that a program declares.
 pub(crate) fn opening_cost(measure: Measure) -> u64
     ensures { result ≡ opening_cost measure }
 {
@@ -85,7 +86,7 @@ pub(crate) fn opening_cost(measure: Measure) -> u64
     }
 }
 
-/// What it costs that something may outlast every lexical region.
+/// Returns the cost of a thing that may outlast every lexical region.
 pub(crate) fn lasting_cost(measure: Measure) -> u64
     ensures { result ≡ lasting_cost measure }
 {
@@ -95,21 +96,21 @@ pub(crate) fn lasting_cost(measure: Measure) -> u64
     }
 }
 
-/// So many steps beside another cost.
+/// Returns a cost plus this many steps.
 pub(crate) fn with_steps(measure: Measure, count: u64, cost: u64) -> u64
     ensures { result ≡ min too_many (count * step_cost measure + cost) }
 {
     plus(times(count, step_cost(measure)), cost)
 }
 
-/// Any number of turns, of which each costs so much.
+/// Returns the cost of any number of iterations, each of this cost.
 pub(crate) fn loop_cost(turn: u64) -> u64
     ensures { result ≡ loop_cost turn }
 {
     if turn == 0 { 0 } else { TOO_MANY }
 }
 
-/// What the function of this number costs, or 0.
+/// Returns the cost of the function of this number, or 0.
 pub(crate) fn known_cost(costs: &[u64], function: usize) -> u64
     ensures { result ≡ get_or costs.now function 0 }
 {
@@ -119,7 +120,7 @@ pub(crate) fn known_cost(costs: &[u64], function: usize) -> u64
     }
 }
 
-/// The items of a clause, with the local that gets the exception's int.
+/// Returns the cost of the items of a clause, with the local that receives the exception's int.
 pub(crate) fn caught_cost(measure: Measure, number: Option<usize>, items: u64) -> u64
     ensures { result ≡ min too_many (caught_cost measure number items) }
 {
@@ -131,7 +132,7 @@ pub(crate) fn caught_cost(measure: Measure, number: Option<usize>, items: u64) -
 
 // ---- blocks
 
-/// The words of the blocks of a class.
+/// Returns the number of words of the blocks of a class.
 fn size_of(class: u32) -> u128
     requires { class ≤ 10 }
     ensures { result ≡ 2 ^ class }
@@ -139,7 +140,7 @@ fn size_of(class: u32) -> u128
     1 << class
 }
 
-/// The class of a block: the exponent of the least power of two that holds it.
+/// Returns the class of a block: the exponent of the least power of two that holds it.
 fn class_of(size: u128) -> u32
     ensures { result ≡ class_of size }
 {
@@ -151,7 +152,7 @@ fn class_of(size: u128) -> u32
     10
 }
 
-/// What a block of so many words costs.
+/// Returns the cost of a block of this many words.
 pub(crate) fn block_cost(measure: Measure, site: Site, size: u128) -> u64
     ensures { result ≡ min too_many (block_cost measure site size) }
 {
@@ -167,7 +168,7 @@ pub(crate) fn block_cost(measure: Measure, site: Site, size: u128) -> u64
     }
 }
 
-/// What a block of an array costs whose length is not known.
+/// Returns the cost of a block for an array of unknown length.
 pub(crate) fn array_block_cost(measure: Measure, site: Site) -> u64
     ensures { result ≡ array_block_cost measure site }
 {
@@ -193,10 +194,10 @@ fn bytes_of_kind(kind: Kind) -> u128
     }
 }
 
-/// Where a cell of this kind ends behind so many bytes.
-pub(crate) fn bytes_behind(kind: Kind, bytes: u128) -> u128
+/// Returns the offset of the end of a cell of this kind after this many bytes.
+pub(crate) fn bytes_after(kind: Kind, bytes: u128) -> u128
     requires { bytes ≤ 2 ^ 100 }
-    ensures { result ≡ behind kind bytes }
+    ensures { result ≡ following kind bytes }
 {
     match kind {
         Kind::Char => bytes + 1,
@@ -205,7 +206,7 @@ pub(crate) fn bytes_behind(kind: Kind, bytes: u128) -> u128
     }
 }
 
-/// The words of an object of so many bytes.
+/// Returns the number of words of an object with this many bytes.
 fn size_of_bytes(bytes: u128) -> u128
     requires { bytes ≤ 2 ^ 101 }
     ensures { result ≡ size_of_bytes bytes }
@@ -214,7 +215,7 @@ fn size_of_bytes(bytes: u128) -> u128
     if words == 0 { 1 } else { words }
 }
 
-/// The most elements of a kind that an array may have.
+/// Returns the largest number of elements of a kind in an array.
 fn most_elements(kind: Kind) -> u64
     ensures { result ≡ most_elements kind }
 {
@@ -225,15 +226,15 @@ fn most_elements(kind: Kind) -> u64
     }
 }
 
-/// A cell that is made and written.
+/// Returns the cost of a new cell with its first write.
 pub(crate) fn plain_cost(measure: Measure, site: Site, kind: Kind) -> u64
     ensures { result ≡ min too_many (plain_cost measure site kind) }
 {
-    let size = size_of_bytes(bytes_behind(kind, 0));
+    let size = size_of_bytes(bytes_after(kind, 0));
     with_steps(measure, 3, block_cost(measure, site, size))
 }
 
-/// An object of so many fields, which have so many bytes.
+/// Returns the cost of an object with this many fields and bytes.
 pub(crate) fn fields_made_cost(measure: Measure, site: Site, count: usize, bytes: u128) -> u64
     requires { bytes ≤ 2 ^ 101 }
     ensures { result ≡ min too_many (fields_made_cost measure site count bytes) }
@@ -242,7 +243,7 @@ pub(crate) fn fields_made_cost(measure: Measure, site: Site, count: usize, bytes
     with_steps(measure, count as u64, made)
 }
 
-/// An array of so many elements, each of which costs so much.
+/// Returns the cost of this many array elements, each of this cost.
 fn elements_cost(measure: Measure, element: u64, count: u64) -> u64
     ensures { result ≡ min too_many (elements_cost measure element count) }
 {
@@ -250,7 +251,7 @@ fn elements_cost(measure: Measure, element: u64, count: u64) -> u64
     with_steps(measure, 3, turns)
 }
 
-/// An array, whose length may be written.
+/// Returns the cost of an array, whose length may be written as a number.
 pub(crate) fn array_cost(
     measure: Measure,
     site: Site,

@@ -1,7 +1,7 @@
-//! What the functions of a program cost: the least that is enough for the body of each, found in rounds.
+//! The costs of a program's functions: the least that suffice for their bodies, found in rounds.
 //!
-//! A round looks at functions behind those that they call, so one round does where none leads back to itself. Where functions do, and
-//! something is counted on the way round, each round makes them costlier; it ends after a few.
+//! A round visits functions after their callees, so one round suffices if there is no cycle of calls. If there is one and something is
+//! counted on it, each round raises the costs; the search ends after a few rounds.
 ghost use Rattle.std.specs.Prelude.{◌≡◌, true, false, max, get_or, set, vec_len, IfOk};
 ghost use Rattle.cyc_types.specs.TypedTreeView.{view_program};
 ghost use Rattle.cyc_bound.specs.Costs.{next_costs, IsClosed};
@@ -13,13 +13,13 @@ use crate::tree_costs::function_cost;
 use cyc_types::typed::TypedTree;
 use std::alloc::{AllocError, Global};
 
-/// The rounds in which costs may settle.
+/// The largest number of rounds.
 const MOST_ROUNDS: usize = 16;
 
-/// The functions that a walk goes down at most, one behind the other.
+/// The largest depth of the walk.
 const MOST_DEEP: usize = 4095;
 
-/// Puts a function, and those that it calls before it, behind the functions in order so far, unless the walk was there.
+/// Appends a function after its callees, unless the walk has already visited it.
 fn add_in_order(
     alloc: Global,
     tree: &TypedTree,
@@ -40,9 +40,9 @@ fn add_in_order(
     Ok(())
 }
 
-/// The functions of a program, most of them behind those that they call.
+/// Returns the functions of a program, most of them after their callees.
 ///
-/// The order decides after how many rounds costs settle, and not what they are: no contract speaks of it.
+/// The order determines how fast the costs settle, but not their values, so it has no contract.
 pub(crate) fn order_of(alloc: Global, tree: &TypedTree) -> Result<Vec<usize>, AllocError> {
     let mut was_there = Vec::new(alloc);
     was_there.resize(tree.functions.len(), false)?;
@@ -53,7 +53,7 @@ pub(crate) fn order_of(alloc: Global, tree: &TypedTree) -> Result<Vec<usize>, Al
     Ok(order)
 }
 
-/// What the body of the function of this number costs, or 0.
+/// Returns the cost of the body of the function of this number, or 0.
 fn next_cost(tree: &TypedTree, measure: Measure, costs: &[u64], function: usize) -> u64
     ensures { result ≡ get_or (next_costs (view_program tree.now) measure costs.now) function 0 }
 {
@@ -63,7 +63,7 @@ fn next_cost(tree: &TypedTree, measure: Measure, costs: &[u64], function: usize)
     }
 }
 
-/// Makes what a function costs enough for its body.
+/// Raises the cost of a function until it suffices for its body.
 fn raise(tree: &TypedTree, measure: Measure, costs: &mut Vec<u64>, function: usize)
     ensures { costs.new.items ≡ raised (view_program tree.now) measure costs.old.items function }
 {
@@ -73,7 +73,7 @@ fn raise(tree: &TypedTree, measure: Measure, costs: &mut Vec<u64>, function: usi
     }
 }
 
-/// Makes what functions cost enough for their bodies, by what they cost before: first in this order, and then one after the other.
+/// Raises the costs of all functions once, by the costs before: first in this order, and then by number.
 fn raise_all(tree: &TypedTree, measure: Measure, order: &[usize], costs: &mut Vec<u64>)
     requires { vec_len costs.old ≡ vec_len tree.now.functions }
     ensures { AreRaised (view_program tree.now) measure costs.old.items costs.new.items }
@@ -86,7 +86,7 @@ fn raise_all(tree: &TypedTree, measure: Measure, order: &[usize], costs: &mut Ve
     }
 }
 
-/// Whether what each function costs is enough for its body.
+/// Returns true if the cost of each function suffices for its body.
 fn is_closed(tree: &TypedTree, measure: Measure, costs: &[u64]) -> bool
     ensures yes { result ≡ true → IsClosed (view_program tree.now) measure costs.now }
     ensures no { result ≡ false → IsClosed (view_program tree.now) measure costs.now → ⊥ }
@@ -99,7 +99,7 @@ fn is_closed(tree: &TypedTree, measure: Measure, costs: &[u64]) -> bool
     true
 }
 
-/// What the functions of a program cost, unless that still grows after the last round.
+/// Returns the costs of a program's functions, unless they still grow after the last round.
 pub(crate) fn costs_of(
     alloc: Global,
     tree: &TypedTree,
@@ -119,7 +119,7 @@ pub(crate) fn costs_of(
     Ok(None)
 }
 
-/// Makes as much as is counted of what each function costs for whose body it is not enough.
+/// Sets the cost of each function to the greatest counted value if it does not suffice for the body.
 fn give_up_all(tree: &TypedTree, measure: Measure, costs: &mut Vec<u64>) {
     for function in 0..tree.functions.len() {
         let next = next_cost(tree, measure, costs, function);
@@ -129,8 +129,8 @@ fn give_up_all(tree: &TypedTree, measure: Measure, costs: &mut Vec<u64>) {
     }
 }
 
-/// What is enough for the functions of a program: what they cost, or where that still grows after the last round, as much as is counted of
-/// those of which it does and of those that call them.
+/// Returns sufficient costs for the functions of a program. The costs are the least ones, or the greatest counted value for functions whose
+/// costs still grow after the last round, and for their callers.
 pub(crate) fn enough_costs(
     alloc: Global,
     tree: &TypedTree,

@@ -1,4 +1,4 @@
-//! What the bound on calls says of runs. Each function does nothing: its contract is the law, and so it is proved with the crate.
+//! Laws of the bounds. Each function of this file does nothing, and its contract states one law, which is proved with the crate.
 
 ghost use Rattle.std.specs.Prelude.{◌≡◌, ℕ, ◌<◌, ◌≤◌, Bool, List, nat_le};
 ghost use Rattle.cyc_types.specs.TypedTrees.{Program};
@@ -6,45 +6,49 @@ ghost use Rattle.cyc_meaning.specs.State.{demand, depth};
 ghost use Rattle.cyc_meaning.specs.Run.{run, is_within, limited_run};
 ghost use Rattle.cyc_bound.specs.declared.costs.Measure.{Measure};
 ghost use Rattle.cyc_bound.specs.declared.costs.Measure.TheVariants as measures;
-ghost use Rattle.cyc_bound.specs.Bound.{IsAtMost, IsCircle};
+ghost use Rattle.cyc_bound.specs.Bound.{IsAtMost, IsCycle};
 ghost use Rattle.cyc_bound.specs.Costs.{too_many, IsRunCost};
 ghost use Rattle.cyc_bound.specs.Pages.{most_pages, AreCounted};
 ghost use Rattle.cyc_bound.specs.Steps.{IsOver};
 
-/// In no state of any run are more calls under way than the longest row of functions from `main` on has. So a limit that allows as many
-/// calls is kept by every state, and is as good as any greater one: no run is full because of calls.
+/// In no state of any run are more calls active than the longest chain of calls from `main` has functions. A limit of as many calls as the
+/// longest chain of calls from `main` is never exceeded, and no run under it is full because of calls.
 pub fn calls_stay_within()
     ensures depth { (program : Program) (bound : ℕ) (input : List ℕ) (count : ℕ) → IsAtMost program program.main bound
         → depth (run program input count) ≤ bound }
     ensures within { (program : Program) (bound pages calls : ℕ) (input : List ℕ) (count : ℕ) → IsAtMost program program.main bound → bound ≤ calls
         → is_within pages calls (run program input count) ≡ nat_le (demand (run program input count)) pages }
-    ensures alike { (program : Program) (bound pages calls more : ℕ) (input : List ℕ) (count : ℕ) → IsAtMost program program.main bound → bound ≤ calls → bound ≤ more
+    ensures alike { (program : Program) (bound pages calls more : ℕ) (input : List ℕ) (count : ℕ) → IsAtMost program program.main bound
+        → bound ≤ calls → bound ≤ more
         → limited_run program pages calls input count ≡ limited_run program pages more input count }
 {}
 
-/// Where functions lead back to themselves, and `main` leads to them, no number is a bound.
-pub fn circles_have_no_bound()
-    ensures { (program : Program) (functions : List ℕ) (bound : ℕ) → IsCircle program functions → IsAtMost program program.main bound → ⊥ }
+/// If there is a cycle of calls that is reachable from `main`, no number is a bound.
+pub fn cycles_have_no_bound()
+    ensures { (program : Program) (functions : List ℕ) (bound : ℕ) → IsCycle program functions → IsAtMost program program.main bound → ⊥ }
 {}
 
-/// Each run is over after as many steps as a run costs, wherever that is less than is counted. A run that is over stays as it is, so none
-/// takes more steps.
+/// Each run is over after as many steps as a run costs, if that is less than the greatest counted value. A run that is over stays as it is,
+/// so no run takes more steps.
 pub fn steps_end()
     ensures { (program : Program) (cost : ℕ) (input : List ℕ) (count : ℕ) → IsRunCost program measures.Steps cost → cost < too_many → cost ≤ count
         → IsOver (run program input count) }
 {}
 
-/// No state of any run asks for more pages than its costs tell. So a limit that allows as many pages is kept by every state, and is as
-/// good as any greater one: no run is full because of pages.
+/// No state of any run demands more pages than its costs state. A limit of as many pages as the costs state is never exceeded, and no run
+/// under it is full because of pages.
 pub fn pages_stay_within()
-    ensures demand { (program : Program) (gives_back : Bool) (cost : Measure → ℕ) (input : List ℕ) (count : ℕ) → AreCounted program gives_back cost → demand (run program input count) ≤ most_pages gives_back cost }
-    ensures within { (program : Program) (gives_back : Bool) (cost : Measure → ℕ) (pages calls : ℕ) (input : List ℕ) (count : ℕ) → AreCounted program gives_back cost → most_pages gives_back cost ≤ pages
+    ensures demand { (program : Program) (gives_back : Bool) (cost : Measure → ℕ) (input : List ℕ) (count : ℕ) → AreCounted program gives_back cost
+        → demand (run program input count) ≤ most_pages gives_back cost }
+    ensures within { (program : Program) (gives_back : Bool) (cost : Measure → ℕ) (pages calls : ℕ) (input : List ℕ) (count : ℕ)
+        → AreCounted program gives_back cost → most_pages gives_back cost ≤ pages
         → is_within pages calls (run program input count) ≡ nat_le (depth (run program input count)) calls }
-    ensures alike { (program : Program) (gives_back : Bool) (cost : Measure → ℕ) (pages more calls : ℕ) (input : List ℕ) (count : ℕ) → AreCounted program gives_back cost → most_pages gives_back cost ≤ pages → most_pages gives_back cost ≤ more
+    ensures alike { (program : Program) (gives_back : Bool) (cost : Measure → ℕ) (pages more calls : ℕ) (input : List ℕ) (count : ℕ)
+        → AreCounted program gives_back cost → most_pages gives_back cost ≤ pages → most_pages gives_back cost ≤ more
         → limited_run program pages calls input count ≡ limited_run program more calls input count }
 {}
 
-/// A run costs one number: two that are told of it are the same.
+/// The cost of a run is unique.
 pub fn costs_are_one()
     ensures { (program : Program) (m : Measure) (cost other : ℕ) → IsRunCost program m cost → IsRunCost program m other → cost ≡ other }
 {}

@@ -1,4 +1,4 @@
-//! What any run of a program needs at most, read off its typed tree before it runs: calls under way, steps and pages.
+//! Upper bounds for every run of a program, computed from its typed tree: active calls, steps and pages.
 #![tactic(auto)]
 
 pub use bound::{CallBound, MOST_CALLS, bound_of_calls};

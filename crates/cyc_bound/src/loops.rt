@@ -1,5 +1,6 @@
-//! Which loop stands in the way of a bound, for who is told that there is none: a loop of which a turn costs something. Where lexical regions
-//! give back, that is one inside a region, or one that makes something on the heap or a unique object. Nothing is promised of it.
+//! Finds the loop that prevents a bound, for the diagnostic: a loop whose iterations cost something. Lexical regions may free what is
+//! allocated in them. If lexical regions free their contents, the loop is one inside a region, or one that allocates on the heap or a
+//! unique object. The search for the loop is unverified.
 use crate::at_once::opens;
 use crate::callees::add_items;
 use crate::costs::{Measure, TOO_MANY, known_cost};
@@ -11,7 +12,7 @@ use cyc_types::typed::{Body, Clause, Item, Stmt, TypedTree};
 use cyc_words::Span;
 use std::alloc::{AllocError, Global};
 
-/// The classes of unique blocks.
+/// The number of classes of unique blocks.
 const CLASSES: u32 = 11;
 
 // ---- loops
@@ -74,7 +75,7 @@ fn default_loop(measure: Measure, costs: &[u64], default: &Option<Body>) -> Opti
     }
 }
 
-/// The first of the functions that items call of which it is not counted what it costs.
+/// Returns the first function that the items call whose cost reaches the greatest counted value.
 fn costly_callee(
     alloc: Global,
     costs: &[u64],
@@ -90,7 +91,7 @@ fn costly_callee(
     Ok(None)
 }
 
-/// The first loop that costs something: one of this function, or else one of a function that it calls, and so on.
+/// Returns the first loop that costs something: one of this function, or else one of its callees, and so on.
 fn loop_from(
     alloc: Global,
     tree: &TypedTree,
@@ -114,7 +115,7 @@ fn loop_from(
     Ok(None)
 }
 
-/// The first loop that costs something by this measure, from `main` on.
+/// Returns the first loop that costs something by this measure, starting at `main`.
 fn first_loop(
     alloc: Global,
     tree: &TypedTree,
@@ -127,10 +128,10 @@ fn first_loop(
     loop_from(alloc, tree, measure, &costs, tree.main)
 }
 
-// ---- loops inside of regions
+// ---- loops inside regions
 
-/// The first loop in an outermost region of which it is not counted what it costs: one that stands in it, or one of a function that is called
-/// there, and so on.
+/// Returns the first loop inside an outermost region whose cost reaches the greatest counted value. The loop is in the statement, or in a
+/// function that it calls, and so on.
 #[cycle(inside)]
 fn statement_inside(
     alloc: Global,
@@ -165,7 +166,7 @@ fn statement_inside(
     }
 }
 
-/// A region is open to the end of its block.
+/// Returns the first loop of these items that costs something; a region is open to the end of its block.
 fn loop_to_end(
     alloc: Global,
     tree: &TypedTree,
@@ -250,7 +251,7 @@ fn default_inside(
     }
 }
 
-/// The first loop in a region that costs something by this measure, of the functions that `main` leads to.
+/// Returns the first loop inside a region that costs something by this measure, in the functions reachable from `main`.
 fn first_loop_inside(
     alloc: Global,
     tree: &TypedTree,
@@ -272,15 +273,15 @@ fn first_loop_inside(
     Ok(None)
 }
 
-// ---- what is told
+// ---- the reported loops
 
-/// The place of a loop that stands in the way of a bound on steps, where one does.
+/// Returns the place of a loop that prevents a bound on steps, if there is one.
 pub fn loop_of_steps(alloc: Global, tree: &TypedTree) -> Result<Option<Span>, AllocError> {
     let order = order_of(alloc, tree)?;
     first_loop(alloc, tree, &order, Measure::Steps)
 }
 
-/// The place of a loop that stands in the way of a bound on the pages of regions, where one does.
+/// Returns the place of a loop that prevents a bound on the pages of regions, if there is one.
 fn loop_of_regions(
     alloc: Global,
     tree: &TypedTree,
@@ -298,8 +299,8 @@ fn loop_of_regions(
     Ok(opening.or(first_loop(alloc, tree, order, Measure::Blocks)?))
 }
 
-/// The place of a loop that stands in the way of a bound on pages, where one does: each of its turns opens or makes something that is not
-/// given back at its end.
+/// Returns the place of a loop that prevents a bound on pages, if there is one. Each iteration opens or allocates something that is not
+/// freed at its end.
 pub fn loop_of_pages(alloc: Global, tree: &TypedTree) -> Result<Option<Span>, AllocError> {
     let order = order_of(alloc, tree)?;
     if let Some(span) = loop_of_regions(alloc, tree, &order)? {

@@ -1,5 +1,5 @@
-//! The bound on pages, by what runs cost: the blocks that are made in regions and their words, and the unique blocks of each class. Where
-//! lexical regions give back what is made in them, they count by what those have that are open at once.
+//! The bound on pages, from the costs of runs. The counted costs are the number and words of the blocks in regions, and the number of
+//! unique blocks of each class. If lexical regions free what is allocated in them, only regions open simultaneously count.
 ghost use Rattle.std.specs.Prelude.{◌≡◌, ◌<◌, ◌≤◌, true, false, IfOk};
 ghost use Rattle.cyc_words.specs.Demand.{blocks_in_page, pages_for};
 ghost use Rattle.cyc_types.specs.TypedTreeView.{view_program};
@@ -15,25 +15,24 @@ use crate::steps::run_cost;
 use cyc_types::typed::TypedTree;
 use std::alloc::{AllocError, Global};
 
-/// The words of a page of the store.
+/// The number of words in a page of the store.
 const PAGE_WORDS: u64 = 1024;
 
-/// How many pages of the store a run of a program may ask for.
+/// The bound on the pages of the store that a run of a program demands.
 #[derive(Drop)]
 pub enum PageBound {
-    /// So many at most.
+    /// A run needs at most this many pages.
     Pages { count: u64 },
-    /// What is opened or made has no bound below `TOO_MANY` by the costs.
+    /// The opened regions or allocated blocks have no bound below `TOO_MANY` by the costs.
     TooMany,
-    /// What functions open or make still grew after the last round, as it does where they lead back to themselves and each time round makes
-    /// more.
-    Circle,
+    /// The costs of functions still grow after the last round, for instance because a cycle of calls allocates each time.
+    Cycle,
 }
 
-/// The classes of unique blocks.
+/// The number of classes of unique blocks.
 const CLASSES: u32 = 11;
 
-/// Pages behind the first ones of regions, for so many blocks and words in all.
+/// Returns the number of pages after the first ones of regions, given the total blocks and words.
 fn further_pages(blocks: u64, words: u64) -> u64
     requires { words < too_many }
     ensures { result ≡ further_pages blocks words }
@@ -42,7 +41,7 @@ fn further_pages(blocks: u64, words: u64) -> u64
     if blocks < by_words { blocks } else { by_words }
 }
 
-/// How many blocks of a class fit one page.
+/// Returns the number of blocks of a class that fit into one page.
 fn blocks_in_page(class: u32) -> u64
     requires { class ≤ 10 }
     ensures is { result ≡ blocks_in_page class }
@@ -51,7 +50,7 @@ fn blocks_in_page(class: u32) -> u64
     PAGE_WORDS >> class
 }
 
-/// The pages for so many unique blocks of a class.
+/// Returns the number of pages for this many unique blocks of a class.
 fn pages_for(class: u32, blocks: u64) -> u64
     requires class { class ≤ 10 }
     requires blocks { blocks < too_many }
@@ -61,14 +60,14 @@ fn pages_for(class: u32, blocks: u64) -> u64
     (blocks + (in_page - 1)) / in_page
 }
 
-/// The pages for all unique blocks, or what is told in their place.
+/// Returns the pages for all unique blocks, or the reason why there is no bound.
 fn unique_pages(alloc: Global, tree: &TypedTree, order: &[usize]) -> Result<PageBound, AllocError>
     ensures { IfOk result (λ bound. IsUniqueAnswer (view_program tree.now) bound) }
 {
     let mut pages = 0;
     for class in 0..CLASSES {
         let Some(blocks) = run_cost(alloc, tree, order, Measure::Uniques { class })? else {
-            return Ok(PageBound::Circle);
+            return Ok(PageBound::Cycle);
         };
         if blocks >= TOO_MANY {
             return Ok(PageBound::TooMany);
@@ -78,7 +77,7 @@ fn unique_pages(alloc: Global, tree: &TypedTree, order: &[usize]) -> Result<Page
     Ok(PageBound::Pages { count: pages })
 }
 
-/// Whether lexical regions give back what is opened and made in them: where nothing else can outlast them but what `new` makes.
+/// Returns true if lexical regions free what is opened and allocated in them: then only objects made by `new` can outlast them.
 pub(crate) fn gives_back(
     alloc: Global,
     tree: &TypedTree,
@@ -92,18 +91,18 @@ pub(crate) fn gives_back(
     }
 }
 
-/// The pages of regions where nothing is given back, or what is told in their place.
+/// Returns the pages of regions if nothing is freed, or the reason why there is no bound.
 fn pages_of_all(alloc: Global, tree: &TypedTree, order: &[usize]) -> Result<PageBound, AllocError>
     ensures { IfOk result (λ bound. IsRegionAnswer (view_program tree.now) false bound) }
 {
     let Some(openings) = run_cost(alloc, tree, order, Measure::Openings)? else {
-        return Ok(PageBound::Circle);
+        return Ok(PageBound::Cycle);
     };
     let Some(blocks) = run_cost(alloc, tree, order, Measure::Blocks)? else {
-        return Ok(PageBound::Circle);
+        return Ok(PageBound::Cycle);
     };
     let Some(words) = run_cost(alloc, tree, order, Measure::Words)? else {
-        return Ok(PageBound::Circle);
+        return Ok(PageBound::Cycle);
     };
     if openings >= TOO_MANY || blocks >= TOO_MANY || words >= TOO_MANY {
         return Ok(PageBound::TooMany);
@@ -112,24 +111,24 @@ fn pages_of_all(alloc: Global, tree: &TypedTree, order: &[usize]) -> Result<Page
     Ok(PageBound::Pages { count })
 }
 
-/// The pages of the heap and of the lexical regions that are open at once, or what is told in their place.
+/// Returns the pages of the heap and of the lexical regions open simultaneously, or the reason why no bound exists.
 fn pages_at_once(alloc: Global, tree: &TypedTree, order: &[usize]) -> Result<PageBound, AllocError>
     ensures { IfOk result (λ bound. IsRegionAnswer (view_program tree.now) true bound) }
 {
     let Some(openings) = cost_at_once(alloc, tree, order, Measure::Openings)? else {
-        return Ok(PageBound::Circle);
+        return Ok(PageBound::Cycle);
     };
     let Some(blocks) = cost_at_once(alloc, tree, order, Measure::RegionBlocks)? else {
-        return Ok(PageBound::Circle);
+        return Ok(PageBound::Cycle);
     };
     let Some(words) = cost_at_once(alloc, tree, order, Measure::RegionWords)? else {
-        return Ok(PageBound::Circle);
+        return Ok(PageBound::Cycle);
     };
     let Some(heap_blocks) = run_cost(alloc, tree, order, Measure::HeapBlocks)? else {
-        return Ok(PageBound::Circle);
+        return Ok(PageBound::Cycle);
     };
     let Some(heap_words) = run_cost(alloc, tree, order, Measure::HeapWords)? else {
-        return Ok(PageBound::Circle);
+        return Ok(PageBound::Cycle);
     };
     if openings >= TOO_MANY
         || blocks >= TOO_MANY
@@ -144,7 +143,7 @@ fn pages_at_once(alloc: Global, tree: &TypedTree, order: &[usize]) -> Result<Pag
     Ok(PageBound::Pages { count })
 }
 
-/// The pages of all regions, the heap among them, or what is told in their place.
+/// Returns the pages of all regions, including the heap, or the reason why there is no bound.
 fn region_pages(
     alloc: Global,
     tree: &TypedTree,
@@ -160,10 +159,10 @@ fn region_pages(
     }
 }
 
-/// How many pages any run of a program may ask for, for all inputs.
+/// Returns a bound on the pages that any run of a program demands, for all inputs.
 ///
-/// Loops and circles of calls in which nothing is opened or made do no harm; nor do loops in which a region is opened and closed, where
-/// lexical regions give back. Any growth may be refused for want of memory.
+/// Loops and cycles of calls in which nothing is opened or allocated do not matter. If lexical regions free their content, loops that open
+/// and close a region do not matter either. Any growth may fail for lack of memory.
 pub fn pages_of(alloc: Global, tree: &TypedTree) -> Result<PageBound, AllocError>
     ensures { IfOk result (λ bound. IsPageAnswer (view_program tree.now) bound) }
 {

@@ -1,4 +1,4 @@
-//! The functions that `main` leads to by calls, itself the first of them.
+//! The functions reachable from `main` by calls, `main` first.
 ghost use Rattle.std.specs.Prelude.{◌≡◌, true, false, get_or, set, IfOk, OnOk};
 ghost use Rattle.cyc_types.specs.TypedTreeView.{view_program};
 ghost use Rattle.cyc_bound.specs.inside.Reached.{AreMarked, IsNoted, AreReached};
@@ -7,7 +7,7 @@ use crate::callees::callees_of;
 use cyc_types::typed::TypedTree;
 use std::alloc::{AllocError, Global};
 
-/// Whether a function is marked.
+/// Returns true if a function is marked.
 fn is_marked(marks: &[bool], function: usize) -> bool
     ensures { result ≡ get_or marks.now function false }
 {
@@ -26,7 +26,7 @@ fn mark(marks: &mut Vec<bool>, function: usize)
     }
 }
 
-/// Adds a function to those that were found, unless it is marked as one of them.
+/// Adds a function to those found, unless it is already marked.
 fn note(function: usize, marks: &mut Vec<bool>, found: &mut Vec<usize>) -> Result<(), AllocError>
     requires { AreMarked marks.old.items found.old.items }
     ensures { OnOk result (IsNoted found.old.items function marks.new.items found.new.items) }
@@ -39,7 +39,7 @@ fn note(function: usize, marks: &mut Vec<bool>, found: &mut Vec<usize>) -> Resul
     Ok(())
 }
 
-/// The functions that `main` leads to, in the order in which they are found.
+/// Returns the functions reachable from `main`, in the order of their discovery.
 pub(crate) fn reached(alloc: Global, tree: &TypedTree) -> Result<Vec<usize>, AllocError>
     ensures { IfOk result (λ found. AreReached (view_program tree.now) found.items) }
 {

@@ -1,4 +1,4 @@
-//! The bound on steps: what a run costs in them.
+//! The bound on steps: the number of steps that a run costs.
 ghost use Rattle.std.specs.Prelude.{IfOk};
 ghost use Rattle.cyc_types.specs.TypedTreeView.{view_program};
 ghost use Rattle.cyc_bound.specs.Costs.{IsStepAnswer};
@@ -9,18 +9,18 @@ use crate::function_costs::{costs_of, order_of};
 use cyc_types::typed::TypedTree;
 use std::alloc::{AllocError, Global};
 
-/// How many steps a run of a program may take.
+/// The bound on the steps of a run of a program.
 #[derive(Drop)]
 pub enum StepBound {
-    /// Each run is over after so many.
+    /// Each run is over after this many steps.
     Steps { count: u64 },
     /// No number below `TOO_MANY` is a bound by the costs.
     TooMany,
-    /// What functions cost still grew after the last round, as it does where they lead back to themselves: each time round costs more.
-    Circle,
+    /// The costs of functions still grow after the last round, as they do for a cycle of calls, since each call costs steps.
+    Cycle,
 }
 
-/// What a run costs, unless that still grows after the last round.
+/// Returns the cost of a run, unless it still grows after the last round.
 pub(crate) fn run_cost(
     alloc: Global,
     tree: &TypedTree,
@@ -36,15 +36,15 @@ pub(crate) fn run_cost(
     Ok(Some(plus(step_cost(measure), called)))
 }
 
-/// How many steps any run of a program may take, for all inputs.
+/// Returns a bound on the steps of any run of a program, for all inputs.
 ///
-/// A loop and a circle of calls always cost something. Any growth may be refused for want of memory.
+/// Each loop and each cycle of calls costs something. Any growth may fail for lack of memory.
 pub fn steps_of(alloc: Global, tree: &TypedTree) -> Result<StepBound, AllocError>
     ensures { IfOk result (λ bound. IsStepAnswer (view_program tree.now) bound) }
 {
     let order = order_of(alloc, tree)?;
     let Some(count) = run_cost(alloc, tree, &order, Measure::Steps)? else {
-        return Ok(StepBound::Circle);
+        return Ok(StepBound::Cycle);
     };
     if count < TOO_MANY {
         Ok(StepBound::Steps { count })

@@ -1,12 +1,15 @@
-//! What a typed tree costs: a walk that adds up the costs of its parts, by what functions cost.
+//! The cost of a typed tree: a walk that adds up the costs of its parts, given the costs of functions.
 ghost use Rattle.std.specs.Prelude.{◌≡◌, ◌≤◌, min, option_map};
-ghost use Rattle.cyc_types.specs.TypedTreeView.{view_expression, view_dereference, view_placement, view_initial, view_converted, view_side, view_statement, view_item, view_function, arguments_of, operations_of, items_of, default_of};
-ghost use Rattle.cyc_bound.specs.Costs.{too_many, callee_cost, expression_cost, place_cost, site_of, placement_cost, initial_cost, fields_cost, converted_cost, arguments_cost};
-ghost use Rattle.cyc_bound.specs.Costs.{operations_cost, written_length, value_cost, thrown_cost, side_cost, statement_cost, item_cost, items_cost, clauses_cost, function_cost};
+ghost use Rattle.cyc_types.specs.TypedTreeView.{view_expression, view_dereference, view_placement, view_initial, view_converted, view_side};
+ghost use Rattle.cyc_types.specs.TypedTreeView.{view_statement, view_item, view_function, arguments_of, operations_of, items_of, default_of};
+ghost use Rattle.cyc_bound.specs.Costs.{too_many, callee_cost, expression_cost, place_cost, site_of, placement_cost, initial_cost, fields_cost};
+ghost use Rattle.cyc_bound.specs.Costs.{converted_cost, arguments_cost};
+ghost use Rattle.cyc_bound.specs.Costs.{operations_cost, written_length, value_cost, thrown_cost, side_cost, statement_cost, item_cost, items_cost};
+ghost use Rattle.cyc_bound.specs.Costs.{clauses_cost, function_cost};
 ghost use Rattle.cyc_bound.specs.inside.ItemCosts.{operation_cost, clauses_then};
 
 use crate::costs::{
-    Measure, Site, array_cost, bytes_behind, caught_cost, fields_made_cost, greater, known_cost,
+    Measure, Site, array_cost, bytes_after, caught_cost, fields_made_cost, greater, known_cost,
     lasting_cost, loop_cost, opening_cost, plain_cost, plus, with_steps,
 };
 use cyc_types::typed::{
@@ -14,7 +17,7 @@ use cyc_types::typed::{
     Placement, Side, Stmt,
 };
 
-/// A call, once its arguments are evaluated.
+/// Returns the cost of a call after the evaluation of its arguments.
 fn callee_cost(measure: Measure, costs: &[u64], callee: Callee) -> u64
     ensures { result ≡ min too_many (callee_cost measure costs.now callee) }
 {
@@ -24,7 +27,7 @@ fn callee_cost(measure: Measure, costs: &[u64], callee: Callee) -> u64
     }
 }
 
-/// The length of an array, where it is written.
+/// Returns the length of an array, if it is written as a number.
 fn written_length(length: &Expr) -> Option<u64>
     ensures { result ≡ written_length (view_expression length.now) }
 {
@@ -99,7 +102,7 @@ fn expression_cost(measure: Measure, costs: &[u64], value: &Expr) -> u64
     }
 }
 
-/// Where an object is made that is placed so.
+/// Returns the site of an object with this placement.
 fn site_of(placement: &Placement) -> Site
     ensures { result ≡ site_of (view_placement placement.now) }
 {
@@ -175,7 +178,7 @@ fn fields_cost(measure: Measure, costs: &[u64], site: Site, values: &[Converted]
     let mut bytes = 0;
     for value in values {
         total = plus(total, converted_cost(measure, costs, value));
-        bytes = bytes_behind(value.to, bytes);
+        bytes = bytes_after(value.to, bytes);
     }
     plus(total, fields_made_cost(measure, site, values.len(), bytes))
 }
@@ -329,8 +332,8 @@ pub(crate) fn items_cost(measure: Measure, costs: &[u64], items: &[Item]) -> u64
     with_steps(measure, 1, total)
 }
 
-/// The clauses before one are tried first, and then that one is executed, or what stands behind all of them: the costliest of these ways
-/// counts.
+/// Returns the cost of clauses. Clauses are tried in order; then one clause is executed, or the part after all clauses. The costliest of
+/// these ways counts.
 #[cycle(statements)]
 fn clauses_cost(measure: Measure, costs: &[u64], clauses: &[Clause], last: u64) -> u64
     ensures { result ≡ min too_many (clauses_then measure costs.now clauses.now last) }
@@ -358,7 +361,7 @@ fn default_cost(measure: Measure, costs: &[u64], default: &Option<Body>) -> u64
     }
 }
 
-/// A call of a function, from the opening of its region on, by what the functions cost that it calls.
+/// Returns the cost of a call of a function, from the opening of its region on, given the costs of its callees.
 pub(crate) fn function_cost(measure: Measure, costs: &[u64], function: &Function) -> u64
     ensures { result ≡ min too_many (function_cost measure costs.now (view_function function.now)) }
 {

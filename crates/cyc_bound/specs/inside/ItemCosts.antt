@@ -1,4 +1,4 @@
--- What one part of a list costs that is walked part by part, and what is found of the classes of unique blocks.
+-- The cost of one part of a list that is visited part by part. The costs that were found for the classes of unique blocks.
 use Rattle.std.specs.Prelude.{◌≡◌, ◌<◌, ◌≤◌, ℕ, suc, ◌+◌, ◌*◌, ◌^◌, max, List, [], ◌∷◌}
 use Rattle.cyc_words.specs.Demand.{greatest_class}
 use Rattle.cyc_types.specs.TypedTrees.{Program}
@@ -13,19 +13,19 @@ use Rattle.cyc_bound.specs.declared.pages.PageBound.TheVariants as bounds
 use Rattle.cyc_bound.specs.Costs.{too_many, step_cost, expression_cost, caught_cost, items_cost, IsRunCost, StillGrow}
 use Rattle.cyc_bound.specs.Pages.{unique_pages}
 
--- one operator of a chain, with its right operand
+-- the cost of one operator of a chain, with its right operand
 abbrev pub operation_cost : Measure → (costs : List ℕ) → Operation → ℕ
 operation_cost m costs (operation.Compute w o e) = expression_cost m costs (view_expression e) + step_cost m
 operation_cost m costs (operation.Test o e) = expression_cost m costs (view_expression e) + step_cost m
 operation_cost m costs (operation.Pointer o e) = expression_cost m costs (view_expression e) + step_cost m
 operation_cost m costs (operation.PointerPeek n o e) = expression_cost m costs (view_expression e) + step_cost m
 
--- clauses that are tried one by one, where what stands behind them costs so much
+-- the cost of clauses that are tried one by one, given the cost of the part after them
 abbrev pub clauses_then : Measure → (costs : List ℕ) → List Clause → (last : ℕ) → ℕ
 clauses_then m costs [] last = last
 clauses_then m costs (c ∷ cs) last = step_cost m + max (caught_cost m c.number (items_cost m costs (items_of c.items.items))) (clauses_then m costs cs last)
 
--- the pages of the classes before this one, of none of which too many blocks are made
+-- the pages of the classes before this one, if none of them exceeds the counted values
 abbrev pub AreUniquesSoFar : Program → (cost : Measure → ℕ) → (class pages : ℕ) → Type 0
 AreUniquesSoFar program cost class pages =
     (pages ≡ unique_pages cost class) × ((pages ≤ class * 2 ^ 51) × ((other : ℕ) → other < class → IsRunCost program (measures.Uniques other) (cost (measures.Uniques other)) × (cost (measures.Uniques other) < too_many)))
@@ -33,8 +33,8 @@ AreUniquesSoFar program cost class pages =
 abbrev pub UniquesSoFar : Program → (class pages : ℕ) → Type 0
 UniquesSoFar program class pages = (cost : Measure → ℕ) × AreUniquesSoFar program cost class pages
 
--- the pages of all classes, or what is told in their place
+-- the pages of all classes, or the reason why there is no bound
 abbrev pub IsUniqueAnswer : Program → PageBound → Type 0
 IsUniqueAnswer program (bounds.Pages pages) = UniquesSoFar program (suc greatest_class) pages
 IsUniqueAnswer program bounds.TooMany = (class : ℕ) × (class ≤ greatest_class) × IsRunCost program (measures.Uniques class) too_many
-IsUniqueAnswer program bounds.Circle = (class : ℕ) × (class ≤ greatest_class) × StillGrow program (measures.Uniques class)
+IsUniqueAnswer program bounds.Cycle = (class : ℕ) × (class ≤ greatest_class) × StillGrow program (measures.Uniques class)

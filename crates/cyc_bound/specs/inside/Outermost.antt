@@ -1,5 +1,6 @@
--- What holds of every state of a program whose lexical regions give back: no value is a handle of the heap or a key, so what a handle makes is
--- in no region but a lexical one; and no outermost region that is still to be opened costs more than some number. (This project's own choice.)
+-- An invariant of every state of a program whose lexical regions free everything allocated by a handle. No value is a handle of the heap or
+-- a key, so a handle allocates only in lexical regions. No outermost region that is still to be opened costs more than a given number. This
+-- invariant is this project's own choice.
 use Rattle.std.specs.Prelude.{◌≡◌, ℕ, zero, ◌≤◌, Bool, true, max, List, [], ◌∷◌, Option, None, Some}
 use Rattle.std.specs.List.{AllByRecursion}
 use Rattle.cyc_meaning.specs.Values.{Value, Handle, Key, Operand, Cell}
@@ -26,13 +27,13 @@ IsOwnOperand (Some v) = IsOwn v.value
 abbrev pub AreOwn : List Operand → Type 0
 AreOwn operands = AllByRecursion (λ (v : Operand). IsOwn v.value) operands
 
--- values that are handed on or go into cells
+-- no operand that is passed on or stored is a handle of the heap or a key
 abbrev pub waiting_own : Awaiting → Type 0
 waiting_own (Pass callee before later) = AreOwn before
 waiting_own (MakeFields owner before fields) = AreOwn before
 waiting_own waiting = Unit {0}
 
--- `opens` says whether a lexical region may be open
+-- `opens` states whether a lexical region may be open
 abbrev pub entry_own : (opens : Bool) → Entry → Type 0
 entry_own opens (Needs waiting) = waiting_own waiting
 entry_own opens (CloseLexical region) = opens ≡ true
@@ -58,13 +59,13 @@ IsOwnCell c = IsOwnContent c.content
 abbrev pub AreOwnObjects : List Object → Type 0
 AreOwnObjects objects = AllByRecursion (λ (x : Object). AllByRecursion IsOwnCell x.cells) objects
 
--- neither the heap nor a dynamic region
+-- true for a region that is neither the heap nor dynamic
 abbrev pub IsLeft : Sort → Type 0
 IsLeft Heap = ⊥
 IsLeft Dynamic = ⊥
 IsLeft sort = Unit {0}
 
--- the first region is the heap, and no other one, nor is any dynamic
+-- the first region is the heap; no other region is the heap, and none is dynamic
 abbrev pub AreSorted : List Region → Type 0
 AreSorted [] = ⊥
 AreSorted (heap ∷ regions) = (heap.sort ≡ Heap) × AllByRecursion (λ (r : Region). IsLeft r.sort) regions

@@ -1,4 +1,4 @@
--- What is called by one part of a list that is walked part by part.
+-- The callees of one part of a list that is visited part by part.
 use Rattle.std.specs.Prelude.{ℕ, List, [], option_map}
 use Rattle.cyc_types.specs.declared.typed.Operation.{Operation}
 use Rattle.cyc_types.specs.declared.typed.Operation.TheVariants as operation
@@ -7,14 +7,14 @@ use Rattle.cyc_types.specs.declared.typed.Item.TheVariants as item
 use Rattle.cyc_types.specs.TypedTreeView.{view_expression, view_converted, view_statement}
 use Rattle.cyc_bound.specs.Callees.{expression_callees, value_callees, statement_callees}
 
--- one operator of a chain, with its right operand
+-- the callees of one operator of a chain, with its right operand
 abbrev pub operation_callees : Operation → List ℕ
 operation_callees (operation.Compute w o e) = expression_callees (view_expression e)
 operation_callees (operation.Test o e) = expression_callees (view_expression e)
 operation_callees (operation.Pointer o e) = expression_callees (view_expression e)
 operation_callees (operation.PointerPeek n o e) = expression_callees (view_expression e)
 
--- one item of a block
+-- the callees of one item of a block
 abbrev pub item_callees : Item → List ℕ
 item_callees (item.Execute s) = statement_callees (view_statement s)
 item_callees (item.Local w n t v) = value_callees (option_map view_converted v)

@@ -1,5 +1,5 @@
--- What one item costs of a list that is walked item by item for regions, what is found of those that are open at once, and what of the
--- pages of regions.
+-- The cost of one item of a list that is visited item by item for regions. The costs of functions found for regions open simultaneously and
+-- for the pages of regions.
 use Rattle.std.specs.Prelude.{◌≡◌, ◌<◌, ◌^◌, ℕ, Bool, true, false, List, Option, Some, None}
 use Rattle.cyc_types.specs.TypedTrees.{Item, Execute, DeclareRegion, Program}
 use Rattle.cyc_bound.specs.declared.costs.Measure.{Measure}
@@ -10,32 +10,32 @@ use Rattle.cyc_bound.specs.Costs.{too_many, StillGrow}
 use Rattle.cyc_bound.specs.AtOnce.{statement_at_once, IsAtOnce}
 use Rattle.cyc_bound.specs.Pages.{IsForPages, IsCost, most_region_pages}
 
--- whether an item declares a lexical region
+-- true if the item declares a lexical region
 abbrev pub opens : Item → Bool
 opens (DeclareRegion r n) = true
 opens j = false
 
--- the costliest region in an item that declares none
+-- the cost of the costliest outermost region inside an item that declares no region
 abbrev pub item_at_once : Measure → (costs : List ℕ) → Item → ℕ
 item_at_once m costs (Execute s) = statement_at_once m costs s
 item_at_once m costs j = 0
 
--- what the costliest outermost region costs, or that costs still grow
+-- the cost of the costliest outermost region; or the costs still grow
 abbrev pub IsAtOnceFound : Program → Measure → Option ℕ → Type 0
 IsAtOnceFound program m (Some cost) = IsAtOnce program m cost
 IsAtOnceFound program m None = StillGrow program m
 
--- what regions ask for pages by
+-- the measures that determine the pages of regions
 abbrev pub IsOfRegions : Measure → Type 0
 IsOfRegions (measures.Uniques class) = ⊥
 IsOfRegions m = Unit {0}
 
--- as AreCounted, of regions
+-- `AreCounted`, restricted to the measures of regions
 abbrev pub AreRegionsCounted : Program → (gives_back : Bool) → (cost : Measure → ℕ) → Type 0
 AreRegionsCounted program gives_back cost = (m : Measure) → IsForPages gives_back m → IsOfRegions m → IsCost program gives_back m (cost m) × (cost m < too_many)
 
--- the pages of regions, or what is told in their place
+-- the pages of regions, or the reason why there is no bound
 abbrev pub IsRegionAnswer : Program → (gives_back : Bool) → PageBound → Type 0
 IsRegionAnswer program gives_back (bounds.Pages pages) = (cost : Measure → ℕ) × AreRegionsCounted program gives_back cost × (pages ≡ most_region_pages gives_back cost) × (pages < 2 ^ 53)
 IsRegionAnswer program gives_back bounds.TooMany = (m : Measure) × IsForPages gives_back m × IsCost program gives_back m too_many
-IsRegionAnswer program gives_back bounds.Circle = (m : Measure) × IsForPages gives_back m × StillGrow program m
+IsRegionAnswer program gives_back bounds.Cycle = (m : Measure) × IsForPages gives_back m × StillGrow program m

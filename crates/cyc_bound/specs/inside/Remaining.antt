@@ -1,11 +1,11 @@
--- What a run still costs at most in each of its states: the cost of what is done next, and that of each entry that waits, down to `main`.
--- No step makes it more, and one that makes something makes it less by as much. Each entry costs a step at least, by which it is left.
--- (This project's own choice.)
+-- The remaining cost of a run in each of its states: the cost of the focus, and that of each stack entry down to `main`. No step raises it,
+-- and a step that allocates lowers it by the cost of the allocation. Each entry costs at least the step that pops it. The definition of
+-- remaining costs is this project's own choice.
 use Rattle.std.specs.Prelude.{ℕ, zero, suc, ◌+◌, ◌*◌, ◌-◌, nat_le, if◌then◌else◌, max, ◌≤◌, List, [], ◌∷◌, length, Option, None, Some}
 use Rattle.cyc_types.specs.declared.typed.Kind.{Kind}
 use Rattle.cyc_types.specs.declared.typed.Kind.TheVariants as kinds
 use Rattle.cyc_types.specs.TypedTrees.{Expression}
-use Rattle.cyc_meaning.specs.Values.{Value, Int, Operand, bytes_of_kind, behind, block_size}
+use Rattle.cyc_meaning.specs.Values.{Value, Int, Operand, bytes_of_kind, following, block_size}
 use Rattle.cyc_meaning.specs.State.{Sort, Heap, Lexical, Dynamic, Region, Owner, InRegion, Unique, Object, World, Awaiting, ConvertTo, Chain, Pass, Index, Advance, PlaceBy, MakePlain, MakeFields, MakeArray}
 use Rattle.cyc_meaning.specs.State.{FillElement, Initialise, Choose, Test, OpenBy, AliasOf, AwaitingPlace, StoreTo, SwapLeft, SwapRight, Entry, Needs, NeedsPlace, Rest, Loop, Handler, Focus, Evaluating, Locating}
 use Rattle.cyc_meaning.specs.State.{Given, Executing, Calling, Entering, Binding, Naming, Writing, Beginning, Repeating, Swapping, Breaking, Continuing, Returning, Throwing, Catching, State, Running, Ended, Dead, Wrong}
@@ -15,9 +15,9 @@ use Rattle.cyc_bound.specs.declared.costs.Site.TheVariants as sites
 use Rattle.cyc_bound.specs.Costs.{too_many, step_cost, opening_cost, lasting_cost, block_cost, size_of_bytes, written_length, plain_cost, elements_cost, array_cost, callee_cost, expression_cost}
 use Rattle.cyc_bound.specs.Costs.{place_cost, initial_cost, fields_cost, converted_cost, arguments_cost, operations_cost, side_cost, loop_cost, statement_cost, items_cost, clauses_cost, function_cost}
 
--- ---- what is known of a value before it is there
+-- ---- what is known of an awaited value
 
--- that none comes, nothing, or its kind, and where it is an int maybe that
+-- the facts known about an awaited value: there is none; nothing is known; its kind; or, for an int, possibly its value
 pub data Delivery : Type 0 where
   Nothing : Delivery
   Anything : Delivery
@@ -43,25 +43,25 @@ focus_delivers (Returning value) = Nothing
 focus_delivers (Throwing tag value) = Nothing
 focus_delivers focus = Anything
 
--- what the entry behind this one gets
+-- the facts about the value that the entry after this one receives
 abbrev pub entry_delivers : Entry → Delivery
 entry_delivers (Needs (ConvertTo from to target)) = OfKind to None
 entry_delivers entry = Anything
 
 -- ---- entries
 
--- where the object of an owner is made: the first region is the heap
+-- the site of an object of this owner; region 0 is the heap
 abbrev pub site_of_owner : Owner → Site
 site_of_owner (InRegion zero) = sites.Heap
 site_of_owner (InRegion (suc region)) = sites.Region
 site_of_owner (Unique live) = sites.Unique
 
--- the bytes of fields whose values are these, newest first
+-- the number of bytes of fields with these values, newest first
 abbrev pub bytes_before : List Operand → ℕ
 bytes_before [] = 0
-bytes_before (v ∷ before) = behind v.kind (bytes_before before)
+bytes_before (v ∷ before) = following v.kind (bytes_before before)
 
--- A field waits behind its conversion, and nowhere else.
+-- The cost of a field that is awaited after its conversion; otherwise 0.
 abbrev pub field_awaited : Measure → (fields : Kind → ℕ) → Delivery → ℕ
 field_awaited m fields Nothing = step_cost m
 field_awaited m fields Anything = too_many
@@ -72,7 +72,7 @@ length_awaited m array Nothing = step_cost m
 length_awaited m array Anything = array None
 length_awaited m array (OfKind kind n) = array n
 
--- the elements from this one on
+-- the cost of the elements from this index on
 abbrev pub elements_left : Measure → (element count index : ℕ) → ℕ
 elements_left m element count index = if nat_le index count then (count - index) * (step_cost m + element) + 2 * step_cost m else too_many
 
@@ -84,7 +84,7 @@ awaiting_cost m costs d (Advance peek target base) = 2 * step_cost m
 awaiting_cost m costs d (PlaceBy initial) = initial_cost m costs sites.Region initial + step_cost m
 awaiting_cost m costs d (MakePlain owner kind) = plain_cost m (site_of_owner owner) kind
 awaiting_cost m costs d (MakeFields owner before fields) =
-    field_awaited m (λ (kind : Kind). fields_cost m costs (site_of_owner owner) (suc (length before)) (behind kind (bytes_before before)) fields) d
+    field_awaited m (λ (kind : Kind). fields_cost m costs (site_of_owner owner) (suc (length before)) (following kind (bytes_before before)) fields) d
 awaiting_cost m costs d (MakeArray owner level kind element) =
     length_awaited m (λ (n : Option ℕ). array_cost m (site_of_owner owner) kind (expression_cost m costs element) n) d
 awaiting_cost m costs d (FillElement object count index level kind element) = elements_left m (expression_cost m costs element) count (suc index)
@@ -113,7 +113,7 @@ abbrev pub stack_cost : Measure → (costs : List ℕ) → Delivery → List Ent
 stack_cost m costs d [] = 0
 stack_cost m costs d (entry ∷ stack) = entry_cost m costs d entry + stack_cost m costs (entry_delivers entry) stack
 
--- ---- what is done next
+-- ---- the cost of the focus
 
 abbrev pub swapping_cost : Measure → Option Operand → ℕ
 swapping_cost m None = 6 * step_cost m
@@ -135,7 +135,7 @@ focus_cost m costs (Swapping kind left right before) = swapping_cost m before
 focus_cost m costs (Catching tag value clauses) = clauses_cost m costs clauses
 focus_cost m costs focus = step_cost m
 
--- ---- what is spent
+-- ---- spent costs
 
 abbrev pub blocks_spent : Measure → Site → List ℕ → ℕ
 blocks_spent m site [] = 0
@@ -147,8 +147,8 @@ sort_spent m Lexical = opening_cost m
 sort_spent m Dynamic = opening_cost m + lasting_cost m
 sort_spent m sort = 0
 
--- the regions that were opened and all that was made in them, whether they are open or not: the first one is at this site, and the others
--- have handles
+-- The spent cost of all regions opened so far and of their blocks, closed ones included. The first region opened is at this site, and the
+-- other regions belong to handles.
 abbrev pub regions_spent : Measure → Site → List Region → ℕ
 regions_spent m site [] = 0
 regions_spent m site (r ∷ regions) = sort_spent m r.sort + (blocks_spent m site r.blocks + regions_spent m sites.Region regions)
@@ -157,7 +157,7 @@ abbrev pub object_spent : Measure → Owner → (size : ℕ) → ℕ
 object_spent m (InRegion region) size = 0
 object_spent m (Unique live) size = block_cost m sites.Unique size
 
--- the unique objects that were made, whether they are given back or not
+-- the spent cost of all unique objects allocated so far, freed ones included
 abbrev pub objects_spent : Measure → List Object → ℕ
 objects_spent m [] = 0
 objects_spent m (x ∷ objects) = object_spent m x.owner (block_size x.cells) + objects_spent m objects
@@ -167,13 +167,13 @@ spent m w = regions_spent m sites.Heap w.regions + objects_spent m w.objects
 
 -- ---- states
 
--- what is spent, as this counts it, and what is still to come, is no more than this
+-- the counted spent cost plus the remaining cost is at most this number
 abbrev pub TakesAtMost : (counted : World → ℕ) → Measure → (costs : List ℕ) → (most : ℕ) → State → Type 0
 TakesAtMost counted m costs most (Running focus stack e w) = focus_cost m costs focus + (stack_cost m costs (focus_delivers focus) stack + counted w) ≤ most
 TakesAtMost counted m costs most (Ended ending output input) = Unit {0}
 TakesAtMost counted m costs most (Dead output input) = Unit {0}
 TakesAtMost counted m costs most (Wrong output input) = Unit {0}
 
--- where all that is spent counts
+-- the bound for the count of all spent costs
 abbrev pub CostsAtMost : Measure → (costs : List ℕ) → (most : ℕ) → State → Type 0
 CostsAtMost m costs most s = TakesAtMost (spent m) m costs most s

@@ -1,4 +1,4 @@
--- What a round makes of what functions cost, and what is found after all of them.
+-- The effect of a round on the costs of functions, and the result after all rounds.
 use Rattle.std.specs.Prelude.{◌≡◌, ℕ, List, max, get_or, set, length, Option, Some, None}
 use Rattle.std.specs.declared.vec.Vec.{Vec}
 use Rattle.std.specs.declared.alloc.Global.{Global as Heap}
@@ -7,29 +7,29 @@ use Rattle.cyc_bound.specs.declared.costs.Measure.{Measure}
 use Rattle.cyc_bound.specs.AtOnce.{AreEnough}
 use Rattle.cyc_bound.specs.Costs.{next_costs, Below, IsClosed, AreCosts, IsRunCost, StillGrow}
 
--- what a function costs is made enough for its body
+-- the costs after one function's cost is raised to that of its body
 abbrev pub raised : Program → Measure → (costs : List ℕ) → (function : ℕ) → List ℕ
 raised program m costs f = set costs f (max (get_or costs f 0) (get_or (next_costs program m costs) f 0))
 
--- Nothing costs less than before, or less than its body by what was before; and nothing more than in any costs that are enough and were
--- not below those before.
+-- No function costs less than before, or less than its body by the costs before. No function costs more than in any sufficient costs above
+-- the costs before the round.
 pub record AreRaised (program : Program) (m : Measure) (before after : List ℕ) : Type 0 where
   pub all : length after ≡ length before
   pub more : Below before after
   pub next : Below (next_costs program m before) after
   pub least : (others : List ℕ) → IsClosed program m others → Below before others → Below after others
 
--- the costs, or that they still grow
+-- the costs of functions, or that these costs still grow
 abbrev pub AreFound : Program → Measure → Option (Vec ℕ Heap) → Type 0
 AreFound program m (Some costs) = AreCosts program m costs.items
 AreFound program m None = StillGrow program m
 
--- costs that are enough, or that they still grow
+-- sufficient costs of functions, or that the costs still grow
 abbrev pub AreEnoughFound : Program → Measure → Option (Vec ℕ Heap) → Type 0
 AreEnoughFound program m (Some costs) = AreEnough program m costs.items
 AreEnoughFound program m None = StillGrow program m
 
--- what a run costs, or that it still grows
+-- the cost of a run, or that this cost still grows
 abbrev pub IsFound : Program → Measure → Option ℕ → Type 0
 IsFound program m (Some cost) = IsRunCost program m cost
 IsFound program m None = StillGrow program m

@@ -1,5 +1,5 @@
--- What holds of the calls under way in every state of a run: the functions that were called and have not returned are a row from `main`
--- on, and all that is still to be done of a call stands in the body of its function. (This project's own choice.)
+-- An invariant on the active calls in every state of a run. The functions of the active calls form a chain from `main`. The remaining part
+-- of each active call is part of the body of its function. The invariant on active calls is this project's own choice.
 use Rattle.std.specs.Prelude.{◌≡◌, ℕ, List, [], ◌∷◌, ◌++◌}
 use Rattle.std.specs.List.{AllByRecursion}
 use Rattle.cyc_types.specs.TypedTrees.{Program}
@@ -8,7 +8,7 @@ use Rattle.cyc_meaning.specs.State.{Rest, Loop, Handler, Caller, Main, Focus, Ev
 use Rattle.cyc_bound.specs.Callees.{callee_of, expression_callees, dereference_callees, initial_callees, converted_callees, arguments_callees, operations_callees, side_callees, statement_callees, items_callees, clauses_callees}
 use Rattle.cyc_bound.specs.Bound.{Calls}
 
--- ---- what is still to be called
+-- ---- calls that are still to come
 
 abbrev pub awaiting_callees : Awaiting → List ℕ
 awaiting_callees (Chain rest) = operations_callees rest
@@ -51,13 +51,13 @@ focus_callees (Repeating object count index level kind element) = expression_cal
 focus_callees (Catching tag value clauses) = clauses_callees clauses
 focus_callees focus = []
 
--- ---- whose calls they are
+-- ---- the functions of the active calls
 
--- all of these are called by this function
+-- this function contains calls of all of these
 abbrev pub AreOf : Program → (caller : ℕ) → List ℕ → Type 0
 AreOf program caller callees = AllByRecursion (λ (callee : ℕ). Calls program caller callee) callees
 
--- the entries of the call of this function, and behind them those of the functions that led to it, up to `main`
+-- the stack entries of a call of the function, followed by those of the function's callers up to `main`
 abbrev pub Waits : Program → (function : ℕ) → List Entry → Type 0
 Waits program function [] = function ≡ program.main
 Waits program function (Caller outer ∷ stack) = (caller : ℕ) × Calls program caller function × Waits program caller stack
@@ -65,7 +65,7 @@ Waits program function (Main ∷ []) = function ≡ program.main
 Waits program function (Main ∷ entry ∷ stack) = ⊥
 Waits program function (entry ∷ stack) = AreOf program function (entry_callees entry) × Waits program function stack
 
--- the call of this function is the newest
+-- the newest call is of this function
 abbrev pub IsIn : Program → (function : ℕ) → State → Type 0
 IsIn program function (Running focus stack e w) = AreOf program function (focus_callees focus) × Waits program function stack
 IsIn program function (Ended ending output input) = Unit {0}

@@ -4,9 +4,9 @@ use Rattle.cyc_words.proofs.Lists.{take_popped, length_pushed, take_rest}
 use Rattle.cyc_words.proofs.Numbers.{ord_max-max}
 use Rattle.cyc_types.specs.TypedTreeView.{view_program}
 use Rattle.cyc_bound.specs.declared.bound.CallBound.{CallBound}
-use Rattle.cyc_bound.specs.Bound.{LeadTo, IsHeight, IsCircle, IsAnswer}
+use Rattle.cyc_bound.specs.Bound.{LeadTo, IsHeight, IsCycle, IsAnswer}
 use Rattle.cyc_bound.specs.inside.Walk.{AreHeights, GoesOn}
-use Rattle.cyc_bound.proofs.WalkLemmas.{IsSoFar, lead_more, circle_from, row_counts, row_behind, so_far_none, so_far_more, so_far_all, heights_more, deep_through, calls_at}
+use Rattle.cyc_bound.proofs.WalkLemmas.{IsSoFar, lead_more, cycle_from, row_counts, row_after, so_far_none, so_far_more, so_far_all, heights_more, deep_through, calls_at}
 use Rattle.cyc_bound.proofs.bound.+bound_from.Goals as goal
 
 pub returns-in-Some-clause-answer : goal.returns-in-Some-clause-answer
@@ -15,8 +15,8 @@ returns-in-Some-clause-answer t c =
     let place = c.in-Some.place in
     let path = c.args.path.now.items in
     let found = subst (λ (l : List ℕ). (place < length l) × (get_or l place 0 ≡ c.args.function)) c.deref-2.ensures.value c.in-Some.ensures in
-    let circle = circle_from p path place c.args.function (vec_len c.args.path.now + 1) c.requires.path found.0 found.1 c.requires.row in
-    subst (λ (l : List ℕ). IsCircle p l) (sym (c.in_ok-functions.ensures.items ∙ take_rest place c.deref-in-Some.result.now ∙ ap (λ (l : List ℕ). drop place l) c.deref-in-Some.ensures.value)) circle
+    let cycle = cycle_from p path place c.args.function (vec_len c.args.path.now + 1) c.requires.path found.0 found.1 c.requires.row in
+    subst (λ (l : List ℕ). IsCycle p l) (sym (c.in_ok-functions.ensures.items ∙ take_rest place c.deref-in-Some.result.now ∙ ap (λ (l : List ℕ). drop place l) c.deref-in-Some.ensures.value)) cycle
 
 pub loop-callee-init : goal.loop-callee-init
 loop-callee-init t c = record {
@@ -36,7 +36,7 @@ bound_from-requires t c =
     let call = calls_at p f items i callee c.loop-callee.invariant.callees c.loop-callee-test.true (get_or_default items i 0 callee c.loop-callee-test.true) in
     let more : vec_len c.loop-callee.path ≡ vec_len c.args.path.now + 1
     = length_pushed c.args.path.now.items c.loop-callee.path.items f (vec_len c.args.path.now) (vec_len c.loop-callee.path) c.loop-callee.invariant.path (omega (arith, c.args.path.now.ok.0)) (omega (arith, c.loop-callee.path.ok.0)) in
-    let row = row_counts p p.main callee (vec_len c.args.path.now + 1 + 1) (vec_len c.loop-callee.path + 1) (omega (arith, more)) (row_behind p p.main f callee (vec_len c.args.path.now + 1) c.requires.row call) in
+    let row = row_counts p p.main callee (vec_len c.args.path.now + 1 + 1) (vec_len c.loop-callee.path + 1) (omega (arith, more)) (row_after p p.main f callee (vec_len c.args.path.now + 1) c.requires.row call) in
     let path = subst (λ (l : List ℕ). LeadTo p l callee) (sym c.loop-callee.invariant.path) (lead_more p c.args.path.now.items f callee c.requires.path call) in
     (omega (arith, c.decreases, c.if-left-eq0.false), (row, (path, (omega (arith, more, c.requires.left, c.if-left-eq0.false), c.loop-callee.invariant.heights))))
 

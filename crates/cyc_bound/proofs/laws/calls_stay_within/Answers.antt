@@ -1,4 +1,4 @@
--- Calls.
+-- The bound on calls.
 use Rattle.cyc_bound.proofs.CallRuns.{depth_within, calls_within, runs_alike}
 use Rattle.cyc_bound.proofs.laws.calls_stay_within.Goals as goal
 

@@ -1,4 +1,4 @@
--- Costs of runs.
+-- The cost of a run is unique.
 use Rattle.cyc_bound.proofs.RoundLemmas.{one_cost}
 use Rattle.cyc_bound.proofs.laws.costs_are_one.Goals as goal
 

@@ -1,4 +1,4 @@
--- Steps.
+-- The bound on steps.
 use Rattle.cyc_bound.proofs.CostRuns.{runs_end}
 use Rattle.cyc_bound.proofs.laws.steps_end.Goals as goal
 

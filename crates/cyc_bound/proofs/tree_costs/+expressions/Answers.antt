@@ -95,13 +95,13 @@ initial_cost-returns-in-Array t c =
     array_costs c.args.measure c.args.costs.now c.args.site c.args.initial.now initial.level initial.length initial.kind initial.element initial.is c.expression_cost-counted.result c.expression_cost-turn.result c.written_length.result c.array_cost.result c.plus-in-Array.result
     c.expression_cost-counted.ensures c.expression_cost-turn.ensures c.written_length.ensures c.array_cost.ensures c.plus-in-Array.ensures
 
-pub fields_cost-bytes_behind-bytes-requires : goal.fields_cost-bytes_behind-bytes-requires
-fields_cost-bytes_behind-bytes-requires t c = omega (arith, c.loop-value.invariant.1, c.loop-value-test.true, c.loop-value.auto.value-index-end)
+pub fields_cost-bytes_after-bytes-requires : goal.fields_cost-bytes_after-bytes-requires
+fields_cost-bytes_after-bytes-requires t c = omega (arith, c.loop-value.invariant.1, c.loop-value-test.true, c.loop-value.auto.value-index-end)
 
 pub fields_cost-loop-value-preserved : goal.fields_cost-loop-value-preserved
 fields_cost-loop-value-preserved t c =
-    fields_next c.args.measure c.args.costs.now c.args.site c.args.values.now c.loop-value.value-index c.loop-value.total c.loop-value.bytes c.value-item.result c.converted_cost.result c.plus-total.result c.bytes_behind-bytes.result
-    c.loop-value-test.true c.value-item.is c.loop-value.invariant c.converted_cost.ensures c.plus-total.ensures c.bytes_behind-bytes.ensures
+    fields_next c.args.measure c.args.costs.now c.args.site c.args.values.now c.loop-value.value-index c.loop-value.total c.loop-value.bytes c.value-item.result c.converted_cost.result c.plus-total.result c.bytes_after-bytes.result
+    c.loop-value-test.true c.value-item.is c.loop-value.invariant c.converted_cost.ensures c.plus-total.ensures c.bytes_after-bytes.ensures
 
 pub fields_cost-loop-value-init : goal.fields_cost-loop-value-init
 fields_cost-loop-value-init t c = (ap (λ n. min too_many n) (none (fields_cost c.args.measure c.args.costs.now c.args.site 0 0 (arguments_of c.args.values.now))), omega arith)
