@@ -1,10 +1,11 @@
--- A folder for each topic; what each has is said at the head of its file.
+-- The proofs have one folder for each topic; the header of each file states its contents.
 mod types
+mod guard
 mod flow
 mod states
 mod steps
--- the theorem: of the class, and of what comes of texts, which the crates above cite
+-- the theorem, for the class and for programs of texts, which the crates above cite
 mod Whole
 pub mod FormedLemmas
--- worked examples
+-- examples
 mod examples

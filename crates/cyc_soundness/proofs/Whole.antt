@@ -1,4 +1,4 @@
--- THE WHOLE: every step of a typed state leads to a typed state, so no run of an accepted program of the class is dead or wrong.
+-- THE WHOLE PROOF. Every step of a typed state leads to a typed state. No run of an accepted program of the class is dead or wrong.
 use Rattle.std.proofs.Common.{◌≡◌, ◌≢◌, inl, inr, ℕ, ◌≤◌, zero, suc, Bool, true, false, List, [], ◌∷◌, length, map, Option, Some, None, slice_get, refl, sym, ap, subst, ◌∙◌, arith}
 use Rattle.std.specs.Prelude.{if◌then◌else◌, ◌==◌, Contains}
 use Rattle.std.proofs.lemmas.Bool.{eq-eqb, eqb-true, not-true}
@@ -72,7 +72,7 @@ module _ (p : Program) (accepted : AreAccepted p) (e : Environment) (w : World) 
       evaluate p g x bs e w objects globals bound variables a k c t f h evaluates.waiting nests.0 live stands holds evaluates.typed evaluates.flows evaluates.kept stack
   step_well (Given v) k nests live (r, f, holds, is, comes, stack) = given_on v k r f nests live holds is comes stack
   step_well (Executing s) k nests live (c, f, h, stands, holds, executes, stack) =
-      execute p g x bs e w objects globals bound variables s k c f h executes.before executes.behind live stands holds executes.typed executes.flows executes.breaks executes.kept stack
+      execute p g x bs e w objects globals bound variables s k c f h executes.before executes.following live stands holds executes.typed executes.flows executes.breaks executes.kept stack
   step_well Proceeding k nests live (f, holds, stack) = proceed p g e w objects globals x bs bound variables k f nests live holds stack
   step_well (Calling callee arguments) k nests live (ts, r, f, holds, is, are, claims, stack) = call p accepted g x bs e w objects globals bound variables callee arguments k ts r f live holds is are claims stack
   step_well (Entering h arguments) k nests live (end, these, alive, ok, body, these_are, stand, are, claims, stack) =
@@ -97,7 +97,7 @@ module _ (p : Program) (accepted : AreAccepted p) (e : Environment) (w : World) 
   step_well (Returning v) k nests live (f, is, stack) = returns_on p g e w objects globals x bs bound variables k v f nests live is stack
   step_well (Throwing tag value) k nests live (want, stack) = throws_on p g e w objects globals x bs bound variables k tag value want nests live stack
   step_well (Catching tag value cs) k nests live (c, start', f, h, stands, holds, catches, stack) =
-      catch p accepted g x bs e w objects globals bound variables tag value cs k c start' f h catches.before catches.behind live stands holds catches.typed catches.flows catches.breaks catches.kept stack
+      catch p accepted g x bs e w objects globals bound variables tag value cs k c start' f h catches.before catches.following live stands holds catches.typed catches.flows catches.breaks catches.kept stack
 
 pub well_step : (p : Program) (s : State) → AreAccepted p → Nests s → IsWell p s → IsWell p (step p s)
 well_step p (Running focus k e w) accepted nests well =
@@ -129,16 +129,16 @@ accepted_among p (f ∷ hs) (one, well) (u, (k, d, (demands, same)), flows) (in_
     (k.now, subst (λ z. IsAccepted p z k.now) f_is ok)
 accepted_among p (f ∷ hs) (one, well) (u, d, flows) (in_one, kept) (suc n) h found = accepted_among p hs well flows kept n h found
 
--- ---- the start
+-- ---- the start state
 
--- each of these holds something
+-- one filled cell for each global
 abbrev ones : List GlobalVariable → List ℕ
 ones vs = map (λ (v : GlobalVariable). 1) vs
 
 abbrev global_of : GlobalVariable → ObjectType
 global_of v = global_type (at as_heap v.of_type)
 
--- the cells of a struct, for as many lives as it has parameters
+-- the cell types of a struct, given as many lifetimes as it has region parameters
 abbrev cells_of : List Life → StructType → Option (List RunTy)
 cells_of ls s = if length ls == s.parameters then Some (map (at (lives_among ls)) s.fields) else None
 
@@ -163,7 +163,7 @@ value_typed g v (inr (inr (k, t, r, pointer, null, is))) =
     subst (λ z. HasType g (at as_heap v.of_type) (constant_value z)) (sym is)
     (subst (λ u. HasType g (at as_heap u) values.Null) (sym pointer) (null_typed g k t r (subst (λ u. is_non_null u ≡ false) pointer null)))
 
--- the key of the heap is none
+-- a key of the heap is not a resource
 key_keyless : (r : Region) → IsKeyless (at as_heap (types.Key r))
 key_keyless regions.Heap = tt
 key_keyless regions.Unique = tt
@@ -180,7 +180,7 @@ global_keyless (types.Struct n rs) = tt
 global_is : (g : Typing) (v : GlobalVariable) → IsWellTypedGlobal v → IsObject g 1 (global_of v) (global_object v)
 global_is g v has = record { owner = refl; known = tt; keyless = λ shown. (global_keyless v.of_type, tt); cells = ((sym (kind_meant as_heap v.of_type), value_typed g v has), tt) }
 
--- what globals hold first is no thing
+-- the initial values of globals are not resources
 value_claims : (own : Thing → Holder) (h : Holder) (v : GlobalVariable) → IsWellTypedGlobal v → Claims own h (at as_heap v.of_type) (constant_value v.value)
 value_claims own h v (inl (int, (word, is))) = subst (λ t. Claims own h (at as_heap t) (constant_value v.value)) (sym int) (tt, tt)
 value_claims own h v (inr (inl (char, (word, is, small)))) = subst (λ t. Claims own h (at as_heap t) (constant_value v.value)) (sym char) (tt, tt)
@@ -228,7 +228,7 @@ all_fields n [] kept field t found = absurd (let z : None ≡ Some t = found in 
 all_fields n (u ∷ ts) (one, usual, kept) zero t found = subst (λ z. IsDeclarable n z) (same_Some u t found) one
 all_fields n (u ∷ ts) (one, usual, kept) (suc field) t found = all_fields n ts kept field t found
 
--- none is a key
+-- no field is a key
 all_usual : (n : ℕ) (ts : List Ty) → InFields n ts → (field : ℕ) (t : Ty) → slice_get ts field ≡ Some t → is_key t ≡ false
 all_usual n [] kept field t found = absurd (let z : None ≡ Some t = found in cc)
 all_usual n (u ∷ ts) (one, usual, kept) zero t found = subst (λ z. is_key z ≡ false) (same_Some u t found) usual
@@ -249,7 +249,7 @@ cells_counted ls s ts is = go (length ls == s.parameters) refl is
     go true same is = eqb-true (length ls) s.parameters same
     go false other is = absurd (let z : None ≡ Some ts = is in cc)
 
--- where there are no constraints, nothing is given of unique pointers
+-- without constraints, no region outlives the unique region
 plain_given : (h : Function) (a : Region) → h.constraints ≡ [] → IsGiven (regions_at_call h) a regions.Unique → ⊥
 plain_given h a none (inl (heap, plain)) = plain refl
 plain_given h a none (inr (inl written)) = absurd (Contains-empty (a, regions.Unique) (subst (λ ps. Contains ps (a, regions.Unique)) none written))
@@ -260,7 +260,7 @@ first_given h b none (inl (heap, plain)) = let e : regions.Unique ≡ regions.He
 first_given h b none (inr (inl written)) = absurd (Contains-empty (regions.Unique, b) (subst (λ ps. Contains ps (regions.Unique, b)) none written))
 first_given h b none (inr (inr old)) = old
 
--- at the start all region variables stand for the heap
+-- at the start, all region variables denote the heap
 stand_first : (c : RegionContext) → ((a : Region) → IsGiven c a regions.Unique → ⊥) → ((b : Region) → IsGiven c regions.Unique b → ⊥) → AreNamed c (λ n. heap_life) (λ n. true)
 stand_first c plain first = record { there = λ r has. there r; agrees = agrees; plain = plain }
   where
@@ -269,7 +269,7 @@ stand_first c plain first = record { there = λ r has. there r; agrees = agrees;
     there regions.Unique = tt
     there (regions.Variable n) = refl
 
-    -- nothing is unique but what is so itself
+    -- at the start, only the unique region denotes a unique lifetime
     agrees : (a b : Region) → IsGiven c a b → Outlasts (lives_of (λ n. heap_life) a) (lives_of (λ n. heap_life) b)
     agrees regions.Heap b given = for_ever (lives_of (λ n. heap_life) b)
     agrees (regions.Variable n) b given = for_ever (lives_of (λ n. heap_life) b)

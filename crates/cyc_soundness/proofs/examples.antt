@@ -1,4 +1,4 @@
--- texts, and programs that the rules accept and refuse
+-- example texts, and programs that the rules accept or reject
 pub mod Examples
 pub mod LaterRegions
 pub mod KeyFields

@@ -1,4 +1,4 @@
--- what the flow rules imply of a tree
+-- facts that the flow rules imply for a tree
 pub mod FlowLemmas
 pub mod RuleLemmas
 pub mod Looking

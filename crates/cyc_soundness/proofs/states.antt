@@ -1,4 +1,4 @@
--- the typing of states: how it grows, and how things change hands
+-- the typing of states: growth, and transfer of resources
 pub mod WorldLemmas
 pub mod Hands
 pub mod StillHands

@@ -1,4 +1,4 @@
--- how types, values and regions are read
+-- the readings of types, values and regions
 pub mod TypeLemmas
 pub mod ValueLemmas
 pub mod RegionLemmas

@@ -1,4 +1,5 @@
--- what is promised of a program
+-- the soundness property of a program
 pub mod Sound
--- What the functions of this crate promise each other and what its proofs say: no public contract of the product means it.
+-- Contracts between this crate's functions, and statements of its proofs. No public contract of the product depends on these internal
+-- definitions.
 pub mod inside

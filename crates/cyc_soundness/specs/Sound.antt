@@ -1,5 +1,5 @@
--- NO DEAD ACCESS: what is promised of a program that the typing rules and the flow rules accept. (The promise is that of Grossman et al.
--- 2002, with unique pointers and locks; the form is this project's own choice.)
+-- NO DEAD ACCESS: the property of a program that the typing rules and the flow rules accept. (The property is that of Grossman et al. 2002,
+-- with unique pointers and locks; the form is this project's own choice.)
 use Rattle.std.specs.Prelude.{◌≢◌, ℕ, List}
 use Rattle.cyc_types.specs.TypedTrees.{Program}
 use Rattle.cyc_meaning.specs.State.{status_of, IsDead, IsWrong}

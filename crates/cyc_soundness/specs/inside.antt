@@ -1,9 +1,11 @@
--- how the states of a run are typed
+-- the flow rules as relations on states
+pub mod guard
+-- the typing of the states of a run
 pub mod Lives
 pub mod Worlds
 pub mod Frames
 pub mod Judgements
 pub mod Awaited
 pub mod Stacks
--- which programs the proof speaks of
+-- the class of programs that the proof covers
 pub mod Classes

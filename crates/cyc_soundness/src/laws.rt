@@ -1,5 +1,5 @@
-//! Laws of the definitions in `specs/`. Each function does nothing: its contract is the law, and so it is proved with
-//! the crate.
+//! Laws of the definitions in `specs/`. Each function of this file does nothing, and its contract states one law, which is proved with the
+//! crate.
 
 ghost use Rattle.std.specs.Prelude.{ℕ, List};
 ghost use Rattle.cyc_syntax.specs.Trees.{Declaration};
@@ -7,11 +7,12 @@ ghost use Rattle.cyc_types.specs.Types.{Ty, ValueType};
 ghost use Rattle.cyc_types.specs.TypedTrees.{Program};
 ghost use Rattle.cyc_types.specs.typing.Programs.{IsTypedProgram};
 ghost use Rattle.cyc_types.specs.typing.Tests.{kind_of};
-ghost use Rattle.cyc_types.specs.typing.WellTyped.{Context, Converts};
+ghost use Rattle.cyc_types.specs.typing.WellTyped.{Context, Converts, IsWellTypedProgram};
 ghost use Rattle.cyc_types.specs.flow.Programs.{IsAllowedProgram};
 ghost use Rattle.cyc_meaning.specs.Values.{Value, Operand};
 ghost use Rattle.cyc_meaning.specs.Conversion.{conversion};
 ghost use Rattle.cyc_meaning.specs.State.{Entry};
+ghost use Rattle.cyc_soundness.specs.inside.guard.Programs.{IsGuardedProgram};
 ghost use Rattle.cyc_soundness.specs.inside.Lives.{RunTy, Lives, at, value_at};
 ghost use Rattle.cyc_soundness.specs.inside.Worlds.{Typing, AgreesWith, HasType, IsResult, Fits, Grows, Stays};
 ghost use Rattle.cyc_soundness.specs.inside.Frames.{InScope, Exits};
@@ -19,23 +20,27 @@ ghost use Rattle.cyc_soundness.specs.inside.Awaited.{Want};
 ghost use Rattle.cyc_soundness.specs.inside.Stacks.{IsStack};
 ghost use Rattle.cyc_soundness.specs.Sound.{IsSound};
 
-/// What is known of a world only grows, and what was typed stays so: a value keeps its type for good, and a control stack
-/// keeps it where no key changes hands.
+/// A well-typed tree that satisfies the flow rules is guarded.
+pub fn allowed_programs_are_guarded()
+    ensures { (program : Program) → IsWellTypedProgram program → IsAllowedProgram program → IsGuardedProgram program }
+{}
+
+/// The facts about a world only grow, and typed parts stay typed. A value keeps its type for ever; a control stack keeps its type as long
+/// as no resource changes its holder.
 pub fn typings_stay()
     ensures values { (g h : Typing) → Grows g h → (t : RunTy) (v : Value) → HasType g t v → HasType h t v }
     ensures stacks { (p : Program) (g h : Typing) → Stays g h → (x : Exits) (locals : List InScope) (want : Want) (stack : List Entry)
         → IsStack p g x locals want stack → IsStack p h x locals want stack }
 {}
 
-/// A value that the rules let be converted becomes a value of the type that is wanted, or raises an exception: whatever
-/// regions stand for, if what outlives another there lasts as long.
+/// If the rules allow the conversion of a value, it gives a value of the target type, or raises an exception. Each conversion fits for all
+/// lifetimes of the regions that satisfy the outlives constraints.
 pub fn conversions_fit()
     ensures { (g : Typing) (n : Lives) (c : Context) (s : ValueType) (t : Ty) (v : Operand) → AgreesWith c.regions n → Converts c s t
         → IsResult g (value_at n s) v → Fits g (at n t) (conversion (kind_of t) v.value) }
 {}
 
-/// No run of a program that the typing rules derive from a tree and the flow rules accept is ever dead or wrong: nothing
-/// else is asked of it.
+/// If the typing rules derive a program from a tree and the flow rules accept it, no run of it is ever dead or wrong.
 pub fn typed_programs_are_sound()
     ensures { (texts : List (List ℕ)) (tree : List Declaration) (p : Program) → IsTypedProgram texts tree p → IsAllowedProgram p → IsSound p }
 {}

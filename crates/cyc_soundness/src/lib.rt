@@ -1,5 +1,5 @@
-//! No dead access: what holds of every state of a program that the typing rules and the flow rules accept, and that no such
-//! state is dead or wrong. The definitions stand in `specs/`; there is no running code.
+//! No dead access: no state of a program that the typing rules and the flow rules accept is dead or wrong. The crate defines the invariant
+//! of these states. The definitions are in `specs/`; the crate contains no running code.
 #![tactic(auto)]
 
 pub mod laws;

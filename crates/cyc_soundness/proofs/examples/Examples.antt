@@ -1,5 +1,5 @@
--- Texts of which the theorem speaks: both sets of rules accept them, and their runs end as is said. Each is proved by computation, so
--- that the theorem is not about nothing.
+-- Texts to which the theorem applies: both sets of rules accept them, and their runs end as stated. Each example is proved by computation,
+-- so the theorem is not vacuous.
 use Rattle.std.proofs.Common.{◌≡◌, ℕ, List, [], ◌∷◌, Some, None, Ok, Err, pos, refl}
 use Rattle.std.specs.Prelude.{codes}
 use Rattle.cyc_words.specs.Word.{slt_of}
@@ -23,14 +23,14 @@ use Rattle.cyc_meaning.specs.Run.{run}
 use Rattle.cyc_soundness.specs.Sound.{IsSound}
 use Rattle.cyc_soundness.proofs.FormedLemmas.{typed_sound}
 
--- ---- what is said of a text
+-- ---- the property of an example text
 
--- the typed program keeps the flow rules, and ends so
+-- the typed program satisfies the flow rules and ends with this status
 abbrev Ends : Checked typed.Program → Status → Type 0
 Ends (Ok p) s = (flow_of p ≡ Ok tt) × (status_of (run p [] 200) ≡ s)
 Ends (Err f) s = ⊥
 
--- and so no run of it is dead or wrong
+-- no run of an example is dead or wrong
 pub never_dead : (texts : List (List ℕ)) (tree : List Declaration) (s : Status) → Ends (check_of texts tree) s
     → (p : typed.Program) × IsTypedProgram texts tree p × IsSound p × (status_of (run p [] 200) ≡ s)
 never_dead texts tree s ends = go (check_of texts tree) refl ends
@@ -56,7 +56,7 @@ abbrev written : BaseType → List PointerKind → WrittenType
 written b [] = record { place = at 1; base = b; marks = [] }
 written b (k ∷ ks) = record { place = at 1; base = b; marks = record { kind = k; region = None } ∷ [] }
 
--- a pointer to an int in the region of this name, which is never null
+-- the type of a non-null pointer to an int in the region of this name
 abbrev into : ℕ → WrittenType
 into n = record { place = at 1; base = Int; marks = record { kind = marks.NonNull; region = Some (named n 3) } ∷ [] }
 
@@ -134,7 +134,7 @@ by_handle : Ends (check_of texts (
     ∷ [])) (HasEnded (Returned (pos 6)))
 by_handle = (refl, refl)
 
--- ---- texts in which unique objects are given back
+-- ---- texts that free unique objects
 
 -- int main(){ int @`U p = rnew(unique_region) 5; int ?n = new {for i < 3 : i * i}; *p :=: n[2]; return *p + numelts(n); }
 objects_kept : Ends (check_of texts (
@@ -228,13 +228,13 @@ freed_in_each_round : Ends (check_of texts (
 unfolding slt_of
 freed_in_each_round = (refl, refl)
 
--- ---- texts of the class by scope
+-- ---- texts with scoped regions and addresses
 
 abbrev address : ℕ → Expression
 address n = Prefixed (at 40) prefixes.AddressOf (Variable (named n 41))
 
-abbrev behind : ℕ → Expression
-behind n = Prefixed (at 42) prefixes.Dereference (Variable (named n 43))
+abbrev following : ℕ → Expression
+following n = Prefixed (at 42) prefixes.Dereference (Variable (named n 43))
 
 abbrev returned : Expression → Items
 returned a = MoreItems (Execute (Return (at 44) (Some a))) NoItems
@@ -247,7 +247,7 @@ address_of_local : Ends (check_of texts (
     main (
     MoreItems (Local (written Int []) (named 3 5) (Some (Number (at 6) 3)))
     (MoreItems (Local (written Int (marks.NonNull ∷ [])) (named 2 7) (Some (address 3)))
-    (assigned (behind 2) (plus (behind 2) (Number (at 8) 4))
+    (assigned (following 2) (plus (following 2) (Number (at 8) 4))
     (returned (Variable (named 3 9))))))
     ∷ [])) (HasEnded (Returned (pos 7)))
 address_of_local = (refl, refl)
@@ -259,7 +259,7 @@ outer_from_inside : Ends (check_of texts (
     (MoreItems (Local (written Int (marks.NonNull ∷ [])) (named 2 7) (Some (address 3)))
     (MoreItems (Execute (Block (Braces (at 8) (
     MoreItems (Local (written Int []) (named 4 9) (Some (Number (at 10) 5)))
-    (assigned (behind 2) (Variable (named 4 11)) NoItems)) (at 12))))
+    (assigned (following 2) (Variable (named 4 11)) NoItems)) (at 12))))
     (returned (Variable (named 3 13))))))
     ∷ [])) (HasEnded (Returned (pos 5)))
 outer_from_inside = (refl, refl)
@@ -270,7 +270,7 @@ labelled_block : Ends (check_of texts (
     MoreItems (Execute (Labelled (named 8 5) (Braces (at 6) (
     MoreItems (Local (written Int []) (named 3 7) (Some (Number (at 8) 4)))
     (MoreItems (Local (into 8) (named 2 9) (Some (address 3)))
-    (returned (behind 2)))) (at 10)))) NoItems)
+    (returned (following 2)))) (at 10)))) NoItems)
     ∷ [])) (HasEnded (Returned (pos 4)))
 labelled_block = (refl, refl)
 
@@ -278,7 +278,7 @@ labelled_block = (refl, refl)
 lexical_of_a_caller : Ends (check_of texts (
     Function (Some (written Int [])) (named 7 1) (record { list = Listed (record { of_type = written (Handle (named 8 2)) []; name = named 9 3 } ∷ []); effect = None; constraints = [] }) (Braces (at 4) (
     MoreItems (Local (into 8) (named 2 5) (Some (RegionNew (at 6) (Variable (named 9 7)) (Plain (Number (at 8) 6)))))
-    (returned (behind 2))) (at 12))
+    (returned (following 2))) (at 12))
     ∷ main (MoreItems (Region (named 8 13) (named 9 14) None) (returned (Call (named 7 15) (MoreExpressions (Variable (named 9 16)) NoExpressions))))
     ∷ [])) (HasEnded (Returned (pos 6)))
 lexical_of_a_caller = (refl, refl)
@@ -290,7 +290,7 @@ opened_in_each_round : Ends (check_of texts (
     (MoreItems (Execute (While (at 7) (Binary (Variable (named 4 8)) (ThenOperation operators.Less (at 9) (Number (at 10) 6) NoOperations)) (Block (Braces (at 11) (
     MoreItems (Region (named 8 12) (named 9 13) None)
     (MoreItems (Local (written Int (marks.NonNull ∷ [])) (named 2 14) (Some (RegionNew (at 15) (Variable (named 9 16)) (Plain (Number (at 17) 3)))))
-    (assigned (Variable (named 4 18)) (plus (Variable (named 4 19)) (behind 2)) NoItems))) (at 20)))))
+    (assigned (Variable (named 4 18)) (plus (Variable (named 4 19)) (following 2)) NoItems))) (at 20)))))
     (returned (Variable (named 4 21)))))
     ∷ [])) (HasEnded (Returned (pos 6)))
 unfolding slt_of
@@ -302,11 +302,11 @@ left_by_exception : Ends (check_of texts (
     MoreItems (Execute (Try (at 5) (Block (Braces (at 6) (
     MoreItems (Region (named 8 7) (named 9 8) None)
     (MoreItems (Local (written Int (marks.Nullable ∷ [])) (named 2 9) (Some (Null (at 10))))
-    (returned (behind 2)))) (at 11))) (Default (returned (Number (at 12) 9))))) NoItems)
+    (returned (following 2)))) (at 11))) (Default (returned (Number (at 12) 9))))) NoItems)
     ∷ [])) (HasEnded (Returned (pos 9)))
 left_by_exception = (refl, refl)
 
--- ---- texts that lend, and give nothing back
+-- ---- texts that lend resources and free none
 
 abbrev with_key : Items → Items
 with_key is = MoreItems (DynamicRegion (named 8 5) (named 5 6)) is
@@ -317,7 +317,7 @@ opened is = MoreItems (Region (named 8 50) (named 9 51) (Some (named 5 52))) is
 abbrev block : Items → Items → Items
 block inner is = MoreItems (Execute (Block (Braces (at 53) inner (at 54)))) is
 
--- a pointer to an int in the region of this name, which may be null
+-- the type of a nullable pointer to an int in the region of this name
 abbrev may_be_into : ℕ → WrittenType
 may_be_into n = record { place = at 1; base = Int; marks = record { kind = marks.Nullable; region = Some (named n 3) } ∷ [] }
 
@@ -327,7 +327,7 @@ key_opened_twice : Ends (check_of texts (
     with_key (
     MoreItems (Local (may_be_into 8) (named 2 7) (Some (Null (at 8))))
     (block (opened (assigned (Variable (named 2 9)) (RegionNew (at 10) (Variable (named 9 11)) (Plain (Number (at 12) 4))) NoItems))
-    (block (opened (returned (behind 2))) NoItems))))
+    (block (opened (returned (following 2))) NoItems))))
     ∷ [])) (HasEnded (Returned (pos 4)))
 key_opened_twice = (refl, refl)
 
@@ -335,8 +335,8 @@ key_opened_twice = (refl, refl)
 shared_by_alias : Ends (check_of texts (
     main (
     MoreItems (Local (into 6) (named 2 5) (Some (RegionNew (at 6) (UniqueRegion (at 7)) (Plain (Number (at 8) 5)))))
-    (block (MoreItems (Alias (named 8 9) (into 8) (named 3 10) (named 2 11)) (assigned (behind 3) (plus (behind 3) (Number (at 12) 1)) NoItems))
-    (returned (behind 2))))
+    (block (MoreItems (Alias (named 8 9) (into 8) (named 3 10) (named 2 11)) (assigned (following 3) (plus (following 3) (Number (at 12) 1)) NoItems))
+    (returned (following 2))))
     ∷ [])) (HasEnded (Returned (pos 6)))
 shared_by_alias = (refl, refl)
 
@@ -345,19 +345,19 @@ left_by_break : Ends (check_of texts (
     main (
     with_key (
     MoreItems (Execute (While (at 7) (Number (at 8) 1) (Block (Braces (at 9) (opened (MoreItems (Execute (Break (at 10))) NoItems)) (at 11)))))
-    (block (opened (MoreItems (Local (into 8) (named 2 12) (Some (RegionNew (at 13) (Variable (named 9 14)) (Plain (Number (at 15) 3))))) (returned (behind 2)))) NoItems)))
+    (block (opened (MoreItems (Local (into 8) (named 2 12) (Some (RegionNew (at 13) (Variable (named 9 14)) (Plain (Number (at 15) 3))))) (returned (following 2)))) NoItems)))
     ∷ [])) (HasEnded (Returned (pos 3)))
 left_by_break = (refl, refl)
 
 -- int f(region_key_t<`r> i){ region<`r> h = open(i); int *p = NULL; return *p; } int main(){ let NewDynamicRegion{<`r> i} = new_ukey(); try return f(i); catch { default: return 8; } }
 left_by_exception_in_a_call : Ends (check_of texts (
     Function (Some (written Int [])) (named 7 1) (record { list = Listed (record { of_type = written (Key (named 8 2)) []; name = named 5 3 } ∷ []); effect = None; constraints = [] }) (Braces (at 4) (
-    opened (MoreItems (Local (written Int (marks.Nullable ∷ [])) (named 2 5) (Some (Null (at 6)))) (returned (behind 2)))) (at 12))
+    opened (MoreItems (Local (written Int (marks.Nullable ∷ [])) (named 2 5) (Some (Null (at 6)))) (returned (following 2)))) (at 12))
     ∷ main (with_key (MoreItems (Execute (Try (at 13) (Return (at 14) (Some (Call (named 7 15) (MoreExpressions (Variable (named 5 16)) NoExpressions)))) (Default (returned (Number (at 17) 8))))) NoItems))
     ∷ [])) (HasEnded (Returned (pos 8)))
 left_by_exception_in_a_call = (refl, refl)
 
--- ---- texts that give keys back
+-- ---- texts that free keys
 
 abbrev freed : Items → Items
 freed is = MoreItems (Execute (Evaluate (FreeKey (at 55) (named 5 56)))) is
@@ -383,7 +383,7 @@ given_back_by_a_clause : Ends (check_of texts (
     main (
     with_key (
     MoreItems (Local (written Int (marks.Nullable ∷ [])) (named 2 5) (Some (Null (at 6))))
-    (MoreItems (Execute (Try (at 13) (Return (at 14) (Some (behind 2))) (Default (freed (returned (Number (at 17) 8)))))) NoItems)))
+    (MoreItems (Execute (Try (at 13) (Return (at 14) (Some (following 2))) (Default (freed (returned (Number (at 17) 8)))))) NoItems)))
     ∷ [])) (HasEnded (Returned (pos 8)))
 given_back_by_a_clause = (refl, refl)
 
@@ -395,14 +395,14 @@ given_back_in_a_loop : Ends (check_of texts (
     with_key (
     block (opened (
     MoreItems (Local (into 8) (named 2 14) (Some (RegionNew (at 15) (Variable (named 9 16)) (Plain (Number (at 17) 3)))))
-    (assigned (Variable (named 4 18)) (plus (Variable (named 4 19)) (behind 2)) NoItems)))
+    (assigned (Variable (named 4 18)) (plus (Variable (named 4 19)) (following 2)) NoItems)))
     (freed NoItems))) (at 20)))))
     (returned (Variable (named 4 21)))))
     ∷ [])) (HasEnded (Returned (pos 6)))
 unfolding slt_of
 given_back_in_a_loop = (refl, refl)
 
--- ---- texts that share what is unique, and give it back
+-- ---- texts that share unique objects and then free them
 
 abbrev with_unique : Items → Items
 with_unique is = MoreItems (Local (into 6) (named 2 5) (Some (RegionNew (at 6) (UniqueRegion (at 7)) (Plain (Number (at 8) 5))))) is
@@ -415,13 +415,13 @@ unique_freed is = MoreItems (Execute (Evaluate (FreeUnique (at 60) (Variable (na
 
 -- int f(int @`r x){ return *x; } int main(){ int @`U p = rnew(unique_region) 5; int n = 0; { let alias <`r> int @`r x = p; *x = f(x) + 1; n = *x; } ufree(p); return n; }
 shared_then_freed : Ends (check_of texts (
-    Function (Some (written Int [])) (named 7 1) (record { list = Listed (record { of_type = into 8; name = named 3 3 } ∷ []); effect = None; constraints = [] }) (Braces (at 4) (returned (behind 3)) (at 5))
+    Function (Some (written Int [])) (named 7 1) (record { list = Listed (record { of_type = into 8; name = named 3 3 } ∷ []); effect = None; constraints = [] }) (Braces (at 4) (returned (following 3)) (at 5))
     ∷ main (
     with_unique (
     MoreItems (Local (written Int []) (named 4 9) (Some (Number (at 10) 0)))
     (block (aliased (
-    assigned (behind 3) (plus (Call (named 7 15) (MoreExpressions (Variable (named 3 16)) NoExpressions)) (Number (at 17) 1))
-    (assigned (Variable (named 4 18)) (behind 3) NoItems)))
+    assigned (following 3) (plus (Call (named 7 15) (MoreExpressions (Variable (named 3 16)) NoExpressions)) (Number (at 17) 1))
+    (assigned (Variable (named 4 18)) (following 3) NoItems)))
     (unique_freed (returned (Variable (named 4 20)))))))
     ∷ [])) (HasEnded (Returned (pos 6)))
 shared_then_freed = (refl, refl)
@@ -430,9 +430,9 @@ shared_then_freed = (refl, refl)
 shared_again : Ends (check_of texts (
     main (
     with_unique (
-    block (aliased (assigned (behind 3) (plus (behind 3) (Number (at 12) 2)) NoItems))
-    (block (MoreItems (Alias (named 1 15) (into 1) (named 5 16) (named 2 17)) (assigned (behind 5) (plus (behind 5) (Number (at 13) 3)) NoItems))
-    (MoreItems (Local (written Int []) (named 4 14) (Some (behind 2)))
+    block (aliased (assigned (following 3) (plus (following 3) (Number (at 12) 2)) NoItems))
+    (block (MoreItems (Alias (named 1 15) (into 1) (named 5 16) (named 2 17)) (assigned (following 5) (plus (following 5) (Number (at 13) 3)) NoItems))
+    (MoreItems (Local (written Int []) (named 4 14) (Some (following 2)))
     (unique_freed (returned (Variable (named 4 20))))))))
     ∷ [])) (HasEnded (Returned (pos 10)))
 shared_again = (refl, refl)
@@ -451,7 +451,7 @@ loan_left_by_exception : Ends (check_of texts (
     main (
     with_unique (
     MoreItems (Execute (Try (at 9) (Block (Braces (at 10) (aliased (
-    returned (Binary (Number (at 11) 1) (ThenOperation operators.Divide (at 12) (Binary (behind 3) (ThenOperation operators.Subtract (at 15) (Number (at 16) 5) NoOperations)) NoOperations)))) (at 17)))
+    returned (Binary (Number (at 11) 1) (ThenOperation operators.Divide (at 12) (Binary (following 3) (ThenOperation operators.Subtract (at 15) (Number (at 16) 5) NoOperations)) NoOperations)))) (at 17)))
     (Default (returned (Number (at 23) 7))))) NoItems))
     ∷ [])) (HasEnded (Returned (pos 7)))
 loan_left_by_exception = (refl, refl)
@@ -465,8 +465,8 @@ reached_inside_a_loan : Ends (check_of texts (
     (MoreItems (Region (named 1 14) (named 9 15) None)
     (MoreItems (Local (record { place = at 1; base = Int; marks = record { kind = marks.NonNull; region = Some (named 8 3) } ∷ record { kind = marks.NonNull; region = Some (named 1 4) } ∷ [] }) (named 4 16)
     (Some (RegionNew (at 17) (Variable (named 9 18)) (Plain (Variable (named 5 19))))))
-    (assigned (Prefixed (at 21) prefixes.Dereference (behind 4)) (plus (Prefixed (at 22) prefixes.Dereference (behind 4)) (Number (at 23) 1)) NoItems)))) NoItems))
-    (MoreItems (Local (written Int []) (named 3 24) (Some (behind 2)))
+    (assigned (Prefixed (at 21) prefixes.Dereference (following 4)) (plus (Prefixed (at 22) prefixes.Dereference (following 4)) (Number (at 23) 1)) NoItems)))) NoItems))
+    (MoreItems (Local (written Int []) (named 3 24) (Some (following 2)))
     (unique_freed (returned (Variable (named 3 25)))))))
     ∷ [])) (HasEnded (Returned (pos 6)))
 reached_inside_a_loan = (refl, refl)

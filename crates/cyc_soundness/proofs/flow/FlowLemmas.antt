@@ -1,10 +1,10 @@
--- What is known of locals: what implies what, and what the rules only lower.
+-- States of locals: implication between states, and the parts of a state that the rules only lower.
 use Rattle.std.proofs.Common.{◌≡◌, ℕ, zero, suc, Bool, true, false, not, List, [], ◌∷◌, ◌++◌, refl, sym, ap, subst, ◌∙◌}
 use Rattle.std.specs.Prelude.{◌≢◌, get_or, slice_set, if◌then◌else◌}
 use Rattle.std.proofs.lemmas.List.{get_or-set_other}
 use Rattle.std.proofs.lemmas.Bool.{not-true, and_parts}
 use Rattle.cyc_types.specs.flow.States.{Fullness, Vacant, Locked, Full, State, Unreached, Reached, lower, lower_each, meet, is_as_full, are_as_full, is_at_least, is_reached, fullness, with_fullness, with_each, is_vacant, is_locked, emptied}
-use Rattle.cyc_soundness.specs.inside.Worlds.{IsAmong, first as newest, later as behind, Typing}
+use Rattle.cyc_soundness.specs.inside.Worlds.{IsAmong, first as newest, later as following, Typing}
 use Rattle.cyc_soundness.specs.inside.Classes.{is_full}
 use Rattle.cyc_soundness.specs.inside.Frames.{InScope, Variable, HoldsIts, IsSet, IsFullIn, AreSet, Holds, Implies}
 
@@ -17,7 +17,7 @@ implies_after f g h a b = record { reached = λ r. b.reached (a.reached r); set 
 pub unreached_implies : (f : State) → Implies Unreached f
 unreached_implies f = record { reached = λ e. (let k : false ≡ true = e in absurd (cc)); set = λ n s. refl; full = λ n s. refl }
 
--- ---- meets
+-- ---- meets of states
 
 neither_vacant : (a b : Fullness) → is_vacant (lower a b) ≡ false → (is_vacant a ≡ false) × (is_vacant b ≡ false)
 neither_vacant Vacant b e = absurd (let k : true ≡ false = e in cc)
@@ -55,7 +55,7 @@ meet_second Unreached g = implies_self g
 meet_second (Reached as') Unreached = unreached_implies (Reached as')
 meet_second (Reached as') (Reached bs) = record { reached = λ h. refl; set = λ n s. (each_set as' bs n s).1; full = λ n s. (each_full as' bs n s).1 }
 
--- ---- the heads of loops
+-- ---- loop heads
 
 as_full_set : (a b : Fullness) → is_as_full a b ≡ true → is_vacant b ≡ false → is_vacant a ≡ false
 as_full_set Vacant Vacant e s = s
@@ -90,7 +90,7 @@ at_least_implies Unreached g e = unreached_implies g
 at_least_implies (Reached as') Unreached e = absurd (let k : false ≡ true = e in cc)
 at_least_implies (Reached as') (Reached bs) e = record { reached = λ h. refl; set = λ n s. all_full_set as' bs n e s; full = λ n s. all_full_too as' bs n e s }
 
--- ---- one local
+-- ---- a change of one local
 
 pub other_set : (a : Fullness) (f : State) (n m : ℕ) → m ≢ n → IsSet (with_fullness a f n) m → IsSet f m
 other_set a Unreached n m other s = refl
@@ -127,7 +127,7 @@ vacated_full (a ∷ as') zero (suc m) s = s
 vacated_full (a ∷ as') (suc n) zero s = s
 vacated_full (a ∷ as') (suc n) (suc m) s = vacated_full as' n m s
 
--- a local that holds nothing any more
+-- marking a local as empty gives a weaker state
 pub vacant_implied : (f : State) (n : ℕ) → Implies f (with_fullness Vacant f n)
 vacant_implied Unreached n = unreached_implies Unreached
 vacant_implied (Reached as') n = record { reached = λ h. refl; set = λ m s. vacated as' n m s; full = λ m s. vacated_full as' n m s }
@@ -142,7 +142,7 @@ emptied_implied (n ∷ ns) f =
     implies_after f (if is_locked (fullness f n) then f else with_fullness Vacant f n) (emptied (n ∷ ns) f)
     (either_implied (is_locked (fullness f n)) f n) (emptied_implied ns (if is_locked (fullness f n) then f else with_fullness Vacant f n))
 
--- ---- what holds
+-- ---- facts that hold in a state
 
 one_implied : (g : Typing) (f h : State) (b : InScope) → Implies f h → HoldsIts g f b → HoldsIts g h b
 one_implied g f h (Variable b) i (set, full) = (λ e. set (i.set b.number e), λ e. full (i.full b.number e))
@@ -155,7 +155,7 @@ are_set_implied g f h (b ∷ bs) i (first, s) = (one_implied g f h b i first, ar
 pub holds_implied : (g : Typing) (f h : State) (bs : List InScope) → Implies f h → Holds g f bs → Holds g h bs
 holds_implied g f h bs i (reached, s) = (i.reached reached, are_set_implied g f h bs i s)
 
--- a local that was just declared without a value is known to hold nothing
+-- a local declared without a value is known to be empty
 now_vacant : (as' : List Fullness) (n : ℕ) → is_vacant (get_or (slice_set as' n Vacant) n Vacant) ≡ true
 now_vacant [] n = refl
 now_vacant (a ∷ as') zero = refl
@@ -165,7 +165,7 @@ pub vacant_now : (f : State) (n : ℕ) → is_reached f ≡ true → IsSet (with
 vacant_now Unreached n reached s = let k : false ≡ true = reached in absurd (cc)
 vacant_now (Reached as') n reached s = let k : true ≡ false = sym (now_vacant as' n) ∙ s in absurd (cc)
 
--- ---- what is full again
+-- ---- locals that become full again
 
 filled_still : (as' : List Fullness) (n m : ℕ) → is_vacant (get_or as' m Vacant) ≡ false → is_vacant (get_or (slice_set as' n Full) m Vacant) ≡ false
 filled_still [] n m s = s
@@ -185,7 +185,7 @@ full_implies : (f : State) (n : ℕ) → Implies (with_fullness Full f n) f
 full_implies Unreached n = unreached_implies Unreached
 full_implies (Reached as') n = record { reached = λ h. refl; set = λ m s. filled_still as' n m s; full = λ m s. filled_full as' n m s }
 
--- more is known where locals are full again
+-- making locals full again gives a stronger state
 pub each_full_implies : (ns : List ℕ) (f : State) → Implies (with_each Full ns f) f
 each_full_implies [] f = implies_self f
 each_full_implies (n ∷ ns) f = implies_after (with_each Full ns (with_fullness Full f n)) (with_fullness Full f n) f (each_full_implies ns (with_fullness Full f n)) (full_implies f n)
@@ -201,7 +201,7 @@ full_both : (f : State) (n m : ℕ) → with_fullness Full (with_fullness Full f
 full_both Unreached n m = refl
 full_both (Reached as') n m = ap Reached (filled_both as' n m)
 
--- in whichever order they are
+-- locals may be made full in any order
 pub full_last : (n : ℕ) (ns : List ℕ) (f : State) → with_fullness Full (with_each Full ns f) n ≡ with_each Full ns (with_fullness Full f n)
 full_last n [] f = refl
 full_last n (m ∷ ns) f = full_last n ns (with_fullness Full f m) ∙ ap (λ g. with_each Full ns g) (full_both f m n)
@@ -210,7 +210,7 @@ pub full_added : (n : ℕ) (ns : List ℕ) (f : State) → with_each Full (ns ++
 full_added n [] f = refl
 full_added n (m ∷ ns) f = full_added n ns (with_fullness Full f m) ∙ ap (λ g. with_each Full ns g) (full_both f m n)
 
--- ---- what is full
+-- ---- full locals
 
 full_of : (a : Fullness) → is_vacant a ≡ false → is_locked a ≡ false → is_full a ≡ true
 full_of Vacant set free = absurd (let k : true ≡ false = set in cc)
@@ -222,7 +222,7 @@ full_set Vacant full = absurd (let k : false ≡ true = full in cc)
 full_set Locked full = absurd (let k : false ≡ true = full in cc)
 full_set Full full = refl
 
--- what the rules ask of a local that is used up
+-- the demands on a consumed local: it is full
 pub used_full : (f : State) (n : ℕ) → not (is_vacant (fullness f n)) ≡ true → not (is_locked (fullness f n)) ≡ true → IsFullIn f n
 used_full f n set free = full_of (fullness f n) (not-true (is_vacant (fullness f n)) set) (not-true (is_locked (fullness f n)) free)
 
@@ -230,8 +230,8 @@ used_full f n set free = full_of (fullness f n) (not-true (is_vacant (fullness f
 
 pub before_last : (n m : ℕ) (ks : List ℕ) → IsAmong n ks → IsAmong n (ks ++ m ∷ [])
 before_last n m ks (newest js) = newest (js ++ m ∷ [])
-before_last n m ks (behind k js among) = behind k (js ++ m ∷ []) (before_last n m js among)
+before_last n m ks (following k js among) = following k (js ++ m ∷ []) (before_last n m js among)
 
 pub at_last : (n m : ℕ) (ks : List ℕ) → n ≡ m → IsAmong n (ks ++ m ∷ [])
 at_last n m [] same = subst (λ i. IsAmong i (m ∷ [])) (sym same) (newest [])
-at_last n m (k ∷ ks) same = behind k (ks ++ m ∷ []) (at_last n m ks same)
+at_last n m (k ∷ ks) same = following k (ks ++ m ∷ []) (at_last n m ks same)

@@ -1,4 +1,4 @@
--- What is lent stays in its variable to the end of its block: nothing in between that may be run moves, assigns or lends the local again.
+-- A lent value stays in its variable to the end of its block: no reachable code in between moves, assigns or lends the local again.
 use Rattle.std.proofs.Common.{◌≡◌, ◌<◌, arith, ℕ, zero, suc, Bool, true, false, not, ◌+◌, ◌||◌, ◌&&◌, List, [], ◌∷◌, ◌++◌, Option, Some, None, refl, sym, ap, subst, ◌∙◌}
 use Rattle.std.specs.Prelude.{◌≢◌, get_or, slice_set, if◌then◌else◌}
 use Rattle.std.proofs.lemmas.List.{get_or-set_other}
@@ -14,17 +14,17 @@ use Rattle.cyc_types.specs.Rules.{Derives}
 use Rattle.cyc_types.specs.flow.States as flow
 use Rattle.cyc_types.specs.flow.States.{Fullness, Vacant, Locked, Full, Unreached, Reached, lower, lower_each, is_reached, is_vacant, is_locked, fullness, meet, with_fullness, with_each, emptied}
 use Rattle.cyc_types.specs.flow.Touched.{touched_statement}
-use Rattle.cyc_types.specs.flow.Expressions.{is_free, stored, and_peeked, peek_of, peek_behind, rule, rule_place, rule_placement, rule_initial, rule_converted, rule_arguments, rule_operations}
+use Rattle.cyc_types.specs.flow.Expressions.{is_free, stored, and_peeked, peek_of, peek_after, rule, rule_place, rule_placement, rule_initial, rule_converted, rule_arguments, rule_operations}
 use Rattle.cyc_types.specs.flow.Statements.{Around, Known, at, in_loop, left_loop, peeked_side, rule_value, rule_thrown, rule_side, rule_declared, locks_of, caught, or_clause, rule_statement, rule_items, rule_clauses}
 use Rattle.cyc_types.specs.flow.Statements as statements
-use Rattle.cyc_guard.specs.inside.Held.{Guard, nowhere, updated}
-use Rattle.cyc_guard.proofs.Bools.{updated_true}
-use Rattle.cyc_guard.proofs.Fitting.{Fits, Leaves}
-use Rattle.cyc_guard.proofs.Numbers.{IsFreshCaught, IsFresh, AreFresh, AreFreshClauses}
-use Rattle.cyc_guard.proofs.Followed.{ItemsFit, followed_items}
+use Rattle.cyc_soundness.specs.inside.guard.Held.{Guard, nowhere, updated}
+use Rattle.cyc_soundness.proofs.guard.Bools.{updated_true}
+use Rattle.cyc_soundness.proofs.guard.Fitting.{Fits, Leaves}
+use Rattle.cyc_soundness.proofs.guard.Numbers.{IsFreshCaught, IsFresh, AreFresh, AreFreshClauses}
+use Rattle.cyc_soundness.proofs.guard.Followed.{ItemsFit, followed_items}
 use Rattle.cyc_types.specs.typing.WellTyped.{LocalInScope, Context}
-use Rattle.cyc_guard.proofs.WellNumbered.{InScope as AreScoped}
-use Rattle.cyc_guard.proofs.States.{set_there}
+use Rattle.cyc_soundness.proofs.guard.WellNumbered.{InScope as AreScoped}
+use Rattle.cyc_soundness.proofs.guard.States.{set_there}
 use Rattle.cyc_soundness.specs.inside.Lives.{Lives}
 use Rattle.cyc_soundness.specs.inside.Frames.{InScope, Variable, Level, Names, Instance, Home, lives_in, IsScope, AreBelow, Exits, IsContext}
 use Rattle.cyc_soundness.specs.inside.Worlds.{IsAmong, first, later}
@@ -32,9 +32,9 @@ use Rattle.cyc_soundness.specs.inside.Classes.{Relied, only, may_end, items_may_
 use Rattle.cyc_soundness.proofs.flow.Touched.{holds_where_asked, asked_of, asked_nothing}
 use Rattle.cyc_soundness.proofs.flow.Looking.{only_other}
 
--- ---- what is never run
+-- ---- unreachable code
 
--- the guard that a state fits
+-- the guard that matches a state
 abbrev guard_at : flow.State → Guard
 guard_at f = record { relied = nowhere; locked = λ n. is_locked (fullness f n); peeked = nowhere }
 
@@ -46,7 +46,7 @@ unreached_is : (f : flow.State) → is_reached f ≡ false → f ≡ Unreached
 unreached_is Unreached e = refl
 unreached_is (Reached as') e = let k : true ≡ false = e in absurd (cc)
 
--- code behind what is never run is never run, and nothing leaves the loop around there
+-- code after unreachable code is unreachable, and no reachable break leaves the enclosing loop there
 module _ (w : ℕ → Bool) (c : Around) (js : Items) (a b : Known) (fresh : AreFresh w js) (flows : Derives (rule_items c js a) b) (none : is_reached a.now ≡ false) where
   unreached_fit : (o : Guard) (d : Bool) → Fits o d a.breaks → (is_reached b.now ≡ false) × Fits o d b.breaks
   unreached_fit o d before =
@@ -94,7 +94,7 @@ reached_meet_right Unreached g reached = reached
 reached_meet_right (Reached as') Unreached reached = refl
 reached_meet_right (Reached as') (Reached bs) reached = refl
 
--- where a statement never ends, nothing behind it is run
+-- if a statement never ends, the code after it is unreachable
 mutual
   never_statement : (w : ℕ → Bool) (c : Around) (s : Statement) (a b : Known) → IsFresh w s → Derives (rule_statement c s a) b → may_end s ≡ false → is_reached b.now ≡ false
   never_statement w c (Block r js) a b fresh (l, d, (u, same)) e = subst (λ (z : Known). is_reached z.now ≡ false) (sym same) (each_reached Full (locks_of js) l.now ∙ never_items w c js a l fresh d e)
@@ -116,13 +116,13 @@ mutual
   never_items : (w : ℕ → Bool) (c : Around) (js : Items) (a b : Known) → AreFresh w js → Derives (rule_items c js a) b → items_may_end js ≡ false → is_reached b.now ≡ false
   never_items w c NoItems a b fresh flows e = let k : true ≡ false = e in absurd (cc)
   never_items w c (MoreItems (Execute s) js) a b (one, fresh) (l, d, ds) e =
-      and_false_cases (may_end s) (items_may_end js) e (λ same. items_unreached w (statements.behind_item (Execute s) c) js l b fresh ds (never_statement w c s a l one d same))
-      (λ rest. never_items w (statements.behind_item (Execute s) c) js l b fresh ds rest)
-  never_items w c (MoreItems (Declare n t v) js) a b (one, fresh) (l, d, ds) e = never_items w (statements.behind_item (Declare n t v) c) js l b fresh ds e
-  never_items w c (MoreItems (DeclareRegion r n) js) a b (one, fresh) (l, d, ds) e = never_items w (statements.behind_item (DeclareRegion r n) c) js l b fresh ds e
-  never_items w c (MoreItems (OpenRegion r n p k) js) a b (one, fresh) (l, d, ds) e = never_items (updated w k true) (statements.behind_item (OpenRegion r n p k) c) js l b fresh ds e
-  never_items w c (MoreItems (DeclareAlias r n t p k) js) a b (one, fresh) (l, d, ds) e = never_items (updated w k true) (statements.behind_item (DeclareAlias r n t p k) c) js l b fresh ds e
-  never_items w c (MoreItems (DeclareKey r n) js) a b (one, fresh) (l, d, ds) e = never_items w (statements.behind_item (DeclareKey r n) c) js l b fresh ds e
+      and_false_cases (may_end s) (items_may_end js) e (λ same. items_unreached w (statements.following_item (Execute s) c) js l b fresh ds (never_statement w c s a l one d same))
+      (λ rest. never_items w (statements.following_item (Execute s) c) js l b fresh ds rest)
+  never_items w c (MoreItems (Declare n t v) js) a b (one, fresh) (l, d, ds) e = never_items w (statements.following_item (Declare n t v) c) js l b fresh ds e
+  never_items w c (MoreItems (DeclareRegion r n) js) a b (one, fresh) (l, d, ds) e = never_items w (statements.following_item (DeclareRegion r n) c) js l b fresh ds e
+  never_items w c (MoreItems (OpenRegion r n p k) js) a b (one, fresh) (l, d, ds) e = never_items (updated w k true) (statements.following_item (OpenRegion r n p k) c) js l b fresh ds e
+  never_items w c (MoreItems (DeclareAlias r n t p k) js) a b (one, fresh) (l, d, ds) e = never_items (updated w k true) (statements.following_item (DeclareAlias r n t p k) c) js l b fresh ds e
+  never_items w c (MoreItems (DeclareKey r n) js) a b (one, fresh) (l, d, ds) e = never_items w (statements.following_item (DeclareKey r n) c) js l b fresh ds e
 
   never_clauses : (w : ℕ → Bool) (c : Around) (start : flow.State) (cs : Clauses) (a b : Known) → AreFreshClauses w cs → Derives (rule_clauses c start cs a) b → clauses_may_end cs ≡ false → is_reached a.now ≡ false → is_reached b.now ≡ false
   never_clauses w c start NoClauses a b fresh (u, same) e none = ap (λ (z : Known). is_reached z.now) same ∙ none
@@ -133,7 +133,7 @@ mutual
       never_clauses w c start cs (or_clause a.now js l) b more ds both.1
       (meet_none a.now (with_each Full (locks_of js) l.now) none (each_reached Full (locks_of js) l.now ∙ never_items w c js (at (statements.with_caught n start) a) l fresh d both.0))
 
--- control comes to what is behind only where the statement may end
+-- control reaches the end of a statement only if the statement may end
 pub ends_so : (w : ℕ → Bool) (c : Around) (s : Statement) (a b : Known) → IsFresh w s → Derives (rule_statement c s a) b → is_reached b.now ≡ true → may_end s ≡ true
 ends_so w c s a b fresh flows reached = go (may_end s) refl
   where
@@ -144,7 +144,7 @@ ends_so w c s a b fresh flows reached = go (may_end s) refl
 -- ---- locks
 
 module _ (n : ℕ) where
-  -- this local is lent here, where code is run
+  -- the local is lent in this state, if the state is reachable
   abbrev pub IsLockedIn : flow.State → Type 0
   IsLockedIn f = (is_reached f ≡ true) × (is_locked (fullness f n) ≡ true)
 
@@ -259,7 +259,7 @@ module _ (n : ℕ) where
           let (is, still) = locks_converted c w f g locked d kept in ((stored_spared w l t g h still own one, is), stored_locked w l g h still own)
       locks_expression (Store d c t) w f h locked (g, dp, dc) (one, kept) =
           let (is, still) = locks_place d w f g locked dp one in
-          let (are, end) = locks_converted c (and_peeked (peek_behind d) w) g h still dc kept in ((is, are), end)
+          let (are, end) = locks_converted c (and_peeked (peek_after d) w) g h still dc kept in ((is, are), end)
       locks_expression (New p i t) w f h locked (g, d, ds) (one, kept) =
           let (is, still) = locks_placement p w f g locked d one in
           let (are, end) = locks_initial i w g h still ds kept in ((is, are), end)
@@ -326,7 +326,7 @@ module _ (n : ℕ) where
 
     -- ---- statements
 
-    -- what is kept in code that is run, and what is known behind it, and at the breaks that leave the loop around
+    -- the demands kept in reachable code, and the states after it and at the breaks that leave the enclosing loop
     record Locks (A : Type 0) (end : Bool) (c : Around) (a b : Known) : Type 0 where
       kept : A
       now : IsLockedIf b.now
@@ -349,7 +349,7 @@ module _ (n : ℕ) where
         go true same = (each_still (locks_of js) l.now (out same) (there, locked there)).1
         go false same = let k : true ≡ false = sym there ∙ never_items w c js a l fresh flows same in absurd (cc)
 
-    -- of clauses
+    -- the demands kept in clauses, with the states after them and at their breaks
     record LocksClauses (k : ℕ) (c : Around) (cs : Clauses) (a b : Known) : Type 0 where
       kept : InClauses locking k cs
       now : IsLockedIf b.now
@@ -380,11 +380,11 @@ module _ (n : ℕ) where
     out_front k ks apart out (first as') = apart refl
     out_front k ks apart out (later b as' among) = out among
 
-    -- of the items behind a statement, which may end
-    behind_statement : (w : ℕ → Bool) (k : ℕ) (c : Around) (s : Statement) (js : Items) (a b l : Known) → AreFresh w js → Derives (rule_items (statements.behind_item (Execute s) c) js l) b → Locks (InStatement locking k s) (may_end s) c a l → (may_end s ≡ false → is_reached l.now ≡ false)
-        → (may_end s ≡ true → Locks (InItems locking (k + declared_regions s) js) (items_may_end js) (statements.behind_item (Execute s) c) l b × (items_may_end js ≡ true → IsOut (locks_of js)))
+    -- the items after a statement that may end
+    following_statement : (w : ℕ → Bool) (k : ℕ) (c : Around) (s : Statement) (js : Items) (a b l : Known) → AreFresh w js → Derives (rule_items (statements.following_item (Execute s) c) js l) b → Locks (InStatement locking k s) (may_end s) c a l → (may_end s ≡ false → is_reached l.now ≡ false)
+        → (may_end s ≡ true → Locks (InItems locking (k + declared_regions s) js) (items_may_end js) (statements.following_item (Execute s) c) l b × (items_may_end js ≡ true → IsOut (locks_of js)))
         → Locks (InItems locking k (MoreItems (Execute s) js)) (may_end s && items_may_end js) c a b × ((may_end s && items_may_end js) ≡ true → IsOut (locks_of js))
-    behind_statement w k c s js a b l fresh flows y never on = go (may_end s) refl
+    following_statement w k c s js a b l fresh flows y never on = go (may_end s) refl
       where
         go : (end : Bool) → may_end s ≡ end → Locks (InItems locking k (MoreItems (Execute s) js)) (may_end s && items_may_end js) c a b × ((may_end s && items_may_end js) ≡ true → IsOut (locks_of js))
         go true same =
@@ -398,12 +398,12 @@ module _ (n : ℕ) where
               λ e. out (and_parts (may_end s) (items_may_end js) e).1,
             )
         go false same =
-            let none : is_reached b.now ≡ false = items_unreached w (statements.behind_item (Execute s) c) js l b fresh flows (never same) in (
+            let none : is_reached b.now ≡ false = items_unreached w (statements.following_item (Execute s) c) js l b fresh flows (never same) in (
               record {
                 kept = (y.kept, asked_nothing (InItems locking (k + declared_regions s) js) (may_end s) same);
                 now = λ e. (let z : true ≡ false = sym e ∙ none in absurd (cc));
                 reached = λ e. (let z : false ≡ true = sym same ∙ (and_parts (may_end s) (items_may_end js) e).0 in absurd (cc));
-                breaks = λ around before. breaks_locked w (statements.behind_item (Execute s) c) js l b fresh flows (never same) n (y.breaks around before);
+                breaks = λ around before. breaks_locked w (statements.following_item (Execute s) c) js l b fresh flows (never same) n (y.breaks around before);
               },
               λ e. (let z : false ≡ true = sym same ∙ (and_parts (may_end s) (items_may_end js) e).0 in absurd (cc)),
             )
@@ -465,29 +465,29 @@ module _ (n : ℕ) where
       locks_items w k c NoItems a b mine fresh locked (u, same) kept = (subst (λ y. Locks (Unit {0}) true c a y) (sym same) (record { kept = tt; now = locked_if a.now locked; reached = λ e. locked.0; breaks = λ out before. before }), λ e among. elim among [ ])
       locks_items w k c (MoreItems (Execute s) js) a b mine (one, fresh) locked (l, d, ds) (ks, kjs) =
           let y = locks_statement w k c s a l mine one locked d ks in
-          behind_statement w k c s js a b l fresh ds y (λ same. never_statement w c s a l one d same)
-          (λ same. locks_items w (k + declared_regions s) (statements.behind_item (Execute s) c) js l b mine fresh (y.reached same, y.now (y.reached same)) ds (asked_of (may_end s) same kjs))
+          following_statement w k c s js a b l fresh ds y (λ same. never_statement w c s a l one d same)
+          (λ same. locks_items w (k + declared_regions s) (statements.following_item (Execute s) c) js l b mine fresh (y.reached same, y.now (y.reached same)) ds (asked_of (may_end s) same kjs))
       locks_items w k c (MoreItems (Declare l t v) js) a b mine (one, fresh) locked (o, (f, d, (u, same)), ds) (named, kv, kjs) =
           let (is, still) = locks_declared l v a.now f (fresh_apart w l mine one) locked d kv in
-          let (z, out) = locks_items w k (statements.behind_item (Declare l t v) c) js (at f a) b mine fresh still (subst (λ y. Derives (rule_items (statements.behind_item (Declare l t v) c) js y) b) same ds) kjs in
+          let (z, out) = locks_items w k (statements.following_item (Declare l t v) c) js (at f a) b mine fresh still (subst (λ y. Derives (rule_items (statements.following_item (Declare l t v) c) js y) b) same ds) kjs in
           (record { kept = (named, is, z.kept); now = z.now; reached = z.reached; breaks = λ around before. z.breaks (out_none c.locks around) before }, out)
       locks_items w k c (MoreItems (DeclareRegion r l) js) a b mine (one, fresh) locked (o, (u, same), ds) kjs =
           let f = with_fullness Full a.now l in
-          let (z, out) = locks_items w (suc k) (statements.behind_item (DeclareRegion r l) c) js (at f a) b mine fresh (locked_with Full a.now l (fresh_apart w l mine one) locked) (subst (λ y. Derives (rule_items (statements.behind_item (DeclareRegion r l) c) js y) b) same ds) kjs in
+          let (z, out) = locks_items w (suc k) (statements.following_item (DeclareRegion r l) c) js (at f a) b mine fresh (locked_with Full a.now l (fresh_apart w l mine one) locked) (subst (λ y. Derives (rule_items (statements.following_item (DeclareRegion r l) c) js y) b) same ds) kjs in
           (record { kept = z.kept; now = z.now; reached = z.reached; breaks = λ around before. z.breaks (out_none c.locks around) before }, out)
       locks_items w k c (MoreItems (OpenRegion r l p key) js) a b mine (one, fresh) locked (o, (f, (demands, known), (u, same)), ds) (spared, kjs) =
           let apart : n ≢ key = locked_apart a.now key locked demands.1.0 in
           let still : IsLockedIn f = lent_locked a.now f l key apart (fresh_apart (updated w key true) l (updated_true w key n mine) one) locked known in
-          let (z, out) = locks_items (updated w key true) k (statements.behind_item (OpenRegion r l p key) c) js (at f a) b (updated_true w key n mine) fresh still (subst (λ y. Derives (rule_items (statements.behind_item (OpenRegion r l p key) c) js y) b) same ds) kjs in
+          let (z, out) = locks_items (updated w key true) k (statements.following_item (OpenRegion r l p key) c) js (at f a) b (updated_true w key n mine) fresh still (subst (λ y. Derives (rule_items (statements.following_item (OpenRegion r l p key) c) js y) b) same ds) kjs in
           (record { kept = ((only_other n key apart, spared), z.kept); now = z.now; reached = z.reached; breaks = λ around before. z.breaks (out_more c.locks key around apart) before }, λ e. out_front key (locks_of js) apart (out e))
       locks_items w k c (MoreItems (DeclareAlias r l t p source) js) a b mine (one, fresh) locked (o, (f, (demands, known), (u, same)), ds) (spared, kjs) =
           let apart : n ≢ source = locked_apart a.now source locked demands.1.0 in
           let still : IsLockedIn f = lent_locked a.now f l source apart (fresh_apart (updated w source true) l (updated_true w source n mine) one) locked known in
-          let (z, out) = locks_items (updated w source true) (suc k) (statements.behind_item (DeclareAlias r l t p source) c) js (at f a) b (updated_true w source n mine) fresh still (subst (λ y. Derives (rule_items (statements.behind_item (DeclareAlias r l t p source) c) js y) b) same ds) kjs in
+          let (z, out) = locks_items (updated w source true) (suc k) (statements.following_item (DeclareAlias r l t p source) c) js (at f a) b (updated_true w source n mine) fresh still (subst (λ y. Derives (rule_items (statements.following_item (DeclareAlias r l t p source) c) js y) b) same ds) kjs in
           (record { kept = ((only_other n source apart, spared), z.kept); now = z.now; reached = z.reached; breaks = λ around before. z.breaks (out_more c.locks source around apart) before }, λ e. out_front source (locks_of js) apart (out e))
       locks_items w k c (MoreItems (DeclareKey r l) js) a b mine (one, fresh) locked (o, (u, same), ds) kjs =
           let f = with_fullness Full a.now l in
-          let (z, out) = locks_items w (suc k) (statements.behind_item (DeclareKey r l) c) js (at f a) b mine fresh (locked_with Full a.now l (fresh_apart w l mine one) locked) (subst (λ y. Derives (rule_items (statements.behind_item (DeclareKey r l) c) js y) b) same ds) kjs in
+          let (z, out) = locks_items w (suc k) (statements.following_item (DeclareKey r l) c) js (at f a) b mine fresh (locked_with Full a.now l (fresh_apart w l mine one) locked) (subst (λ y. Derives (rule_items (statements.following_item (DeclareKey r l) c) js y) b) same ds) kjs in
           (record { kept = z.kept; now = z.now; reached = z.reached; breaks = λ around before. z.breaks (out_none c.locks around) before }, out)
 
       locks_clauses : (w : ℕ → Bool) (k : ℕ) (c : Around) (start : flow.State) (cs : Clauses) (a b : Known) → w n ≡ true → AreFreshClauses w cs → IsLockedIn start → IsLockedIf a.now → Derives (rule_clauses c start cs a) b → InClauses q k cs → LocksClauses k c cs a b
@@ -516,19 +516,19 @@ module _ (n : ℕ) where
             breaks = λ out before. y.breaks out (z.breaks out before);
           }
 
--- What is lent by an item is lent in all of its block that may be run.
+-- A local that an item lends stays lent in all reachable code of its block.
 pub locked_items : (q : Relied) (n : ℕ) (w : ℕ → Bool) (k : ℕ) (c : Around) (js : Items) (a b : Known) → w n ≡ true → AreFresh w js → IsLockedIn n a.now → Derives (rule_items c js a) b → InItems q k js → InItems (Reached (only n) ∷ q) k js
 locked_items q n w k c js a b mine fresh locked flows kept = (locks_items n q w k c js a b mine fresh locked flows kept).0.kept
 
--- ---- where it begins
+-- ---- the start of a loan
 
--- an item that lends a local locks it
+-- an item that lends a local locks that local
 pub now_locked : (f : flow.State) (key l : ℕ) → is_reached f ≡ true → not (is_vacant (fullness f key)) ≡ true → key ≢ l → IsLockedIn key (with_fullness Full (with_fullness Locked f key) l)
 now_locked Unreached key l reached set apart = let z : false ≡ true = reached in absurd (cc)
 now_locked (Reached as') key l reached set apart =
     locked_with key Full (Reached (slice_set as' key Locked)) l apart (refl, ap is_locked (set_there as' key Locked (not-true (is_vacant (get_or as' key Vacant)) set)))
 
--- the locals in scope have lower numbers than the next
+-- the locals in scope have lower numbers than the next local
 scoped_below : (these : Lives) (n : ℕ) (vs : List LocalInScope) (bs : List InScope) → IsScope these vs bs → AreBelow n bs → AreScoped vs n
 scoped_below these n vs [] none below = subst (λ us. AreScoped us n) (sym none) tt
 scoped_below these n vs (Variable b ∷ bs) (rest, (v, vs_are, number, of_type, hidden, life), is) (less, below) =

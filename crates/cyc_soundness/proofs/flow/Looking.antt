@@ -1,4 +1,4 @@
--- What was looked at stays as it is until it is used: nothing that is evaluated in between moves the local.
+-- A value that was peeked at does not change until it is used: nothing evaluated in between moves the local.
 use Rattle.std.proofs.Common.{◌≡◌, ◌≢◌, ℕ, zero, suc, true, false, not, List, [], ◌∷◌, ◌++◌, Option, Some, None, refl, sym, ap, ◌∙◌, eqb}
 use Rattle.std.specs.Prelude.{get_or, nat_eq}
 use Rattle.std.specs.List.{list_any}
@@ -11,13 +11,13 @@ use Rattle.cyc_types.specs.Types.{ValueType, Void, Null, Value}
 use Rattle.cyc_types.specs.Rules.{Derives}
 use Rattle.cyc_types.specs.flow.States as flow
 use Rattle.cyc_types.specs.flow.States.{Vacant, Full, Unreached, Reached, is_reached, meet, with_fullness, is_locked, fullness}
-use Rattle.cyc_types.specs.flow.Expressions.{is_free, stored, and_peeked, peek_of, peek_behind, rule, rule_place, rule_placement, rule_initial, rule_converted, rule_arguments, rule_operations}
+use Rattle.cyc_types.specs.flow.Expressions.{is_free, stored, and_peeked, peek_of, peek_after, rule, rule_place, rule_placement, rule_initial, rule_converted, rule_arguments, rule_operations}
 use Rattle.cyc_types.specs.flow.Statements.{rule_side}
 use Rattle.cyc_soundness.specs.inside.Worlds.{IsAmong, first, later}
 use Rattle.cyc_soundness.specs.inside.Classes.{is_full, Relied, only, and_looked, InExpression, InPlace, InPlacement, InInitial, InConverted, InArguments, InOperations, InSide, SparesAssigned}
 use Rattle.cyc_soundness.proofs.flow.FlowLemmas.{before_last, at_last, meet_first, reached_with}
 
--- ---- a local that is free is another one
+-- ---- a local without a pending peek differs from the peeked one
 
 free_other : (n m : ℕ) (w : List ℕ) → IsAmong n w → not (list_any (λ k. nat_eq k m) w) ≡ true → n ≢ m
 free_other n m w (first as') e = λ same. (let k : not (eqb n m) ≡ true = (not_or_parts (nat_eq n m) (list_any (λ k. nat_eq k m) as') e).0 in
@@ -41,7 +41,7 @@ among_peeked : (n : ℕ) (o : Option ℕ) (w : List ℕ) → IsAmong n w → IsA
 among_peeked n None w is = is
 among_peeked n (Some m) w is = before_last n m w is
 
--- ---- what is evaluated while a look at a local waits
+-- ---- expressions evaluated while a peek is pending
 
 module _ (q : Relied) (n : ℕ) where
   abbrev looking : Relied
@@ -84,7 +84,7 @@ module _ (q : Relied) (n : ℕ) where
         let (is, still) = looks_converted c w f g among reached d kept in ((stored_spared w l t g h among still own one, is), stored_reached w l g h still own)
     looks_expression (Store d c t) w f h among reached (g, dp, dc) (one, kept) =
         let (is, still) = looks_place d w f g among reached dp one in
-        let (are, end) = looks_converted c (and_peeked (peek_behind d) w) g h (among_peeked n (peek_behind d) w among) still dc kept in ((is, are), end)
+        let (are, end) = looks_converted c (and_peeked (peek_after d) w) g h (among_peeked n (peek_after d) w among) still dc kept in ((is, are), end)
     looks_expression (New p i t) w f h among reached (g, d, ds) (one, kept) =
         let (is, still) = looks_placement p w f g among reached d one in
         let (are, end) = looks_initial i w g h among still ds kept in ((is, are), end)
@@ -132,7 +132,7 @@ module _ (q : Relied) (n : ℕ) where
         let (is, still) = looks_expression a (and_peeked (Some l) w) f g (before_last n l w among) reached d one in
         let (are, end) = looks_operations os w g h among still ds kept in ((is, are), end)
 
--- ---- where something was looked at
+-- ---- the start of a peek
 
 pub looked_expression : (q : Relied) (peek : Option ℕ) (a : Expression) (w : List ℕ) (f h : flow.State) → is_reached f ≡ true → Derives (rule (and_peeked peek w) a f) h → InExpression q a → InExpression (and_looked peek q) a
 looked_expression q None a w f h reached flows kept = kept
@@ -147,8 +147,8 @@ looked_side q None y w f h reached flows kept = kept
 looked_side q (Some n) (VariableSide l t) w f h reached flows kept = kept
 looked_side q (Some n) (CellSide d) w f h reached flows kept = (looks_place q n d (w ++ n ∷ []) f h (at_last n n w refl) reached flows kept).0
 
--- the machine and the rules mean the same local
-pub peeked_so : (d : Dereference) → peeked d ≡ peek_behind d
+-- the semantics and the rules agree on which local is peeked at
+pub peeked_so : (d : Dereference) → peeked d ≡ peek_after d
 peeked_so (Target k (Peek p n u) t) = refl
 peeked_so (Target k a t) = refl
 peeked_so (Member k (Peek p n u) s l t) = refl

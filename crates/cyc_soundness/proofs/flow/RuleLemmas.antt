@@ -1,9 +1,9 @@
--- What the flow rules only lower: what is known at breaks, and what is known behind a `try`.
+-- The flow rules only lower the state at breaks, and the state after a `try`.
 use Rattle.std.proofs.Common.{◌≡◌, [], ◌++◌, sym, subst, append-nil}
 use Rattle.cyc_types.specs.TypedTrees.{Statement, Block, Empty, Evaluate, Swap, If, While, Return, Break, Continue, Throw, Try, Items, NoItems, MoreItems, Item, Execute, Declare, DeclareRegion, OpenRegion, DeclareAlias, DeclareKey, Clauses, NoClauses, Default, Case}
 use Rattle.cyc_types.specs.Rules.{Derives}
 use Rattle.cyc_types.specs.flow.States.{State, Unreached, Full, meet, with_each}
-use Rattle.cyc_types.specs.flow.Statements.{Around, Known, left_loop, locks_of, behind_item, at_end, or_clause, with_caught, rule_statement, rule_items, rule_item, rule_clauses}
+use Rattle.cyc_types.specs.flow.Statements.{Around, Known, left_loop, locks_of, following_item, at_end, or_clause, with_caught, rule_statement, rule_items, rule_item, rule_clauses}
 use Rattle.cyc_types.specs.flow.Statements as statements
 use Rattle.cyc_soundness.specs.inside.Frames.{Implies}
 use Rattle.cyc_soundness.proofs.flow.FlowLemmas.{implies_self, implies_after, meet_first}
@@ -29,7 +29,7 @@ mutual
 
   pub breaks_items : (c : Around) (js : Items) (k m : Known) → Derives (rule_items c js k) m → Implies k.breaks m.breaks
   breaks_items c NoItems k m (u, e) = carried k.breaks k m e (implies_self k.breaks)
-  breaks_items c (MoreItems j js) k m (l, dj, d) = implies_after k.breaks l.breaks m.breaks (breaks_item c j k l dj) (breaks_items (behind_item j c) js l m d)
+  breaks_items c (MoreItems j js) k m (l, dj, d) = implies_after k.breaks l.breaks m.breaks (breaks_item c j k l dj) (breaks_items (following_item j c) js l m d)
 
   pub breaks_item : (c : Around) (j : Item) (k m : Known) → Derives (rule_item c j k) m → Implies k.breaks m.breaks
   breaks_item c (Execute s) k m d = breaks_statement c s k m d
@@ -45,7 +45,7 @@ mutual
   breaks_clauses c start (Case x n r js cs) k m (l, d, later) =
       implies_after k.breaks l.breaks m.breaks (breaks_items c js (statements.at (with_caught n start) k) l d) (breaks_clauses c start cs (or_clause k.now js l) m later)
 
--- behind a `try` no more is known than behind its body
+-- the state after a `try` is at most that after its body
 pub clauses_implied : (c : Around) (start : State) (cs : Clauses) (k m : Known) → Derives (rule_clauses c start cs k) m → Implies k.now m.now
 clauses_implied c start NoClauses k m (u, e) = subst (λ (z : Known). Implies k.now z.now) (sym e) (implies_self k.now)
 clauses_implied c start (Default r js) k m (l, d, (u, e)) =
@@ -54,6 +54,6 @@ clauses_implied c start (Case x n r js cs) k m (l, d, later) =
     implies_after k.now (meet k.now (with_each Full (locks_of js) l.now)) m.now (meet_first k.now (with_each Full (locks_of js) l.now))
     (clauses_implied c start cs (or_clause k.now js l) m later)
 
--- an item that locks nothing leaves the rules where they were
+-- an item without a lock does not change the rules' surroundings
 pub nothing_locked : (c : Around) (js : Items) (k m : Known) → Derives (rule_items (record c { locks = c.locks ++ [] }) js k) m → Derives (rule_items c js k) m
 nothing_locked c js k m d = subst (λ ns. Derives (rule_items (record c { locks = ns }) js k) m) (append-nil c.locks) d

@@ -1,4 +1,4 @@
--- What a `try` relies on is touched by nothing in its body: its clauses begin without what the body touches.
+-- The body of a `try` touches no local that its clauses rely on, because the clauses begin without the locals that the body touches.
 use Rattle.std.proofs.Common.{◌≡◌, ℕ, zero, suc, ◌+◌, Bool, true, false, List, [], ◌∷◌, ◌++◌, Option, Some, None, refl}
 use Rattle.std.specs.Prelude.{get_or, slice_set, if◌then◌else◌}
 use Rattle.cyc_types.specs.TypedTrees.{Local, Global, Expression, Number, NullPointer, HeapRegion, Counter, Copy, Move, Peek, Load, AddressOf, AddressOfCell, NumberOfElements, FreeUnique, FreeKey, Call, Unary, Binary}
@@ -15,7 +15,7 @@ use Rattle.cyc_soundness.specs.inside.Worlds.{IsAmong, first, later}
 use Rattle.cyc_soundness.specs.inside.Classes.{is_full, Relied, IsSparedBy, InExpression, InPlace, InPlacement, InInitial, InConverted, InArguments, InOperations, InValue, InThrown, InSide, InStatement, InItems, InClauses, SparesAssigned, Asked, may_end}
 use Rattle.cyc_soundness.proofs.flow.FlowLemmas.{before_last, at_last}
 
--- ---- what was touched before is so behind
+-- ---- locals touched before stay in the list
 
 module _ (n : ℕ) where
   assigned_too : (l : Lvalue) (t : ValueType) (ns : List ℕ) → IsAmong n ns → IsAmong n (and_assigned l t ns)
@@ -130,7 +130,7 @@ module _ (n : ℕ) where
     clauses_too (Default r js) ns is = items_too js ns is
     clauses_too (Case e m r js cs) ns is = clauses_too cs (touched_items js ns) (items_too js ns is)
 
--- ---- what is asked where code may be run
+-- ---- demands on code that may be run
 
 pub holds_where_asked : {A : Type 0} (run : Bool) → A → Asked run A
 holds_where_asked false is = tt
@@ -148,9 +148,9 @@ asked_too : {A B : Type 0} (run : Bool) → (A → B) → Asked run A → Asked 
 asked_too false to is = tt
 asked_too true to is = to is
 
--- ---- what the clauses of a `try` begin with
+-- ---- the state at the start of the clauses of a `try`
 
--- each of these may be left empty by what is known
+-- the state does not rely on any of these locals
 abbrev AreSpared : flow.State → List ℕ → Type 0
 AreSpared f ns = (n : ℕ) → IsAmong n ns → IsSparedBy f n
 
@@ -276,7 +276,7 @@ module _ (q : Relied) (f : flow.State) where
       relied_clauses (k + suc (item_regions js)) cs (touched_items js ns) spared kept,
     )
 
--- ---- what is left empty
+-- ---- emptied locals
 
 never_full : (as' : List Fullness) (n : ℕ) → is_full (get_or (slice_set as' n Vacant) n Vacant) ≡ false
 never_full [] n = refl
@@ -320,6 +320,6 @@ emptied_spares (n ∷ ns) f m (first as') = emptied_still ns (if is_locked (full
 emptied_spares (n ∷ ns) f m (later b as' is) = emptied_spares ns (if is_locked (fullness f n) then f else with_fullness Vacant f n) m is
 emptied_spares [] f m is = elim is [ ]
 
--- the body of a `try` touches nothing that its clauses rely on
+-- the body of a `try` touches no local that its clauses rely on
 pub relied_body : (q : Relied) (k : ℕ) (s : Statement) (f : flow.State) → InStatement q k s → InStatement (emptied (touched_statement s []) f ∷ q) k s
 relied_body q k s f kept = relied_statement q (emptied (touched_statement s []) f) k s [] (emptied_spares (touched_statement s []) f) kept

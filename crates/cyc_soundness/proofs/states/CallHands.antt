@@ -1,4 +1,4 @@
--- Who has what where a call or a loan is begun or ended, and who has the keys.
+-- The holders of resources at the beginning and end of a call or a loan, and the holders of keys.
 use Rattle.std.proofs.Common.{◌≡◌, ◌≢◌, ℕ, suc, ◌+◌, ◌≤◌, ◌<◌, true, List, [], ◌∷◌, ◌++◌, length, set, Some, slice_get, refl, sym, ap, subst, ◌∙◌, inl, inr, arith, length-append}
 use Rattle.std.specs.Prelude.{if◌then◌else◌}
 use Rattle.std.proofs.lemmas.Bool.{ltb-true, lt-ltb}
@@ -10,7 +10,7 @@ use Rattle.cyc_types.specs.flow.States as flow
 use Rattle.cyc_types.specs.TypedTrees.{Program}
 use Rattle.cyc_meaning.specs.State.{Dynamic, new_region, Region, Object, heap_number, is_open}
 use Rattle.cyc_soundness.specs.inside.Lives.{Life, OfRegion, Owned, Kept}
-use Rattle.cyc_soundness.specs.inside.Worlds.{Pending, IsAmong, first as newest, later as behind, ObjectType, Thing, KeyOf, Holder, Nobody, Hand, At, Lent, Typing, IsHeld, given, giving, AreOwned, is_lent_by, IsOpenIn, IsDynamic, IsObject, IsTyped, Grows, Standing, AreLent}
+use Rattle.cyc_soundness.specs.inside.Worlds.{Pending, IsAmong, first as newest, later as following, ObjectType, Thing, KeyOf, Holder, Nobody, Hand, At, Lent, Typing, IsHeld, given, giving, AreOwned, is_lent_by, IsOpenIn, IsDynamic, IsObject, IsTyped, Grows, Standing, AreLent}
 use Rattle.cyc_soundness.specs.inside.Frames.{InScope, Variable, Names, Instance, IsOfVariable, HoldsIts, AreVariables, AreSet, Holds, KnowsProgram}
 use Rattle.cyc_soundness.proofs.states.WorldLemmas.{life_grown, object_grown, globals_grown, opened_typed, typed_beside}
 use Rattle.cyc_soundness.proofs.states.Hands.{other_number, at_no_hand, lent_some, lent_no_hand, at_some, same_grows, giving_changed}
@@ -39,7 +39,7 @@ moment_globals p g d j globals = globals_grown g (record g { depth = d; loans = 
 pub hands_globals : (p : Program) (g : Typing) (own : Thing → Holder) (here : ℕ → Standing) → KnowsProgram g p → KnowsProgram (record g { own = own; here = here }) p
 hands_globals p g own here globals = globals_grown g (record g { own = own; here = here }) (same_grows g own here) p (λ n ls. refl) globals
 
--- what is lent stays so where more is
+-- a resource lent by an earlier loan stays lent when more loans begin
 lent_more : (n : ℕ) (h : Holder) → is_lent_by n h ≡ true → is_lent_by (suc n) h ≡ true
 lent_more n Nobody e = e
 lent_more n (Hand i) e = e
@@ -51,7 +51,7 @@ open_more g (Kept a) is = lent_more g.loans (g.own a) is
 open_more g (OfRegion number ns us) is = λ a e. lent_more g.loans (g.own a) (is a e)
 open_more g Owned is = tt
 
--- which swap is under way is nothing to what is open
+-- the pending swap does not affect which lifetimes are open
 pub pending_grows : (g : Typing) (q : Pending) → Grows g (record g { pending = q })
 pending_grows g q = record { objects = λ n u is. is; filled = λ n count is. is; fields = λ n ls ts is. is; kept = λ n is. is }
 
@@ -70,7 +70,7 @@ pub variables_pending : (g : Typing) (q : Pending) (bs : List InScope) → AreVa
 variables_pending g q [] are = tt
 variables_pending g q (b ∷ bs) (is, are) = (variable_pending g q b is, variables_pending g q bs are)
 
--- nor is what variables have in them
+-- the standing of variables does not affect which lifetimes are open
 open_marked : (g : Typing) (here : ℕ → Standing) (l : Life) → IsOpenIn g l → IsOpenIn (record g { here = here }) l
 open_marked g here (Kept region) is = is
 open_marked g here (OfRegion number ns us) is = is
@@ -97,7 +97,7 @@ pub variables_more : (g : Typing) (bs : List InScope) → AreVariables g bs → 
 variables_more g [] are = tt
 variables_more g (b ∷ bs) (is, are) = (variable_more g b is, variables_more g bs are)
 
--- what the last loan has lent
+-- a resource is lent by the newest loan
 pub lent_last : (n o : ℕ) → is_lent_by (suc n) (Lent n o) ≡ true
 lent_last n o = lt-ltb n (suc n) (let less : n < suc n = omega arith in less)
 
@@ -109,13 +109,13 @@ set_lent : (g : Typing) (j : ℕ) (f : flow.State) (bs : List InScope) → AreSe
 set_lent g j f [] are = tt
 set_lent g j f (b ∷ bs) (is, are) = (one_set_lent g j f b is, set_lent g j f bs are)
 
--- how many loans there are is nothing to what locals hold
+-- the number of loans does not affect the facts about locals
 pub holds_lent : (g : Typing) (j : ℕ) (f : flow.State) (bs : List InScope) → Holds g f bs → Holds (record g { loans = j }) f bs
 holds_lent g j f bs (reached, are) = (reached, set_lent g j f bs are)
 
 -- ---- keys
 
--- a dynamic region closes whose key is given back
+-- freeing a key closes its dynamic region and keeps the world typed
 pub closed_by_key : (g : Typing) (regions : List Region) (objects : List Object) (number i : ℕ) (r : Region) → IsAmong number g.kept → g.own (KeyOf number) ≡ Hand i → IsTyped g regions objects
     → IsTyped (giving g (Some (KeyOf number)) Nobody) (set regions number r) objects
 closed_by_key g regions objects number i r among has typed =
@@ -131,7 +131,7 @@ closed_by_key g regions objects number i r among has typed =
       | inr other ↦ subst (λ z. IsDynamic z) (sym (slice_get-set_other regions number n r other)) ((now.kept n among).1 held)
     ]
 
--- a dynamic region more, whose key is there
+-- the typing with one more dynamic region, whose key has this holder
 abbrev pub with_kept : Typing → ℕ → Holder → Typing
 with_kept g number holder = record g { kept = number ∷ g.kept; own = given (Some (KeyOf number)) holder g.own }
 
@@ -140,7 +140,7 @@ kept_grows g number holder = record {
   objects = λ n t is. is;
   filled = λ n count is. is;
   fields = λ n ls ts is. is;
-  kept = λ n is. behind number g.kept is;
+  kept = λ n is. following number g.kept is;
 }
 
 pub kept_typed : (g : Typing) (regions : List Region) (objects : List Object) (holder : Holder) → 1 < length regions → IsTyped g regions objects → IsTyped (with_kept g (length regions) holder) (regions ++ new_region Dynamic ∷ []) objects
@@ -173,7 +173,7 @@ kept_typed g regions objects holder many typed =
       λ held. subst (λ i. IsDynamic (slice_get (regions ++ new_region Dynamic ∷ []) i)) (sym same)
           (subst (λ z. IsDynamic z) (sym (slice_get_last regions (new_region Dynamic))) (refl, refl)),
     )
-    kept n k (behind m ms among) same more = (
+    kept n k (following m ms among) same more = (
       (more.kept n among).0,
       λ held. elim (same_or_other n (length regions)) [
         | inl here ↦ subst (λ i. IsDynamic (slice_get (regions ++ new_region Dynamic ∷ []) i)) (sym here) (subst (λ z. IsDynamic z) (sym (slice_get_last regions (new_region Dynamic))) (refl, refl))

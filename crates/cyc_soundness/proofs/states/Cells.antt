@@ -29,15 +29,15 @@ use Rattle.cyc_soundness.proofs.states.StillHands.{variables_grown, given_typed}
 use Rattle.cyc_soundness.proofs.states.CallHands.{hands_globals, variables_marked}
 use Rattle.cyc_soundness.proofs.states.StackLocals.{open_of, globals_among, kept_open, object_known, open_outlasting, IsPresent, outlasting_open, lent_held}
 
--- a typed state, by its parts
+-- a typed state, assembled from its parts
 pub running : (p : Program) (g : Typing) (x : Exits) (bs : List InScope) (e : Environment) (w : World) → IsTyped g w.regions w.objects → KnowsProgram g p → IsBound e.locals e.counters bs → AreVariables g bs
     → (focus : Focus) (k : List Entry) → LiveIn k bs → IsFocus p g x bs focus k → IsWell p (Running focus k e w)
 running p g x bs e w typed globals bound variables focus k live stands =
     record { typing = g; exits = x; locals = bs; objects = typed; globals = globals; bound = bound; variables = variables; live = live; stands = stands }
 
--- ---- what a pointer leads to
+-- ---- targets of pointers
 
--- what another one may have has its own end
+-- a lifetime that outlasts a shared lifetime is also a shared one
 pub outlasts_common : (l m : Life) → Outlasts l m → IsCommonLife m → IsCommonLife l
 outlasts_common l m (alike _) common = common
 outlasts_common l m (for_ever _) common = tt
@@ -56,7 +56,7 @@ open_object g regions object (OfRegion number around lent) common opens = opens
 open_object g regions object (Kept a) common opens = opens
 open_object g regions object Owned common opens = absurd common
 
--- what is looked at, or in hand, somebody has
+-- a resource that is peeked at or held by an operand has a holder
 pub part_had : (g : Typing) (i : ℕ) (peek : Option ℕ) (o : Option Thing) → ClaimsPart g i peek o → IsHad g o
 part_had g i None None is = tt
 part_had g i (Some n) None is = tt
@@ -71,7 +71,7 @@ kept_same a b same = ap thing_in same
     thing_in l = a
 
 module _ (g : Typing) (w : World) (typed : IsTyped g w.regions w.objects) where
-  -- no struct is in a cell
+  -- no cell contains a struct
   never_struct : (number : ℕ) (x : ObjectType) (n : ℕ) (ls : List Life) (offset : ℕ) → slice_get g.objects number ≡ Some x → slice_get x.cells offset ≡ Some (Struct n ls) → IsFilled g number (suc offset) → ⊥
   never_struct number x n ls offset there at (m, flag, enough) =
       let (y, k, stands, filled, is) = typed.each number x there in
@@ -107,7 +107,7 @@ module _ (g : Typing) (w : World) (typed : IsTyped g w.regions w.objects) where
   common_there k object y (OfRegion number around lent) there opens outlasts lasting had = life_by k object y (OfRegion number around lent) there opens outlasts lasting
   common_there k object y (Kept a) there opens outlasts lasting had = life_by k object y (Kept a) there opens outlasts lasting
 
-  -- a unique object is had by whoever has its pointer, also while it is lent
+  -- a unique object is live as long as its pointer has a holder, also while it is lent
   lent_there : (ns : List ℕ) (object : ℕ) (l m : Life) → l ≡ Kept (PointerTo object) → Outlasts l m → IsPresent g ns m → IsHad g (pointer_at m object) → IsHeld (g.own (PointerTo object))
   lent_there ns object l m same (alike _) lasting had = lent_held g.loans (g.own (PointerTo object)) (subst (λ z. IsPresent g ns z) same lasting).1
   lent_there ns object l m same (for_ever _) lasting had = let z : heap_life ≡ Kept (PointerTo object) = same in absurd (cc)
@@ -118,7 +118,7 @@ module _ (g : Typing) (w : World) (typed : IsTyped g w.regions w.objects) where
   lent_there ns object l m same (borrows o) lasting had = had
   lent_there ns object l m same (encloses a b as' bs us vs end more) lasting had = let z : OfRegion a as' us ≡ Kept (PointerTo object) = same in absurd (cc)
 
-  -- what a pointer leads to is there
+  -- the object that a pointer leads to is live
   pub life_of : (k : List Entry) (object : ℕ) (y : ObjectType) (m : Life) → slice_get g.objects object ≡ Some y → AreOpen w.regions (ends_of k) → Outlasts (life_at object y.life) m → IsPresent g (ends_of k) m → IsHad g (pointer_at m object) → IsOpenObject g w.regions object y.life
   life_of k object y m there opens outlasts lasting had = go y.life refl outlasts
     where
@@ -129,14 +129,14 @@ module _ (g : Typing) (w : World) (typed : IsTyped g w.regions w.objects) where
       go (Kept a) same out =
           subst (λ z. IsOpenObject g w.regions object z) same (common_there k object y m there opens (subst (λ z. Outlasts z m) (sym same) out) lasting had)
 
-  -- of an object that a pointer leads to
+  -- the target object of a typed pointer is live
   pub target_live : (k : List Entry) (t : RunTy) (l : Life) (object offset : ℕ) → AreOpen w.regions (ends_of k) → IsPresent g (ends_of k) l → IsHad g (pointer_at l object) → IsTarget g t l object offset → (x : Object) × (object_at w object ≡ Found x)
   target_live k t l object offset opens lasting had (x, there, shown, outlasts, part) =
       let (y, m, stands, flag, is) = typed.each object x there in
       let open' = life_of k object x l there opens outlasts lasting had in
       (y, ap (λ o. found_object w o) stands ∙ ap (λ (b : Bool). if b then Found y else Closed) (live_object g w object x y typed there stands is.owner open'))
 
--- a place that holds a value, and no struct
+-- a place that is not a struct holds a value
 pub value_part : (n : Lives) (g : Typing) (object : ℕ) (x : ObjectType) (t : Ty) (offset : ℕ) → is_struct t ≡ false → IsPart g object x (at n t) offset → (slice_get x.cells offset ≡ Some (at n t)) × IsFilled g object (suc offset)
 value_part n g object x types.Int offset plain is = is
 value_part n g object x types.Char offset plain is = is
@@ -160,7 +160,7 @@ keyless_at [] i t are found = absurd (let k : None ≡ Some t = found in cc)
 keyless_at (u ∷ ts) zero t (is, are) found = subst (λ z. IsKeyless z) (same_Some u t found) is
 keyless_at (u ∷ ts) (suc i) t (is, are) found = keyless_at ts i t are found
 
--- what is neither a key nor unique claims nothing
+-- a value that is neither a key nor a unique pointer claims no resource
 pub plain_claims : (own : Thing → Holder) (h : Holder) (t : RunTy) (v : values.Value) → IsPlain t → Claims own h t v
 plain_claims own h Int v is = (tt, tt)
 plain_claims own h Char v is = (tt, tt)
@@ -192,7 +192,7 @@ pointer_plain k t (OfRegion number ns us) common = tt
 pointer_plain k t (Kept region) common = tt
 pointer_plain k t Owned common = absurd common
 
--- which has no key either
+-- a plain type contains no key
 pub plain_unkept : (t : RunTy) → IsPlain t → IsKeyless t
 plain_unkept Int plain = tt
 plain_unkept Char plain = tt
@@ -204,7 +204,7 @@ plain_unkept (Key (OfRegion number ns us)) plain = tt
 plain_unkept (Key Owned) plain = tt
 plain_unkept (Struct n ls) plain = tt
 
--- nor does what others may reach, where it is told by its type: it has no key
+-- a type that is neither a key nor a unique pointer is plain
 pub both_plain : (t : RunTy) → IsKeyless t → IsByType t → IsPlain t
 both_plain Int keyless by = tt
 both_plain Char keyless by = tt
@@ -222,7 +222,7 @@ shared_claims g w number offset y t typed there shown at by h v = let (x, m, sta
 -- ---- reads and writes
 
 module _ (p : Program) (g : Typing) (x : Exits) (bs : List InScope) (e : Environment) (w : World) (typed : IsTyped g w.regions w.objects) (globals : KnowsProgram g p) (bound : IsBound e.locals e.counters bs) (variables : AreVariables g bs) where
-  -- what a cell holds that is read
+  -- the content of a cell that is read
   pub record Content (kind : Kind) (number offset : ℕ) (t : RunTy) : Type 0 where
     pub value : values.Value
     pub has : HasType g t value
@@ -252,7 +252,7 @@ module _ (p : Program) (g : Typing) (x : Exits) (bs : List InScope) (e : Environ
             ∙ ap (λ o. read kind o k e w) content;
       }
 
-  -- a cell is read
+  -- reading a cell leads to a typed state
   pub reads : (k : List Entry) (kind : Kind) (number offset : ℕ) (t : RunTy) (y : ObjectType) (f : flow.State) → LiveIn k bs → Holds g f bs
       → slice_get g.objects number ≡ Some y → slice_get y.cells offset ≡ Some t → IsOpenObject g w.regions number y.life → IsFilled g number (suc offset) → kind_at t ≡ kind
       → (r : RunValue) → ((v : values.Value) → HasType g t v → IsResult g r (record { kind = kind; value = v })) → ((c : Content kind number offset t) → ClaimsBy g (operands_in k) r c.value) → IsStack p g x bs (Val r f) k
@@ -261,7 +261,7 @@ module _ (p : Program) (g : Typing) (x : Exits) (bs : List InScope) (e : Environ
       let c = content_of kind number offset t y at cells opens filled same in
       subst (λ s. IsWell p s) (sym (c.loads k e)) (running p g x bs e w typed globals bound variables (Given (record { kind = kind; value = c.value })) k live (r, f, holds, fits c.value c.has, comes c, stack))
 
-  -- a cell is written whose place is given, and then it is gone on, where more is known
+  -- writing a known cell leads to a typed state, whose typing has grown
   module _ (v : Operand) (focus : Focus) (k : List Entry) (number offset m : ℕ) (t : RunTy) (y : ObjectType) (here : ℕ → Standing) where
     abbrev pub written_typing : Typing
     written_typing = record (with_filled g number (risen offset m)) { here = here }
@@ -297,7 +297,7 @@ module _ (p : Program) (g : Typing) (x : Exits) (bs : List InScope) (e : Environ
         (cell_written g w number offset y t v.value typed at cells c few_too is.1 g.own here g.pending (λ a held. held) (λ a none. none) (λ object i hidden apart kept a has. has) (λ object i hidden apart kept. before object i hidden apart kept) (λ i u found apart kept. beside i u found apart kept) (λ kept. claims kept) free lasts (λ object j a has. has))
         (globals_grown g h (record { objects = grows.objects; filled = grows.filled; fields = grows.fields; kept = grows.kept }) p (λ n ls. refl) globals) bound (variables_grown (record g { here = here }) h changed bs (variables_marked g here bs variables)) focus k live (goes_on changed now)))
 
-  -- a place that a pointer leads to is read
+  -- reading a place that a pointer leads to
   pub reads_target : (k : List Entry) (kind : Kind) (object offset : ℕ) (n : Lives) (t : Ty) (l : Life) (f : flow.State) → AreOpen w.regions (ends_of k) → LiveIn k bs → IsPresent g (ends_of k) l → IsHad g (pointer_at l object) → Holds g f bs
       → IsTarget g (at n t) l object offset → IsByType (at n t) → is_struct t ≡ false → kind_at (at n t) ≡ kind → IsStack p g x bs (Val (Value (at n t)) f) k
       → IsWell p (loaded kind (cell_at w object offset) k e w)
@@ -307,9 +307,9 @@ module _ (p : Program) (g : Typing) (x : Exits) (bs : List InScope) (e : Environ
       reads k kind object offset (at' n t) y f live holds there cells open' filled same (Value (at' n t)) (λ v has. (sym same, has))
       (λ c. shared_claims g w object offset y (at' n t) typed there shown cells by (Hand (operands_in k)) c.value) stack
 
--- ---- what is in hand is stored
+-- ---- storing an operand's value
 
--- where what variables have is written out
+-- the change relation with the standing of variables written out
 changed_from : (old : Holder) (g h : Typing) → Changed old (record g { here = g.here }) h → Changed old g h
 changed_from old g h changed = record {
   grows = record { objects = changed.grows.objects; filled = changed.grows.filled; fields = changed.grows.fields; kept = changed.grows.kept };
@@ -321,7 +321,7 @@ changed_from old g h changed = record {
   loans = changed.loans;
 }
 
--- somebody has still what somebody had
+-- a resource that had a holder still has one
 pub held_still : (own : Thing → Holder) (o : Option Thing) (new : Holder) (a : Thing) → IsHeld new → IsHeld (own a) → IsHeld (given o new own a)
 held_still own None new a now held = held
 held_still own (Some b) new a now held = go (same_thing a b)
@@ -336,7 +336,7 @@ open_still g o new regions object (Kept a) now opens = opens
 open_still g o new regions object Owned now held = held_still g.own o new (PointerTo object) now held
 
 module _ (p : Program) (g : Typing) (x : Exits) (bs : List InScope) (e : Environment) (w : World) (typed : IsTyped g w.regions w.objects) (globals : KnowsProgram g p) (bound : IsBound e.locals e.counters bs) (variables : AreVariables g bs) where
-  -- a value goes from the hand into a cell
+  -- a value moves from an operand into a cell
   module _ (v : Operand) (focus : Focus) (k : List Entry) (number offset m i : ℕ) (t : RunTy) (y : ObjectType) (here : ℕ → Standing) where
     abbrev pub stored_given : Typing
     stored_given = giving g (thing_of t v.value) (At number offset)
@@ -358,7 +358,7 @@ module _ (p : Program) (g : Typing) (x : Exits) (bs : List InScope) (e : Environ
         (λ object j hidden apart kept. before object j hidden apart kept) (λ j u found apart kept. beside j u found apart kept) free lasts (λ kept. (given_now g.own thing its, claims.1))
         (λ more now. goes (changed_after (Hand i) (record g { here = here }) (record stored_given { here = here }) stored_typing (giving_changed (record g { here = here }) thing (Hand i) its claims.0) more) now)
 
-  -- where what variables have is as it was
+  -- storing a value without changing the standing of variables
   pub stores_on : (v : Operand) (focus : Focus) (k : List Entry) (number offset m i : ℕ) (t : RunTy) (y : ObjectType) → LiveIn k bs → slice_get g.objects number ≡ Some y → slice_get y.cells offset ≡ Some t → IsOpenObject g w.regions number y.life
       → slice_get g.filled number ≡ Some m → offset ≤ m → y.is_hidden ≡ false → IsResult g (Value t) v → Claims g.own (Hand i) t v.value
       → (Changed (Hand i) g (stored_typing v focus k number offset m i t y g.here) → IsFilled (stored_typing v focus k number offset m i t y g.here) number (suc offset) → IsFocus p (stored_typing v focus k number offset m i t y g.here) x bs focus k)
@@ -367,7 +367,7 @@ module _ (p : Program) (g : Typing) (x : Exits) (bs : List InScope) (e : Environ
       stores_marking v focus k number offset m i t y g.here live at cells opens flag few is claims (λ object j hidden apart kept. kept) (λ j u found apart kept. kept)
       (λ hides. let z : true ≡ false = sym hides ∙ shown in absurd (cc)) (λ object j apart now. now) (λ changed now. goes (changed_from (Hand i) g (stored_typing v focus k number offset m i t y g.here) changed) now)
 
-  -- and is written
+  -- writing the cell that a pointer leads to
   pub writes_target : (v : Operand) (k : List Entry) (object offset i : ℕ) (t : RunTy) (l : Life) (focus : Focus) → AreOpen w.regions (ends_of k) → LiveIn k bs → IsPresent g (ends_of k) l → IsHad g (pointer_at l object)
       → IsTarget g t l object offset → IsResult g (Value t) v → Claims g.own (Hand i) t v.value → ((h : Typing) → Changed (Hand i) g h → IsFocus p h x bs focus k)
       → IsWell p (stored (cell_at w object offset) object offset v focus k e w)

@@ -1,4 +1,4 @@
--- What waits keeps its types as it is told, whoever claims things claims them, and what has no value is only dropped.
+-- A waiting entry keeps its types whoever claims the resource, and an entry that waits for no value is only dropped.
 use Rattle.std.proofs.Common.{◌≡◌, ◌≢◌, inl, inr, ℕ, ◌≤◌, ◌<◌, ◌+◌, Bool, true, false, List, [], ◌∷◌, Option, Some, None, slice_get, refl, sym, ap, subst, ◌∙◌, arith}
 use Rattle.std.specs.Prelude.{if◌then◌else◌, suc, length, get_or}
 use Rattle.std.proofs.lemmas.Option.{same_Some}
@@ -26,9 +26,9 @@ use Rattle.cyc_soundness.specs.inside.Stacks.{IsStack, IsLentOut}
 use Rattle.cyc_soundness.proofs.states.WorldLemmas.{type_grown, operands_grown}
 use Rattle.cyc_soundness.proofs.states.Hands.{Changed, stays_changed, owns_kept, claims_kept, part_kept, variables_kept, holds_kept, holds_here, slot_kept}
 use Rattle.cyc_soundness.proofs.states.StackLemmas.{relied_if, IsAboveBy, IsAbove, above_by, hand_other, lent_other, looked_other, none_lent, operands_long, above_to, statement_spared, ends_relied}
-use Rattle.cyc_soundness.proofs.states.StackLemmas.{no_fewer, part_spared, waits_whole, place_whole, goes_relied, above_behind, above_outside, relied_other, only_full, lender_other, outer_other, array_grown, full_at_grown}
+use Rattle.cyc_soundness.proofs.states.StackLemmas.{no_fewer, part_spared, waits_whole, place_whole, goes_relied, above_after, above_outside, relied_other, only_full, lender_other, outer_other, array_grown, full_at_grown}
 
--- the local into which an operand that waits leads
+-- the local with a pending peek into which a stored operand points
 abbrev held_peek : Awaiting → Option ℕ
 held_peek (ApplyPointer peek operator left) = peek
 held_peek (StoreCell peek place) = peek
@@ -46,7 +46,7 @@ looked_unspared (Some m) q n e spared =
     let one : is_full (get_or (only m) n Vacant) ≡ false = spared.0 in
     let z : true ≡ false = sym (ap is_full (ap (λ i. get_or (only i) n Vacant) same ∙ only_full n)) ∙ one in absurd (cc)
 
--- it is relied on
+-- an enclosing state relies on the local with the pending peek
 unspared : (a : Awaiting) (q r : Relied) (n : ℕ) → held_peek a ≡ Some n → IsSpared (relied_by (part a) q r) n → ⊥
 unspared (ApplyPointer peek operator left) q r n e spared = looked_unspared peek r n e spared
 unspared (StoreCell peek place) q r n e spared = looked_unspared peek r n e spared
@@ -100,8 +100,8 @@ module _ (p : Program) (old : Holder) (g h : Typing) (changed : Changed old g h)
     claimed_kept i (t ∷ ts) (held a) (λ j less. hands j (let long : suc (length ts) ≡ length (held a) = operands_long g (t ∷ ts) (held a) are in let most = held_counted a in let few : j < count_held a + i = omega (arith, less, long, most) in few)) claims,
   )
 
-changed_behind : (old : Holder) (g h : Typing) (j : ℕ) → Changed old g h → Changed old (record g { loans = j }) (record h { loans = j })
-changed_behind old g h j changed = record {
+changed_following : (old : Holder) (g h : Typing) (j : ℕ) → Changed old g h → Changed old (record g { loans = j }) (record h { loans = j })
+changed_following old g h j changed = record {
   grows = record { objects = changed.grows.objects; filled = changed.grows.filled; fields = changed.grows.fields; kept = changed.grows.kept };
   own = changed.own;
   here = changed.here;
@@ -122,7 +122,7 @@ changed_outside old g h d changed = record {
   loans = changed.loans;
 }
 
--- what variables have or have lent, they have or have lent still
+-- variables keep their contents and their loans
 abbrev pub AreStill : Typing → Typing → Type 0
 AreStill g h = (object : ℕ) → h.here object ≡ g.here object
 
@@ -130,12 +130,12 @@ clauses_spared : (empties : Bool) (f : flow.State) (q : Relied) (n : ℕ) → Is
 clauses_spared false f q n spared = tt
 clauses_spared true f q n spared = spared.1
 
--- what is known of locals stays so, where they are emptied of nothing, or where these are others
+-- facts about locals stay true if no local is emptied, or if the emptied locals are others
 holds_by : (empties : Bool) (old : Holder) (g h : Typing) (f : flow.State) (bs : List InScope) → (empties ≡ false → AreStill g h) → Changed old g h → (empties ≡ true → (n object : ℕ) → IsFullIn f n → IsHere g g.depth n object → At object 0 ≢ old) → Holds g f bs → Holds h f bs
 holds_by false old g h f bs still changed other holds = holds_here g h changed.grows changed.depth f bs (λ n object full here. (still refl object ∙ here.0, slot_kept old g h changed g.depth n object here.1)) holds
 holds_by true old g h f bs still changed other holds = holds_kept old g h changed f bs (other refl) holds
 
--- a variable has lent still what is in it
+-- a variable that has lent its content has still lent it
 lent_still : (empties : Bool) (old : Holder) (g h : Typing) (x y : Exits) (k : List Entry) (lent j : ℕ) (t : RunTy) (object : ℕ) → (empties ≡ false → AreStill g h) → Changed old g h → x ≡ lending y lent → IsAboveBy empties x g (EndLoan lent ∷ k) old → j < g.loans
     → IsLentOut g lent j t object → IsLentOut h lent j t object
 lent_still empties old g h x y k lent j t object still changed same above less (l, there, away) = (
@@ -149,7 +149,7 @@ lent_still empties old g h x y k lent j t object still changed same above less (
     go true still above = changed.away object j (variable_type t l true (OfLocal g.depth lent), there, refl) away
         (lender_other x y g k lent old object same above (variable_type t l true (OfLocal g.depth lent), there, refl)) (lent_other true x g (EndLoan lent ∷ k) j object old above less)
 
--- A stack stays typed while a thing changes hands that nothing on it claims.
+-- A stack stays typed when a resource changes its holder, if nothing on the stack claims that resource.
 pub stack_by : (empties : Bool) (p : Program) (old : Holder) (g h : Typing) (x : Exits) (bs : List InScope) (w : Want) (k : List Entry) → (empties ≡ false → AreStill g h) → Changed old g h → IsAboveBy empties x g k old → IsStack p g x bs w k → IsStack p h x bs w k
 stack_by empties p old g h x bs Nothing [] still changed above is = changed.pending ∙ is
 stack_by empties p old g h x bs (Val r f) (Needs a ∷ k) still changed above (ts, cs, next, waits, are, rest) = (
@@ -182,9 +182,9 @@ stack_by empties p old g h x bs (Go f) (CloseLexical region ∷ k) still changed
     (end, i, live, stack_by empties p old g h x bs (Go end) k still changed (above_to empties x x g (CloseLexical region) k old (no_fewer k) (λ n spared. statement_spared p g x bs end k (relied_if empties x.relied) n rest spared) above) rest)
 stack_by empties p old g h x bs (Go f) (EndLoan lent ∷ k) still changed above (y, end, j, t, object, same, loans, lent_out, i, full, variables, rest) =
     let inner = above_to empties x y g (EndLoan lent) k old (no_fewer k) (λ n spared. statement_spared p (record g { loans = j }) y bs end k (relied_if empties y.relied) n rest (clauses_spared empties (Reached (only lent)) y.relied n (subst (λ (z : Exits). IsSpared (relied_if empties z.relied) n) same spared))) above in
-    let behind' = above_behind empties y g k j old loans inner in
+    let following' = above_after empties y g k j old loans inner in
     let less : j < g.loans = omega (arith, loans) in
-    let changed' = changed_behind old g h j changed in (
+    let changed' = changed_following old g h j changed in (
       y,
       end,
       j,
@@ -195,8 +195,8 @@ stack_by empties p old g h x bs (Go f) (EndLoan lent ∷ k) still changed above 
       lent_still empties old g h x y k lent j t object still changed same above less lent_out,
       i,
       full_at_grown p g h changed.grows lent object bs full,
-      variables_kept old (record g { loans = j }) (record h { loans = j }) changed' bs (none_lent empties y (record g { loans = j }) k old behind') variables,
-      stack_by empties p old (record g { loans = j }) (record h { loans = j }) y bs (Go end) k still changed' behind' rest,
+      variables_kept old (record g { loans = j }) (record h { loans = j }) changed' bs (none_lent empties y (record g { loans = j }) k old following') variables,
+      stack_by empties p old (record g { loans = j }) (record h { loans = j }) y bs (Go end) k still changed' following' rest,
     )
 stack_by empties p old g h x bs (Go f) (Handler cs ∷ k) still changed above (y, c, start, end, same, stands, holds, catches, i, rest) =
     let inner = above_to empties x y g (Handler cs) k old (no_fewer k) (λ n spared. statement_spared p g y bs end k (relied_if empties y.relied) n rest (clauses_spared empties start y.relied n (subst (λ (z : Exits). IsSpared (relied_if empties z.relied) n) same spared))) above in (
@@ -235,7 +235,7 @@ stack_by empties p old g h x bs w k still changed above is = absurd is
 pub stack_changed : (p : Program) (old : Holder) (g h : Typing) (x : Exits) (bs : List InScope) (w : Want) (k : List Entry) → Changed old g h → IsAbove x g k old → IsStack p g x bs w k → IsStack p h x bs w k
 stack_changed p old g h x bs w k changed above is = stack_by true p old g h x bs w k (λ e. (let z : true ≡ false = e in absurd (cc))) changed (above_by x g k old above) is
 
--- no swap is under way
+-- a stack that is typed has no pending swap
 pub settled : (p : Program) (g : Typing) (x : Exits) (bs : List InScope) (w : Want) (k : List Entry) → IsStack p g x bs w k → g.pending ≡ Settled
 settled p g x bs Nothing [] is = is
 settled p g x bs (Val r f) (Needs a ∷ k) (ts, cs, next, waits, are, rest) = settled p g x cs next k rest
@@ -253,11 +253,11 @@ settled p g x bs (Go f) (Caller e ∷ k) (y, cs, end, d, depth, loop, blocked, g
 settled p g x bs (Go f) (Main ∷ k) (loop, int, gives, blocked, rest) = settled p g x bs Nothing k rest
 settled p g x bs w k is = absurd is
 
--- nor where nothing does
+-- a stack stays typed when the typing grows and no resource changes its holder
 pub stack_grown : (p : Program) (g h : Typing) → Stays g h → (x : Exits) (bs : List InScope) (w : Want) (k : List Entry) → IsStack p g x bs w k → IsStack p h x bs w k
 stack_grown p g h same x bs w k is = stack_changed p Nobody g h x bs w k (stays_changed Nobody g h same) tt is
 
--- ---- what has no value is only dropped
+-- ---- entries without a value are only dropped
 
 void_read : (n : Lives) (v : ValueType) → value_at n v ≡ Void → v ≡ types.Void
 void_read n types.Void e = refl
@@ -272,7 +272,7 @@ void_converts c (types.Handle r) conv = conv
 void_converts c (types.Key r) conv = conv
 void_converts c (types.Struct n rs) conv = conv
 
--- neither operand of an operator of pointers
+-- an operator on pointers has no operand without a value
 pub pointer_left : {c : Context} {o : PointerOperator} {u v w : ValueType} → PointerOperation c o u v w → u ≡ types.Void → ⊥
 pointer_left (adds t r other) e = let k : types.Value (types.Pointer marks.Fat t r) ≡ types.Void = e in absurd (cc)
 pointer_left (subtracts t r other) e = let k : types.Value (types.Pointer marks.Fat t r) ≡ types.Void = e in absurd (cc)

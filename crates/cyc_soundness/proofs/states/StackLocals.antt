@@ -1,4 +1,4 @@
--- What is found of the locals in scope, what is lent of them, and the regions that will end.
+-- Facts about the locals in scope, their loans, and the regions still to be closed.
 use Rattle.std.proofs.Common.{◌≡◌, ◌≢◌, inl, inr, ℕ, ◌≤◌, ◌<◌, Bool, true, false, List, [], ◌∷◌, Option, Some, None, slice_get, eqb, refl, sym, ap, subst, ◌∙◌, arith}
 use Rattle.std.specs.Prelude.{if◌then◌else◌}
 use Rattle.std.proofs.lemmas.Bool.{eqb-true, eq-eqb, false_from_ne_true}
@@ -17,7 +17,7 @@ use Rattle.cyc_meaning.specs.inside.Nesting.{ends_of, IsFound, AreOpen, IsHome, 
 use Rattle.cyc_meaning.specs.inside.Nesting as nesting
 use Rattle.cyc_soundness.specs.inside.Lives.{Life, OfRegion, Owned, Kept, heap_life, RunTy, RunValue, Lives, at}
 use Rattle.cyc_soundness.specs.inside.Worlds.{Thing, KeyOf, IsHeld, Holder, Nobody, Hand, At, Lent, IsHere, is_lent_by, IsOpenIn, ObjectType, Typing}
-use Rattle.cyc_soundness.specs.inside.Worlds.{IsTyped, IsFull, IsEndOf, whole, behind, Outlasts, alike, heap as for_ever, globals as with_globals, stays, encloses, borrows, PointerTo, IsOpenLife, IsKnownOwner}
+use Rattle.cyc_soundness.specs.inside.Worlds.{IsTyped, IsFull, IsEndOf, whole, following, Outlasts, alike, heap as for_ever, globals as with_globals, stays, encloses, borrows, PointerTo, IsOpenLife, IsKnownOwner}
 use Rattle.cyc_soundness.specs.inside.Frames.{IsAmong, first, later, Bound, InScope, Variable, Level, Home, lives_in, IsThere, home_of, IsHomed, IsScope, AreBelow, IsBound, AreVariables, IsLasting, AreLiveIn}
 use Rattle.cyc_soundness.specs.inside.Frames.{home_in, LiveIn, IsInner, Within, itself, older, IsSet, AreSet, IsFullIn, Holds, AreFullAt, Exits, life_named, local_type}
 use Rattle.cyc_soundness.specs.inside.Classes.{is_full, Relied}
@@ -29,7 +29,7 @@ use Rattle.cyc_soundness.proofs.types.RegionLemmas.{there_lasting, there_open}
 use Rattle.cyc_soundness.proofs.states.WorldLemmas.{dynamic_open}
 use Rattle.cyc_soundness.proofs.states.Hands.{Changed, here_kept}
 
--- the object of a local, which is of its type, and is there as long as its block
+-- the object of a local, which has the local's type and lasts as long as its block
 pub record BoundTo (these : Lives) (bs : List InScope) (n : ℕ) (t : Ty) (region : ℕ) : Type 0 where
   pub bound : Bound
   pub among : IsAmong (Variable bound) bs
@@ -38,8 +38,8 @@ pub record BoundTo (these : Lives) (bs : List InScope) (n : ℕ) (t : Ty) (regio
   pub hidden : bound.is_hidden ≡ is_moved t
   pub life : IsHomed these region bound.life
 
-bound_behind : (these : Lives) (b : InScope) (bs : List InScope) (n : ℕ) (t : Ty) (r : ℕ) → BoundTo these bs n t r → BoundTo these (b ∷ bs) n t r
-bound_behind these b bs n t r x = record { bound = x.bound; among = later b bs x.among; number = x.number; of_type = x.of_type; hidden = x.hidden; life = x.life }
+bound_after : (these : Lives) (b : InScope) (bs : List InScope) (n : ℕ) (t : Ty) (r : ℕ) → BoundTo these bs n t r → BoundTo these (b ∷ bs) n t r
+bound_after these b bs n t r x = record { bound = x.bound; among = later b bs x.among; number = x.number; of_type = x.of_type; hidden = x.hidden; life = x.life }
 
 pub bound_to : (these : Lives) (vs : List LocalInScope) (bs : List InScope) (n : ℕ) (t : Ty) (r : ℕ) → IsScope these vs bs → HasLocal vs n t r → BoundTo these bs n t r
 bound_to these vs [] n t r is has = absurd (subst (λ us. HasLocal us n t r) is has)
@@ -52,9 +52,9 @@ bound_to these vs (Variable b ∷ bs) n t r (rest, (v, vs_are, number, of_type, 
     hidden = sym hidden ∙ ap is_moved here.1;
     life = subst (λ i. IsHomed these i b.life) here.2 life;
   }
-  | inr there ↦ bound_behind these (Variable b) bs n t r (bound_to these rest bs n t r is there)
+  | inr there ↦ bound_after these (Variable b) bs n t r (bound_to these rest bs n t r is there)
 ]
-bound_to these vs (b ∷ bs) n t r (rest, vs_are, is) has = bound_behind these b bs n t r (bound_to these rest bs n t r is (subst (λ us. HasLocal us n t r) vs_are has))
+bound_to these vs (b ∷ bs) n t r (rest, vs_are, is) has = bound_after these b bs n t r (bound_to these rest bs n t r is (subst (λ us. HasLocal us n t r) vs_are has))
 
 pub bound_of : (these : Lives) (vs : List LocalInScope) (bs : List InScope) (n : ℕ) (t : Ty) (r : ℕ) → IsScope these vs bs → HasLocal vs n t r
     → (b : Bound) × IsAmong (Variable b) bs × (b.number ≡ n) × (b.of_type ≡ at these t)
@@ -85,7 +85,7 @@ pub among_set : {b : Bound} {bs : List InScope} (g : Typing) (f : flow.State) �
 among_set g f (first cs) (is, are) s = is.0 s
 among_set g f (later c cs among) (is, are) s = among_set g f among are s
 
--- it has what it holds
+-- a full local holds its own content
 pub among_own : {b : Bound} {bs : List InScope} (g : Typing) (f : flow.State) → IsAmong (Variable b) bs → AreSet g f bs → IsFullIn f b.number → IsHere g g.depth b.number b.object
 among_own g f (first cs) (is, are) s = is.1 s
 among_own g f (later c cs among) (is, are) s = among_own g f among are s
@@ -94,7 +94,7 @@ pub among_level : {l : ℕ} {bs : List InScope} (e : Environment) → IsAmong (L
 among_level e (first cs) (is, are) = is
 among_level e (later c cs among) (is, are) = among_level e among are
 
--- an outer scope knows no more
+-- an outer scope has fewer facts
 pub within_bound : (e : Environment) (cs bs : List InScope) → Within cs bs → IsBound e.locals e.counters bs → IsBound e.locals e.counters cs
 within_bound e cs bs (itself _) are = are
 within_bound e cs bs (older b _ ds inner within) (is, are) = within_bound e cs ds within are
@@ -130,7 +130,7 @@ scopes_below_more n m [] less are = tt
 scopes_below_more n m (Variable b ∷ bs) less (is, are) = (omega (arith, less, is), scopes_below_more n m bs less are)
 scopes_below_more n m (b ∷ bs) less (is, are) = (tt, scopes_below_more n m bs less are)
 
--- ---- a local more, and one that is stored
+-- ---- a new local, and a store to a local
 
 pub local_new : (e : Environment) (number object : ℕ) → (with_local e number object).locals number ≡ Some object
 local_new e number object = ap (λ (b : Bool). if b then Some object else e.locals number) (eq-eqb number number refl)
@@ -179,12 +179,12 @@ set_stored g e a f number object (Variable b ∷ bs) (here, bound) one full reac
     ]
 set_stored g e a f number object (b ∷ bs) (here, bound) one full reached own (is, are) = (tt, set_stored g e a f number object bs bound one full reached own are)
 
--- ---- what is lent
+-- ---- lent locals
 
 pub none_among : {A B : Type 0} {a : A} → IsAmong a [] → B
 none_among among = elim among [ ]
 
--- what this local has is in one object
+-- the content of this local is in a single object
 pub full_here : (g : Typing) (e : Environment) (n object : ℕ) (bs : List InScope) → IsBound e.locals e.counters bs → e.locals n ≡ Some object → IsFull g object → AreFullAt g n object bs
 full_here g e n object [] bound one full = tt
 full_here g e n object (Variable b ∷ bs) (here, bound) one full =
@@ -210,11 +210,11 @@ module _ (old : Holder) (g h : Typing) (changed : Changed old g h) (n object : �
       ]
   refilled_set f (b ∷ bs) (here, at) (is, are) = (tt, refilled_set f bs at are)
 
-  -- what was lent is full where it is given back
+  -- a lent local is full again when its loan ends
   pub given_back : (f : flow.State) (bs : List InScope) → AreFullAt g n object bs → Holds g f bs → Holds h (with_fullness Full f n) bs
   given_back f bs at (reached, are) = (reached_with Full f n reached, refilled_set f bs at are)
 
--- ---- regions that will end
+-- ---- regions still to be closed
 
 found_open : (o : Option Region) → IsFound (found_region o) → is_open o ≡ true
 found_open None h = absurd h
@@ -234,7 +234,7 @@ globals_among (CloseRegion region home ∷ k) = later region (ends_of k) (global
 globals_among (CloseLexical region ∷ k) = later region (ends_of k) (globals_among k)
 globals_among (entry ∷ k) = globals_among k
 
--- the heap is none of them
+-- the heap is not among the regions to be closed
 pub above_globals : (bound : ℕ) (k : List Entry) → nesting.AreBelow bound (ends_of k) → globals_number < bound
 above_globals bound [] (less, are) = less
 above_globals bound (CloseRegion region home ∷ k) (less, are) = let past : globals_number < region = above_globals region k are in omega (arith, less, past)
@@ -247,24 +247,24 @@ lexical_not_heap region k e w nests same = let past : globals_number < region = 
 pub not_heap : (region home : ℕ) (k : List Entry) (e : Environment) (w : World) → IsNested (CloseRegion region home ∷ k) e w → heap_number ≢ region
 not_heap region home k e w nests same = let past : globals_number < region = above_globals region k nests.1.1 in absurd (omega (arith, past, same))
 
--- where variables live is the region of a block around
+-- the region that contains the variables is that of the innermost open block
 pub home_is : (home : ℕ) (k : List Entry) → IsHome home k → home ≡ home_in k
 home_is home [] is = is
 home_is home (CloseRegion region outer ∷ k) is = is.0
 home_is home (Caller outer ∷ k) is = is.0
 home_is home (entry ∷ k) is = home_is home k is
 
--- what will end is there
+-- a region still to be closed is open
 end_among : (m : ℕ) (ms ns : List ℕ) → IsEndOf (m ∷ ms) ns → IsAmong m ns
 end_among m ms ns whole = first ms
-end_among m ms ns (behind n os end) = later n os (end_among m ms os end)
+end_among m ms ns (following n os end) = later n os (end_among m ms os end)
 
--- a dynamic region is open
+-- the dynamic region of this lifetime is open
 abbrev pub IsKeptOpen : List Region → Life → Type 0
 IsKeptOpen regions (Kept (KeyOf number)) = is_open (slice_get regions number) ≡ true
 IsKeptOpen regions l = Unit {0}
 
--- what is lent somebody has
+-- a lent resource has a holder
 pub lent_held : (count : ℕ) (h : Holder) → is_lent_by count h ≡ true → IsHeld h
 lent_held count Nobody e = absurd (let k : false ≡ true = e in cc)
 lent_held count (Hand i) e = tt
@@ -277,7 +277,7 @@ kept_open g regions objects (Kept (PointerTo object)) typed known opens = tt
 kept_open g regions objects (OfRegion number ns us) typed known opens = tt
 kept_open g regions objects Owned typed known opens = tt
 
--- what has this life has not ended
+-- the lifetime has not ended
 abbrev pub IsPresent : Typing → List ℕ → Life → Type 0
 IsPresent g ns Owned = Unit {0}
 IsPresent g ns l = IsLasting ns l × IsOpenIn g l
@@ -310,7 +310,7 @@ around_heap n ns us e = ap around_of e
     around_of (OfRegion n ns us) = ns
     around_of l = []
 
--- what outlasts what is open is open
+-- a lifetime that outlasts an open lifetime is open
 pub open_outlasting : (g : Typing) (l m : Life) → Outlasts l m → IsCommonLife m → IsOpenIn g m → IsOpenIn g l
 open_outlasting g l m (alike _) common opens = opens
 open_outlasting g l m (for_ever _) common opens = λ r e. absurd (let k : false ≡ true = e in cc)
@@ -319,7 +319,7 @@ open_outlasting g l m (stays a n ns us has) common opens = opens a has
 open_outlasting g l m (borrows object) common opens = absurd common
 open_outlasting g l m (encloses a b as' bs us vs end more) common opens = λ r e. opens r (more r e)
 
--- what lasts as long as what has not ended is there
+-- an object whose lifetime outlasts one that has not ended is live
 pub outlasting_open : (regions : List Region) (ns : List ℕ) (l m : Life) → AreOpen regions ns → is_open (slice_get regions heap_number) ≡ true → is_open (slice_get regions globals_number) ≡ true → IsKeptOpen regions l → Outlasts l m
     → IsLasting ns m → IsOpenLife regions l
 outlasting_open regions ns l m opens heap globals kept (alike _) is = lasting_open regions ns l opens heap kept is

@@ -1,4 +1,4 @@
--- The typing of a world grows: an object is made, a cell is written, and what was typed stays so.
+-- The typing of a world grows when an object is created or a cell is written, and typed parts stay typed.
 use Rattle.std.proofs.Common.{◌≡◌, ◌≢◌, ℕ, zero, suc, ◌+◌, ◌≤◌, ◌<◌, Bool, true, false, List, [], ◌∷◌, ◌++◌, length, map, set, Option, Some, None, refl, sym, ap, subst, ◌∙◌, inl, inr, arith, length-append}
 use Rattle.std.specs.Prelude.{if◌then◌else◌, slice_get}
 use Rattle.std.proofs.lemmas.List.{length-set}
@@ -18,7 +18,7 @@ use Rattle.cyc_soundness.specs.inside.Worlds.{Pending, IsKept, IsAmong, KeyOf, P
 use Rattle.cyc_soundness.specs.inside.Worlds.{IsPart, IsTarget, HasType, IsResult, AreOperands, IsContent, AreCells, IsOwner, IsObject, IsTyped, Grows, Thing, Holder, Nobody, Owns, thing_of, Standing, Here, Away, Lent, AreLent}
 use Rattle.cyc_soundness.specs.inside.Frames.{lives_among, KnowsProgram}
 
--- ---- what was typed stays so
+-- ---- typed parts stay typed
 
 module _ (g h : Typing) (grows : Grows g h) where
   part_grown : (object : ℕ) (x : ObjectType) (t : RunTy) (offset : ℕ) → IsPart g object x t offset → IsPart h object x t offset
@@ -93,7 +93,7 @@ module _ (g h : Typing) (grows : Grows g h) where
     fields = knows.fields;
   }
 
--- ---- an object more
+-- ---- one more object
 
 abbrev pub with_object : Typing → ObjectType → (filled : ℕ) → Typing
 with_object g t n = record g { objects = g.objects ++ t ∷ []; filled = g.filled ++ n ∷ [] }
@@ -117,7 +117,7 @@ variable_grows g t n here = record {
   kept = λ number is. is;
 }
 
--- What has what is in it had it before, or is the new one.
+-- Each holder of a resource held it before, or is the new object.
 abbrev pub with_variable : Typing → ObjectType → (filled : ℕ) → (here : ℕ → Standing) → Typing
 with_variable g t n here = record (with_object g t n) { here = here }
 
@@ -150,7 +150,7 @@ object_typed g regions objects t n x here typed is before own none = record {
       )
     ]
 
-    -- what is found of an object that was there before
+    -- lookups of older objects are unchanged
     same_object : (number : ℕ) (y z : Object) → slice_get (objects ++ x ∷ []) number ≡ Some y → slice_get objects number ≡ Some z → z ≡ y
     same_object number y z found before = same_Some z y (sym (slice_get_front objects (x ∷ []) number z before) ∙ found)
 
@@ -176,7 +176,7 @@ object_typed g regions objects t n x here typed is before own none = record {
 
 -- ---- regions
 
--- the heap and dynamic regions are open, whatever else is opened or closed
+-- the heap and the dynamic regions stay open, whatever other regions open or close
 pub typed_beside : (g : Typing) (regions others : List Region) (objects : List Object) → IsTyped g regions objects → is_open (slice_get others heap_number) ≡ true
     → ((number : ℕ) → IsAmong number g.kept → IsHeld (g.own (KeyOf number)) → IsDynamic (slice_get others number)) → length regions ≤ length others → IsTyped g others objects
 typed_beside g regions others objects typed heap kept more = record {
@@ -191,19 +191,19 @@ typed_beside g regions others objects typed heap kept more = record {
   lent = typed.lent;
 }
 
--- a dynamic region is the same in a list where it is found too
+-- an open dynamic region is also found in the longer list
 dynamic_there : (o p : Option Region) → ((r : Region) → o ≡ Some r → p ≡ Some r) → IsDynamic o → IsDynamic p
 dynamic_there None p same is = absurd is
 dynamic_there (Some r) p same is = subst (λ z. IsDynamic z) (sym (same r refl)) is
 
--- and is none that a scope ends
+-- a dynamic region is not closed by any scope
 never_scoped : (o : Option Region) → IsDynamic o → IsFound (found_region o) → ⊥
 never_scoped None is found = is
 never_scoped (Some r) (sort, opens) found =
     let now : IsFound (Found r) = subst (λ (b : Bool). IsFound (if b then Found r else Closed)) opens found in
     subst (λ s. IsScoped s) sort now
 
--- it is open
+-- a dynamic region with a holder of its key is open
 pub dynamic_open : (o : Option Region) → IsDynamic o → is_open o ≡ true
 dynamic_open None is = absurd is
 dynamic_open (Some r) (sort, opens) = opens
@@ -231,7 +231,7 @@ content_there : (g : Typing) (t : RunTy) (o : Option values.Value) → IsContent
 content_there g t None is = absurd (let e : true ≡ false = is in cc)
 content_there g t (Some v) is = (v, refl, is)
 
--- what is found of a cell of an object whose first so many cells hold something
+-- a cell of an object whose first n cells hold values
 pub record CellAt (g : Typing) (n : ℕ) (t : RunTy) (offset : ℕ) (cells : List Cell) : Type 0 where
   pub cell : Cell
   pub at : slice_get cells offset ≡ Some cell
@@ -253,7 +253,7 @@ typed_cell g (u ∷ ts) (c ∷ cs) (suc n) (suc i) t (one, are) found =
     let rest = typed_cell g ts cs n i t are found in
     record { cell = rest.cell; at = rest.at; kind = rest.kind; content = λ less. rest.content (let e : i < n = omega (arith, less) in e) }
 
--- an object is there whose life says so
+-- an object is live if its lifetime says so
 pub live_object : (g : Typing) (w : World) (number : ℕ) (x : ObjectType) (y : Object) → IsTyped g w.regions w.objects → slice_get g.objects number ≡ Some x → slice_get w.objects number ≡ Some y → IsOwner x.life y.owner → IsOpenObject g w.regions number x.life → is_live w y.owner ≡ true
 live_object g w number x y typed there stands owner opens = go x.life refl y.owner refl owner opens
   where
@@ -270,7 +270,7 @@ live_object g w number x y typed there stands owner opens = go x.life refl y.own
         let owner_is : o ≡ Unique true = sym f ∙ ap (λ (z : Object). z.owner) (sym same) ∙ live in
         ap (λ z. is_live w z) owner_is
 
--- what stands at a number, and its cell of this type
+-- the object of a number, and its cell of this type
 pub record HasCell (g : Typing) (w : World) (number offset : ℕ) (x : ObjectType) (t : RunTy) : Type 0 where
   pub object : Object
   pub filled : ℕ
@@ -300,9 +300,9 @@ cell_there g w number offset t x typed at cells opens =
           ∙ ap (λ o. located y o) c.at;
     }
 
--- ---- a cell is written
+-- ---- writing a cell
 
--- how many cells hold something once this one does
+-- the number of filled cells after this cell was written
 abbrev pub risen : (offset filled : ℕ) → ℕ
 risen zero zero = 1
 risen zero (suc n) = suc n
@@ -337,7 +337,7 @@ filled_grows g number m n flag more = record { objects = λ other u there. there
       | inr apart ↦ (k, slice_get-set_other g.filled number other n apart ∙ is, enough)
     ]
 
--- a cell with this in it
+-- the cell of the given kind with this value
 abbrev filled_with : Cell → values.Value → Cell
 filled_with c v = record c { content = Some v }
 
@@ -378,7 +378,7 @@ module _ (g : Typing) (w : World) (number offset : ℕ) (x : ObjectType) (t : Ru
           (type_grown g now_typed now_grows t v has);
     }
 
-    -- What other cells have they had before, and have still; this one has its value. Nobody has what nobody had.
+    -- Other cells keep their resources, and this one receives its value. Resources without a holder have none afterwards.
     pub cell_written : ((a : Thing) → IsHeld (own a) → IsHeld (g.own a)) → ((a : Thing) → g.own a ≡ Nobody → own a ≡ Nobody)
         → ((object i : ℕ) (hidden : Bool) → (object ≡ number → i ≢ offset) → IsKept now_typed object i hidden → (a : Thing) → g.own a ≡ At object i → own a ≡ At object i) → ((object i : ℕ) (hidden : Bool) → object ≢ number → IsKept now_typed object i hidden → IsKept g object i hidden)
         → ((i : ℕ) (u : RunTy) → slice_get x.cells i ≡ Some u → i ≢ offset → IsKept now_typed number i x.is_hidden → IsKept g number i x.is_hidden) → (IsKept now_typed number offset x.is_hidden → Claims own (At number offset) t v)
@@ -457,7 +457,7 @@ module _ (g : Typing) (w : World) (number offset : ℕ) (x : ObjectType) (t : Ru
               (still (At object i) (thing_of r z) (stays object i u.is_hidden (λ same. absurd (apart same)) kept) owns, start))
         ]
 
-        -- what is written is not lent
+        -- the written cell is not lent
         lent : (object : ℕ) (u : ObjectType) (y : Object) → slice_get g.objects object ≡ Some u → slice_get (set w.objects number with_value) object ≡ Some y → AreLent now_typed object u y.cells
         lent object u y there stands = elim (same_or_other object number) [
           | inl same ↦ λ i j r d z now hides. (let type_is : x ≡ u = same_Some x u (sym at ∙ ap (λ n. slice_get g.objects n) (sym same) ∙ there) in

@@ -1,4 +1,4 @@
--- ARRAYS are made: an element is computed for each index, and written.
+-- ARRAYS: each element is evaluated for its index, and written.
 use Rattle.std.proofs.Common.{◌≡◌, ◌≢◌, inl, inr, ℕ, zero, suc, ◌+◌, ◌*◌, ◌≤◌, ◌<◌, Bool, true, false, List, [], ◌∷◌, ◌++◌, length, map, set, reverse, Some, slice_get, refl, sym, ap, subst, ◌∙◌, arith}
 use Rattle.std.specs.Prelude.{if◌then◌else◌, ◌==◌, nat_le}
 use Rattle.std.proofs.lemmas.Bool.{eq-eqb, eqb-true}
@@ -73,7 +73,7 @@ blanks_typed : (g : Typing) (n : ℕ) (kind : Kind) (t : RunTy) → kind ≡ kin
 blanks_typed g zero kind t same = tt
 blanks_typed g (suc n) kind t same = ((same, refl), blanks_typed g n kind t same)
 
--- inside an element, where the counter has a value
+-- the context inside an element, where the counter has a value
 context_counted : (p : Program) (x : Exits) (bs : List InScope) (c : Context) → IsContext p x bs c → IsContext p x (Level c.counters ∷ bs) (counting.with_counter c)
 context_counted p x bs c stands = record {
   globals = stands.globals;
@@ -112,7 +112,7 @@ counter_more e level index [] are = tt
 counter_more e level index (b ∷ bs) (is, are) = (counter_still e level index b is, counter_more e level index bs are)
 
 module _ (p : Program) (g : Typing) (x : Exits) (bs : List InScope) (e : Environment) (w : World) (typed : IsTyped g w.regions w.objects) (globals : KnowsProgram g p) (bound : IsBound e.locals e.counters bs) (variables : AreVariables g bs) where
-  -- what a live region stands for is open
+  -- a live region denotes an open lifetime
   pub open_life : (r : Region') (k : List Entry) → AreOpen w.regions (ends_of k) → LiveIn k bs → IsThere bs r → IsOpenLife w.regions (lives_in bs r)
   open_life regions.Heap k opens live alive = typed.heap
   open_life regions.Unique k opens live alive = tt
@@ -120,9 +120,9 @@ module _ (p : Program) (g : Typing) (x : Exits) (bs : List InScope) (e : Environ
       (kept_open g w.regions w.objects (life_named bs n) typed (region_owner g bs (regions.Variable n) variables) (there_open g bs (regions.Variable n) variables alive))
       (there_lasting (ends_of k) bs (regions.Variable n) live.0 (λ e. let z : regions.Variable n ≡ regions.Unique = e in absurd (cc)) alive)
 
-  -- ---- an object is made
+  -- ---- creating an object
 
-  -- a region that an object was made in is still open, and so are all others
+  -- a region stays open when an object is allocated in it, and so do all others
   still_open : (regions : List Region) (n m : ℕ) (r s : Region) → slice_get regions n ≡ Some r → s.is_open ≡ r.is_open → is_open (slice_get regions m) ≡ true → is_open (slice_get (set regions n s) m) ≡ true
   still_open regions n m r s at same opens = elim (same_or_other m n) [
     | inl one ↦ (let there : slice_get (set regions n s) m ≡ Some s = subst (λ i. slice_get (set regions n s) i ≡ Some s) (sym one) (slice_get-set_same regions n r s at) in
@@ -139,7 +139,7 @@ module _ (p : Program) (g : Typing) (x : Exits) (bs : List InScope) (e : Environ
     | inr apart ↦ subst (λ z. IsDynamic z) (sym (slice_get-set_other regions n m s apart)) is
   ]
 
-  -- the heap and dynamic regions are open there
+  -- the heap and the dynamic regions are open
   abbrev AreStill : List Region → Type 0
   AreStill regions = (is_open (slice_get regions heap_number) ≡ true) × ((number : ℕ) → IsAmong number g.kept → IsHeld (g.own (KeyOf number)) → IsDynamic (slice_get regions number)) × (length w.regions ≤ length regions)
 
@@ -152,7 +152,7 @@ module _ (p : Program) (g : Typing) (x : Exits) (bs : List InScope) (e : Environ
       let still : AreStill new.regions = (still_open w.regions n heap_number r _ at refl typed.heap, λ m among held. still_dynamic w.regions n m r _ at refl refl ((typed.kept m among).1 held), (let same : length new.regions ≡ length w.regions = length-set w.regions n _ in let few : length w.regions ≤ length new.regions = omega (arith, same) in few)) in
       (new, ap (λ a. created_in w n a cells) found, refl, still)
 
-  -- the world with an object more, whose cells hold nothing yet
+  -- the world with one more object, whose cells are empty
   created_there : (owner : Owner) (cells : List Cell) (l : Life) → IsNewOwner l owner → IsOpenLife w.regions l
       → (new : World) × (created w owner cells ≡ Found new) × (new.objects ≡ w.objects ++ record { owner = owner; cells = cells } ∷ []) × AreStill new.regions
   created_there (InRegion n) cells (OfRegion region ns us) owned opens' = made_there n cells (subst (λ i. is_open (slice_get w.regions i) ≡ true) owned opens')
@@ -162,7 +162,7 @@ module _ (p : Program) (g : Typing) (x : Exits) (bs : List InScope) (e : Environ
   created_there (Unique false) cells l owned opens = absurd owned
   created_there (InRegion n) cells Owned owned opens = absurd owned
 
-  -- the typing of the world with one more, to which the pointer is in hand
+  -- the typing of the world with one more object, whose pointer is held by an operand
   abbrev new_world : List RunTy → Life → (hand : ℕ) → Typing
   new_world ts l i = giving (with_object g (new_type ts l) 0) (pointer_at l (length w.objects)) (Hand i)
 
@@ -194,7 +194,7 @@ module _ (p : Program) (g : Typing) (x : Exits) (bs : List InScope) (e : Environ
       kept_before (Kept region) n new m held = held
       kept_before Owned n new m held = held
 
-  -- what is known of a world with an object more
+  -- facts about locals in a world with one more object
   holds_made : (h : Typing) (f : flow.State) → Changed Nobody g h → Holds g f bs → Holds h f bs
   holds_made h f changed holds = holds_kept Nobody g h changed f bs (λ n object full here. at_some object 0) holds
 
@@ -236,7 +236,7 @@ module _ (p : Program) (g : Typing) (x : Exits) (bs : List InScope) (e : Environ
         stack_changed p Nobody g h x bs (Val (Value (Pointer marks.NonNull t l)) f) k changed tt stack,
       )))
 
-  -- ---- an array is made, and its elements are evaluated one by one
+  -- ---- creating an array and evaluating its elements
 
   pub begin_array : (owner : Owner) (count level : ℕ) (kind : Kind) (element : Expression) (k : List Entry) (c : Context) (t : Ty) (r : Region') (f : flow.State) → AreOpen w.regions (ends_of k) → LiveIn k bs
       → IsContext p x bs c → Holds g f bs → IsThere bs r → IsNewOwner (lives_in bs r) owner
@@ -266,7 +266,7 @@ module _ (p : Program) (g : Typing) (x : Exits) (bs : List InScope) (e : Environ
   last : (t : RunTy) (l : Life) (object count index : ℕ) → IsArray g t l object count index → index ≤ count
   last t l object count index (y, there, shown, life, cells, some, few) = few
 
-  -- an array whose elements all hold something
+  -- an array whose elements are all filled
   array_whole : (t : RunTy) (l : Life) (object count : ℕ) → IsArray g t l object count count → HasType g (Pointer marks.Fat t l) (values.Fat object 0 count 0)
   array_whole t l object count (y, there, shown, life, cells, all, few) i less =
       let same : i ≡ 0 + i = omega arith in
@@ -320,7 +320,7 @@ module _ (p : Program) (g : Typing) (x : Exits) (bs : List InScope) (e : Environ
       go false = running p g x bs e w typed globals bound variables (Throwing array_size 0) k live (Val (Value (Pointer marks.Fat (read bs t) (lives_in bs r))) f, stack)
   array_on owner level kind element v k c t r f live stands holds alive owned repeats is stack = absurd is
 
-  -- the next element gets its value, and the counter is out of scope
+  -- the next element is written, and the counter leaves the scope
   pub fill_on : (object count index level : ℕ) (kind : Kind) (element : Expression) (v : Operand) (k : List Entry) (c : Context) (t : Ty) (r : Region') (f h : flow.State) → AreOpen w.regions (ends_of k) → LiveIn k bs → IsThere bs r
       → IsContext p x bs c → Holds g h bs → Repeats (relied_at x.relied k) c level kind element t f → Implies h f → index < count → IsArray g (read bs t) (lives_in bs r) object count index → Owns g.own (Hand (operands_in k)) (pointer_at (lives_in bs r) object) → IsResult g (Value (read bs t)) v
       → Claims g.own (Hand (1 + operands_in k)) (read bs t) v.value → IsStack p g x bs (Val (Value (Pointer marks.Fat (read bs t) (lives_in bs r))) f) k
@@ -348,7 +348,7 @@ module _ (p : Program) (g : Typing) (x : Exits) (bs : List InScope) (e : Environ
         stack_changed p (Hand i) g u x bs (Val (Value (Pointer marks.Fat (read bs t) (lives_in bs r))) f) k changed (let le : operands_in k ≤ i = omega arith in le) stack,
       )))
 
-  -- ---- its cells are written
+  -- ---- writing the cells of an object
 
   write_from : (object offset place : ℕ) (vs : List Operand) (y : ObjectType) (t : RunTy) (r : Region') (k : List Entry) (f : flow.State) → AreOpen w.regions (ends_of k) → LiveIn k bs → Holds g f bs → IsThere bs r
       → slice_get g.objects object ≡ Some y → y.is_hidden ≡ false → y.life ≡ lives_in bs r → IsFilled g object offset → AreNext g offset y.cells vs → IsWhole g y t → operands_in k ≤ place → AreNextGiven g.own place offset y.cells vs
@@ -372,7 +372,7 @@ module _ (p : Program) (g : Typing) (x : Exits) (bs : List InScope) (e : Environ
         stack_changed p top g h x bs (Val (Value (Pointer marks.NonNull t l)) f) k changed (let le : operands_in k ≤ place + 0 = omega (arith, least) in le) stack,
       )
   write_from object offset place (v ∷ vs) y t r k f all_open live holds alive there shown life (m, flag, enough) rest whole least given' has stack =
-      let (u, at, is, behind) = next_one g offset y.cells v vs rest in
+      let (u, at, is, following) = next_one g offset y.cells v vs rest in
       let (claims, later') = next_claims g.own g place offset y.cells v vs u at given' in
       let handed : Operand = record { kind = kinds.NonNull; value = values.Thin object 0 } in
       let focus = Writing (writes_from object (suc offset) vs) (Some handed) in
@@ -399,7 +399,7 @@ module _ (p : Program) (g : Typing) (x : Exits) (bs : List InScope) (e : Environ
           shown = shown;
           life = life;
           filled = now;
-          rest = next_grown g h changed.grows (suc offset) y.cells vs behind;
+          rest = next_grown g h changed.grows (suc offset) y.cells vs following;
           whole = whole_grown g h changed.grows y t whole;
           place = suc place;
           least = (let le : operands_in k ≤ suc place = omega (arith, least) in le);

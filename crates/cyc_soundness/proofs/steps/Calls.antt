@@ -1,4 +1,4 @@
--- CALLS: arguments become parameters, and the body of a function begins; the clauses of a `try` begin.
+-- CALLS: arguments become parameters and the body of the function begins; and the clauses of a `try` begin.
 use Rattle.std.proofs.Common.{◌≡◌, ℕ, suc, ◌+◌, ◌<◌, ◌≤◌, ◌%◌, Bool, true, false, List, [], ◌∷◌, ◌++◌, length, map, reverse, Option, Some, None, refl, sym, ap, subst, ◌∙◌, arith}
 use Rattle.std.specs.Prelude.{if◌then◌else◌, ◌==◌}
 use Rattle.std.proofs.lemmas.Bool.{eq-eqb}
@@ -13,7 +13,7 @@ use Rattle.cyc_types.specs.Outlives.{live_regions}
 use Rattle.cyc_types.specs.declared.region.Region.TheVariants as regions
 use Rattle.cyc_types.specs.declared.scope.Kind.TheVariants as scopes
 use Rattle.cyc_types.specs.Rules.{Derives}
-use Rattle.cyc_types.specs.typing.WellTyped.{LocalInScope, Context, IsLive, IsCaught, in_block, with_local, with_caught, behind_clause, WellTypedItems, WellTypedClauses, body_context, parameters_in_scope}
+use Rattle.cyc_types.specs.typing.WellTyped.{LocalInScope, Context, IsLive, IsCaught, in_block, with_local, with_caught, after_clause, WellTypedItems, WellTypedClauses, body_context, parameters_in_scope}
 use Rattle.cyc_types.specs.flow.States as flow
 use Rattle.cyc_types.specs.flow.States.{Unreached, Full, meet, with_fullness, with_each, is_reached}
 use Rattle.cyc_types.specs.flow.Statements.{Known, locks_of, or_clause, rule_items, rule_clauses}
@@ -49,7 +49,7 @@ use Rattle.cyc_soundness.proofs.types.CallRegions.{named_function, known_body}
 use Rattle.cyc_soundness.proofs.states.Cells.{running}
 use Rattle.cyc_soundness.proofs.steps.Objects.{operands_reversed, given_turned}
 use Rattle.cyc_soundness.proofs.steps.Supply.{new_life, made_typing, declares}
-use Rattle.cyc_soundness.proofs.steps.Execution.{block_scope, block_live, block_stack, context_behind, breaks_before}
+use Rattle.cyc_soundness.proofs.steps.Execution.{block_scope, block_live, block_stack, context_following, breaks_before}
 
 -- ---- lists of operands
 
@@ -60,7 +60,7 @@ turned_length (a ∷ as') bs =
     let r : length (turned as' (a ∷ bs)) ≡ suc (length as') + length bs = omega (arith, e) in
     r
 
--- the arguments behind one that becomes a parameter
+-- the arguments after one that becomes a parameter keep their claims
 given_later : (g h : Typing) (i j : ℕ) (ts : List RunTy) (vs : List Operand) → Changed (Hand i) g h → i < j → AreGiven g.own j ts vs → AreGiven h.own j ts vs
 given_later g h i j [] vs changed less are = tt
 given_later g h i j (t ∷ ts) [] changed less are = tt
@@ -69,13 +69,13 @@ given_later g h i j (t ∷ ts) (v ∷ vs) changed less (is, are) = (
   given_later g h i (suc j) ts vs changed (let more : i < suc j = omega (arith, less) in more) are,
 )
 
--- and the parameters before it
+-- earlier parameters keep their contents
 own_kept : (g h : Typing) (i : ℕ) (bs : List InScope) → Changed (Hand i) g h → AreOwn g bs → AreOwn h bs
 own_kept g h i [] changed are = tt
 own_kept g h i (Variable b ∷ bs) changed (is, are) = (subst (λ d. IsHere h d b.number b.object) (sym changed.depth) (here_kept (Hand i) g h changed g.depth b.number b.object (at_no_hand b.object 0 i) is), own_kept g h i bs changed are)
 own_kept g h i (b ∷ bs) changed (is, are) = (tt, own_kept g h i bs changed are)
 
--- what is open is so in a call, too
+-- open lifetimes stay open inside a call
 open_inside : (g : Typing) (d : ℕ) (l : Life) → IsOpenIn g l → IsOpenIn (record g { depth = d }) l
 open_inside g d (OfRegion number ns us) opens = opens
 open_inside g d (Kept region) opens = opens
@@ -87,7 +87,7 @@ known_inside g d (Kept (KeyOf region)) known = known
 known_inside g d (Kept (PointerTo object)) known = known
 known_inside g d lives.Owned known = known
 
--- and around it all is as it was
+-- the caller's typing is unchanged
 same_around : (g : Typing) → Stays g (record g { depth = g.depth })
 same_around g = record {
   grows = record { objects = λ n u is. is; filled = λ n count is. is; fields = λ n ls ts is. is; kept = λ n is. is };
@@ -118,12 +118,12 @@ full_grown g h grows [] are = tt
 full_grown g h grows (Variable b ∷ bs) (is, are) = (grows.filled b.object 1 is, full_grown g h grows bs are)
 full_grown g h grows (b ∷ bs) (is, are) = (tt, full_grown g h grows bs are)
 
--- a function without a result gives nothing
+-- a function without a result returns no value
 result_given : (o : Option Ty) (n : Lives) → HasResult o (value_at n (result_type o))
 result_given None n = refl
 result_given (Some t) n = tt
 
--- the region of a block is live in it
+-- the region of a block is live in the block
 block_region : (c : Context) → IsLive (in_block c) (regions.Variable c.next_region)
 block_region c = (0, (let e : 0 < suc (length (live_regions c.regions.live c.regions.opened)) = omega arith in e), refl)
 
@@ -155,7 +155,7 @@ module _ (p : Program) (accepted : AreAccepted p) where
     read_on (t ∷ ts) vs k f live holds same are stack =
         let e1 : length (turned ts (t ∷ [])) ≡ length ts + 1 = turned_length ts (t ∷ []) in let e2 : length (turned ts (t ∷ [])) ≡ 0 = ap length same in absurd (omega (arith, e1, e2))
 
-    -- what is live in a callee has not ended
+    -- the lifetimes that are live in a callee have not ended
     instance_lasting : (k : List Entry) (h : Function) (these : ℕ → Life) (alive : ℕ → Bool) → LiveIn k bs → IsInstance bs h these alive → (n : ℕ) → alive n ≡ true → IsLasting (ends_of k) (these n)
     instance_lasting k h these alive live instance n is =
         let (r, plain, there, same) = instance.lasting n is in
@@ -258,7 +258,7 @@ module _ (p : Program) (accepted : AreAccepted p) where
         (subst (λ ns. Derives (rule_items (record { loop = None; locks = ns }) h.body (record { now = start_of h; breaks = Unreached })) (record { now = end; breaks = ok.breaks })) (sym locks) ok.flows) in
         let rest : Continues x (body_context p h) h.body (start_of h) end = record {
           before = Unreached;
-          behind = ok.breaks;
+          following = ok.breaks;
           ending = end;
           typed = ok.typed.body;
           flows = flows;
@@ -336,7 +336,7 @@ module _ (p : Program) (accepted : AreAccepted p) where
     begin_clause js k c start h before l live stands holds well flows are kept implies stack =
         let rest : Continues x (in_block c) js start h = record {
           before = before;
-          behind = l.breaks;
+          following = l.breaks;
           ending = l.now;
           typed = well;
           flows = flows;
@@ -367,7 +367,7 @@ module _ (p : Program) (accepted : AreAccepted p) where
     caught value (Some n) js k c start h before true l live stands holds (number, there) well flows are kept implies stack =
         let rest : Continues x (with_local true types.Int (in_block c)) js (with_fullness Full start n) h = record {
           before = before;
-          behind = l.breaks;
+          following = l.breaks;
           ending = l.now;
           typed = well;
           flows = flows;
@@ -394,18 +394,18 @@ module _ (p : Program) (accepted : AreAccepted p) where
           block_stack p g x bs e w typed globals bound variables c k h h live (implies_self h) stack,
         )
 
-    pub catch : (tag value : ℕ) (ds : Clauses) (k : List Entry) (c : Context) (start f h before behind : flow.State) → LiveIn k bs → IsContext p x bs c → Holds g start bs → WellTypedClauses c ds
-        → Derives (rule_clauses (around x) start ds (record { now = f; breaks = before })) (record { now = h; breaks = behind }) → AreBreaks x.loop behind → InClauses x.relied c.next_region ds → IsStack p g x bs (Go h) k
+    pub catch : (tag value : ℕ) (ds : Clauses) (k : List Entry) (c : Context) (start f h before following : flow.State) → LiveIn k bs → IsContext p x bs c → Holds g start bs → WellTypedClauses c ds
+        → Derives (rule_clauses (around x) start ds (record { now = f; breaks = before })) (record { now = h; breaks = following }) → AreBreaks x.loop following → InClauses x.relied c.next_region ds → IsStack p g x bs (Go h) k
         → IsWell p (step_catching tag value ds k e w)
-    catch tag value NoClauses k c start f h before behind live stands holds well flows are kept stack = running p g x bs e w typed globals bound variables (Throwing tag value) k live (Go h, stack)
-    catch tag value (Default r js) k c start f h before behind live stands holds (number, well) (l, d, (u, known)) are kept stack =
+    catch tag value NoClauses k c start f h before following live stands holds well flows are kept stack = running p g x bs e w typed globals bound variables (Throwing tag value) k live (Go h, stack)
+    catch tag value (Default r js) k c start f h before following live stands holds (number, well) (l, d, (u, known)) are kept stack =
         let now : h ≡ meet f (with_each Full (locks_of js) l.now) = ap (λ (z : Known). z.now) known in
         let full = with_each Full (locks_of js) l.now in
         begin_clause js k c start h before l live stands holds well d (subst (λ z. AreBreaks x.loop z) (ap (λ (z : Known). z.breaks) known) are) kept (subst (λ z. Implies full z) (sym now) (meet_second f full)) stack
-    catch tag value (Case n v r js ds) k c start f h before behind live stands holds (has, is, bind', number, well, later) (l, d, dlater) are (kjs, kds) stack = go (n == tag)
+    catch tag value (Case n v r js ds) k c start f h before following live stands holds (has, is, bind', number, well, later) (l, d, dlater) are (kjs, kds) stack = go (n == tag)
       where
         sooner : AreBreaks x.loop l.breaks
-        sooner = breaks_before x.loop l.breaks behind (breaks_clauses (around x) start ds (or_clause f js l) (record { now = h; breaks = behind }) dlater) are
+        sooner = breaks_before x.loop l.breaks following (breaks_clauses (around x) start ds (or_clause f js l) (record { now = h; breaks = following }) dlater) are
 
         full : flow.State
         full = with_each Full (locks_of js) l.now
@@ -413,15 +413,15 @@ module _ (p : Program) (accepted : AreAccepted p) where
         implies : Implies full h
         implies = implies_after full (or_clause f js l).now h
             (meet_second f full)
-            (clauses_implied (around x) start ds (or_clause f js l) (record { now = h; breaks = behind }) dlater)
+            (clauses_implied (around x) start ds (or_clause f js l) (record { now = h; breaks = following }) dlater)
 
-        behind_stands : IsContext p x bs (behind_clause c v js)
-        behind_stands = context_behind p x bs c (length (caught_types v) + length (item_types js)) (suc (item_regions js)) stands
+        following_stands : IsContext p x bs (after_clause c v js)
+        following_stands = context_following p x bs c (length (caught_types v) + length (item_types js)) (suc (item_regions js)) stands
 
-        next : Catches x (behind_clause c v js) start ds (or_clause f js l).now h
-        next = record { before = l.breaks; behind = behind; typed = later; flows = dlater; breaks = are; kept = kds }
+        next : Catches x (after_clause c v js) start ds (or_clause f js l).now h
+        next = record { before = l.breaks; following = following; typed = later; flows = dlater; breaks = are; kept = kds }
 
         go : (b : Bool) → IsWell p (if b then catches value v js k e w else Running (Catching tag value ds) k e w)
         go true = caught value v js k c start h before has l live stands holds bind' well d sooner kjs implies stack
         go false = running p g x bs e w typed globals bound variables (Catching tag value ds) k live
-            (behind_clause c v js, start, (or_clause f js l).now, h, behind_stands, holds, next, stack)
+            (after_clause c v js, start, (or_clause f js l).now, h, following_stands, holds, next, stack)

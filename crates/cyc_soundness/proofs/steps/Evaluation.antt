@@ -22,7 +22,7 @@ use Rattle.cyc_types.specs.typing.Expressions.{assigned_type, instantiated}
 use Rattle.cyc_types.specs.typing.WellTyped.{Context, AreLive, AreOutliving, IsCallee, WellTyped, IsPeek, IsPeekOf, IsLeft, ArePassed, signature_of, AreNotUnique, AreConstraints}
 use Rattle.cyc_types.specs.flow.States as flow
 use Rattle.cyc_types.specs.flow.States.{Vacant, Full, fullness, with_fullness, is_vacant}
-use Rattle.cyc_types.specs.flow.Expressions.{and_peeked, peek_of, peek_behind, rule, rule_arguments}
+use Rattle.cyc_types.specs.flow.Expressions.{and_peeked, peek_of, peek_after, rule, rule_arguments}
 use Rattle.cyc_meaning.specs.Values.{Operand}
 use Rattle.cyc_meaning.specs.Values as values
 use Rattle.cyc_meaning.specs.State.{InRegion, Unique, World, heap_number, Environment, ConvertTo, Operate, Chain, Store, FreeObject, CloseByKey, Pass, CountElements, PlaceBy, LoadFrom, TakeAddress, StoreTo, Entry, Needs, NeedsPlace, Focus, Evaluating, Locating, Given, Calling, Running}
@@ -60,7 +60,7 @@ left_typed q well c a v (ThenTest o b os) kept is = is
 left_typed q well c a v (ThenPointer o b os) kept is = inl is
 left_typed q well c a v (ThenPointerPeek n o b os) kept is = inr is.0
 
--- and is looked at where the machine says so
+-- the semantics agrees that the expression is a peek of this local
 peek_is : (n : ℕ) (a : Expression) → IsPeekOf n a → peek_of a ≡ Some n
 peek_is n (Peek p m u) is = ap (λ i. Some i) (sym is)
 peek_is n a is = absurd is
@@ -72,12 +72,12 @@ left_chained q well c a v (ThenTest o b os) kept is r = tt
 left_chained q well c a v (ThenPointer o b os) kept is r = refl
 left_chained q well c a v (ThenPointerPeek n o b os) kept is r = inl (peek_is n a is.1)
 
--- what is assigned what is moved is spared
+-- no state relies on a local to which a unique pointer or a key is assigned
 moved_spared : (q : Relied) (place : Place) (n : ℕ) (v : Ty) (u : ValueType) → u ≡ assigned_type v → is_moved v ≡ true → SparesAssigned q (Local place n) u → IsSpared q n
 moved_spared q place n v u gives moved spared = subst (λ z. SparesAssigned q (Local place n) z) (gives ∙ ap (λ (b : Bool). if b then types.Void else types.Value v) moved) spared
 
 module _ (p : Program) where
-  -- what is called takes and gives this, where its region variables stand for what is put in their place
+  -- a callee takes and returns these types, if its region variables are instantiated with these lifetimes
   called_is : (x : Exits) (bs : List InScope) (c : Context) (callee : Callee) (s : Signature) (m : List Region) → IsContext p x bs c → IsCallee c callee s → AreNotUnique m → ((number : ℕ) (h : Function) → slice_get p.functions number ≡ Some h → AreConstraints h.variables h.constraints) → AreLive c (instantiated m s).effect
       → AreOutliving c (instantiated m s).constraints
       → IsCalled p bs callee (map (read bs) (map (substituted_ty m) s.parameters)) (read_value bs (result_type (option_map (substituted_ty m) s.result)))
@@ -96,7 +96,7 @@ module _ (p : Program) where
     on : (focus : Focus) (k : List Entry) → LiveIn k bs → IsFocus p g x bs focus k → IsWell p (Running focus k e w)
     on focus k live stands = running p g x bs e w typed globals bound variables focus k live stands
 
-    -- a value is handed on
+    -- passing on a value leads to a typed state
     pub hands : (k : List Entry) (r s : RunValue) (v : Operand) (f h : flow.State) → LiveIn k bs → Holds g f bs → h ≡ f → r ≡ s → IsResult g s v → awaited.Comes g s v k → IsStack p g x bs (Val r h) k
         → IsWell p (Running (Given v) k e w)
     hands k r s v f h live holds same_flow same_type is comes stack =
@@ -301,7 +301,7 @@ module _ (p : Program) where
           record { waiting = q; typed = cell; flows = flows; kept = kept },
           (
             Val (Value (read bs u)) h,
-            awaited.loads_from (peek_behind d) u r h (there_of p x bs c stands r (cell_live c d u r cell)) (unique_by_type g bs variables u unique) plain (ap values.kind_of (sym (place_type c d u r cell))),
+            awaited.loads_from (peek_after d) u r h (there_of p x bs c stands r (cell_live c d u r cell)) (unique_by_type g bs variables u unique) plain (ap values.kind_of (sym (place_type c d u r cell))),
             tt,
             subst (λ z. IsStack p g x bs (Val (read_value bs z) h) k) same stack,
           ),
@@ -342,7 +342,7 @@ module _ (p : Program) where
           record { waiting = q; typed = cell; flows = flows; kept = kept },
           (
             Val (Value (lives.Pointer marks.NonNull (read bs v) (lives_in bs r))) h,
-            awaited.takes_address (peek_behind d) (read bs v) (lives_in bs r) h (region_common g bs variables r other),
+            awaited.takes_address (peek_after d) (read bs v) (lives_in bs r) h (region_common g bs variables r other),
             tt,
             subst (λ z. IsStack p g x bs (Val (read_value bs z) h) k) (same ∙ ap types.Value u_is) stack,
           ),
@@ -373,10 +373,10 @@ module _ (p : Program) where
             subst (λ o. awaited.WaitsPlace p x (relied_at x.relied k) bs (StoreTo (peeked d) (Convert from to a)) o (read bs v) (lives_in bs r) f1 (Val (read_value bs (assigned_type v)) h)) (peeked_so d)
                 (awaited.stores_to c s v r f1 h (there_of p x bs c stands r (cell_live c d v r cell)) stands (λ reached. (
                   record {
-                    waiting = and_peeked (peek_behind d) q;
+                    waiting = and_peeked (peek_after d) q;
                     typed = inl well;
                     flows = dc;
-                    kept = subst (λ o. InExpression (and_looked o (relied_at x.relied k)) a) (sym (peeked_so d)) (looked_converted (relied_at x.relied k) (peek_behind d) (Convert from to a) q f1 h reached dc kc);
+                    kept = subst (λ o. InExpression (and_looked o (relied_at x.relied k)) a) (sym (peeked_so d)) (looked_converted (relied_at x.relied k) (peek_after d) (Convert from to a) q f1 h reached dc kc);
                   },
                   refl,
                 )) conv from_is to_is),

@@ -14,7 +14,7 @@ use Rattle.cyc_types.specs.declared.region.Region.{Region}
 use Rattle.cyc_types.specs.declared.region.Region.TheVariants as regions
 use Rattle.cyc_types.specs.declared.scope.Kind.TheVariants as scopes
 use Rattle.cyc_types.specs.declared.typed.Kind.TheVariants as kinds
-use Rattle.cyc_types.specs.typing.WellTyped.{Context, IsReturned, IsThrown, in_block, behind, IsLive, with_local, with_opened, with_key_opened, WellTypedStatement, WellTypedItems}
+use Rattle.cyc_types.specs.typing.WellTyped.{Context, IsReturned, IsThrown, in_block, following, IsLive, with_local, with_opened, with_key_opened, WellTypedStatement, WellTypedItems}
 use Rattle.cyc_types.specs.typing.Statements.{with_region_of}
 use Rattle.cyc_types.specs.flow.States as flow
 use Rattle.cyc_types.specs.flow.States.{Unreached, Vacant, Locked, Full, is_vacant, meet, with_fullness, with_each}
@@ -43,15 +43,15 @@ use Rattle.cyc_soundness.proofs.types.TypeLemmas.{target_typed, kind_read, kind_
 use Rattle.cyc_soundness.proofs.flow.FlowLemmas.{used_full, implies_self, implies_after, meet_first, meet_second, at_least_implies, emptied_implied, holds_implied, full_last}
 use Rattle.cyc_soundness.proofs.flow.RuleLemmas.{breaks_statement, breaks_items, breaks_clauses, clauses_implied, nothing_locked}
 use Rattle.cyc_soundness.proofs.states.StackLocals.{within_bound, within_variables, within_live, within_holds, scopes_below_more, bound_to}
-use Rattle.cyc_soundness.proofs.types.RegionLemmas.{opened_known, live_more, same_name, known_behind, opened_lasting, agrees_of, context_inside, context_lexical}
+use Rattle.cyc_soundness.proofs.types.RegionLemmas.{opened_known, live_more, same_name, known_after, opened_lasting, agrees_of, context_inside, context_lexical}
 use Rattle.cyc_soundness.proofs.states.WorldLemmas.{opened_typed}
 use Rattle.cyc_soundness.proofs.types.Sharing.{keeps_by}
 use Rattle.cyc_soundness.proofs.states.Cells.{running}
 use Rattle.cyc_soundness.proofs.steps.Variables.{looks_bound, unique_moved}
 use Rattle.cyc_soundness.proofs.steps.Loans.{local_type_known, keys_on}
-use Rattle.cyc_guard.specs.inside.Held.{nowhere, updated}
-use Rattle.cyc_guard.proofs.Bools.{updated_same}
-use Rattle.cyc_guard.proofs.WellNumbered.{InScope as AreScoped, found_below, lent_below, next_in_scope, statement_fresh, items_fresh}
+use Rattle.cyc_soundness.specs.inside.guard.Held.{nowhere, updated}
+use Rattle.cyc_soundness.proofs.guard.Bools.{updated_same}
+use Rattle.cyc_soundness.proofs.guard.WellNumbered.{InScope as AreScoped, found_below, lent_below, next_in_scope, statement_fresh, items_fresh}
 use Rattle.cyc_soundness.proofs.flow.Locking.{IsLockedIn, ends_so, locked_items, now_locked, scope_below}
 use Rattle.cyc_soundness.proofs.flow.Touched.{relied_body, asked_of}
 use Rattle.cyc_soundness.proofs.steps.Supply.{declares_blank}
@@ -59,10 +59,10 @@ use Rattle.cyc_soundness.proofs.steps.Swapping.{swap_on}
 use Rattle.cyc_types.specs.flow.Touched.{touched_statement}
 use Rattle.cyc_types.proofs.typing.TestLemmas.{kept_append}
 
--- the same scope further on, where more numbers are given out
-pub context_behind : (p : Program) (x : Exits) (bs : List InScope) (c : Context) (locals regions : ℕ) → IsContext p x bs c
+-- a scope with higher next numbers follows the given one
+pub context_following : (p : Program) (x : Exits) (bs : List InScope) (c : Context) (locals regions : ℕ) → IsContext p x bs c
     → IsContext p x bs (record c { next_local = c.next_local + locals; next_region = c.next_region + regions })
-context_behind p x bs c locals regions stands = record {
+context_following p x bs c locals regions stands = record {
   globals = stands.globals;
   functions = stands.functions;
   structs = stands.structs;
@@ -72,12 +72,12 @@ context_behind p x bs c locals regions stands = record {
   scope = stands.scope;
   below = scopes_below_more c.next_local (c.next_local + locals) bs (let le : c.next_local ≤ c.next_local + locals = omega arith in le) stands.below;
   counters = stands.counters;
-  known = known_behind c.next_region (c.next_region + regions) c.regions c.locals c.result (let le : c.next_region ≤ c.next_region + regions = omega arith in le) stands.known;
+  known = known_after c.next_region (c.next_region + regions) c.regions c.locals c.result (let le : c.next_region ≤ c.next_region + regions = omega arith in le) stands.known;
   regions = stands.regions;
   home = stands.home;
 }
 
--- in the body of a `try`
+-- the context inside the body of a `try`
 context_relying : (p : Program) (x : Exits) (bs : List InScope) (c : Context) (f : flow.State) → IsContext p x bs c → IsContext p (relying x f) bs c
 context_relying p x bs c f stands = record {
   globals = stands.globals;
@@ -94,10 +94,10 @@ context_relying p x bs c f stands = record {
   home = stands.home;
 }
 
-pub context_after : (p : Program) (x : Exits) (bs : List InScope) (c : Context) (s : Statement) → IsContext p x bs c → IsContext p x bs (behind c s)
-context_after p x bs c s stands = context_behind p x bs c (length (declared_types s)) (declared_regions s) stands
+pub context_after : (p : Program) (x : Exits) (bs : List InScope) (c : Context) (s : Statement) → IsContext p x bs c → IsContext p x bs (following c s)
+context_after p x bs c s stands = context_following p x bs c (length (declared_types s)) (declared_regions s) stands
 
--- the handle of a region that was opened
+-- the type of a handle of an opened region is declarable
 new_handle : (n r : ℕ) → r ≡ n → IsDeclarable (suc n) (types.Handle (regions.Variable r))
 new_handle n r same = let e : r < suc n = omega (arith, same) in e
 
@@ -109,7 +109,7 @@ alias_kind r (types.Handle s) = refl
 alias_kind r (types.Key s) = refl
 alias_kind r (types.Struct n rs) = refl
 
--- fewer breaks are known before
+-- weaker facts at earlier breaks
 pub breaks_before : (l : Option LoopExit) (a b : flow.State) → Implies a b → AreBreaks l b → AreBreaks l a
 breaks_before None a b i are = tt
 breaks_before (Some l) a b i are = implies_after a b l.breaks i are
@@ -138,12 +138,12 @@ module _ (p : Program) (g : Typing) (x : Exits) (bs : List InScope) (e : Environ
         ([], bs, Val (Value (read bs t)) h, awaited.converts c s t h (agrees_of p x bs c stands) (keeps_by g bs variables c.regions stands.regions) conv from_is to_is (target_typed c a s (inl well)), tt, ([], bs, Go Unreached, awaited.returns t (read bs t) h Unreached (sym result) (ap (λ o. read_value bs (result_type o)) same ∙ stands.gives), tt, stack)),
       )
 
-  break_on : (k : List Entry) (c : Context) (f h before behind' : flow.State) (o : Option LoopExit) → x.loop ≡ o → is_loop o ≡ true → LiveIn k bs → Holds g f bs → behind' ≡ meet before (with_each Full x.locks f)
-      → AreBreaks o behind' → IsStack p g x bs (Go h) k → IsWell p (Running Breaking k e w)
-  break_on k c f h before behind' None same is live holds known are stack = absurd (let z : false ≡ true = is in cc)
-  break_on k c f h before behind' (Some l) same is live holds known are stack =
+  break_on : (k : List Entry) (c : Context) (f h before following' : flow.State) (o : Option LoopExit) → x.loop ≡ o → is_loop o ≡ true → LiveIn k bs → Holds g f bs → following' ≡ meet before (with_each Full x.locks f)
+      → AreBreaks o following' → IsStack p g x bs (Go h) k → IsWell p (Running Breaking k e w)
+  break_on k c f h before following' None same is live holds known are stack = absurd (let z : false ≡ true = is in cc)
+  break_on k c f h before following' (Some l) same is live holds known are stack =
       let left = with_each Full x.locks f in
-      on Breaking k live (l, f, h, same, holds, implies_after left behind' l.breaks (subst (λ z. Implies left z) (sym known) (meet_second before left)) are, stack)
+      on Breaking k live (l, f, h, same, holds, implies_after left following' l.breaks (subst (λ z. Implies left z) (sym known) (meet_second before left)) are, stack)
 
   continue_on : (k : List Entry) (f h : flow.State) (o : Option LoopExit) → x.loop ≡ o → is_loop o ≡ true → LiveIn k bs → Holds g f bs
       → AllKept (statements.continue_demanded (loop_of o) (with_each Full x.locks f)) → IsStack p g x bs (Go h) k → IsWell p (Running Continuing k e w)
@@ -167,28 +167,28 @@ module _ (p : Program) (g : Typing) (x : Exits) (bs : List InScope) (e : Environ
 
   -- ---- blocks
 
-  -- the scope of a block, whose region is open now
+  -- the scope of a block whose region is open
   abbrev pub block_scope : Context → List Entry → List InScope
   block_scope c k = Home (length w.regions) ∷ Names c.next_region (OfRegion (length w.regions) (ends_of k) (lent_now g)) true ∷ bs
 
   pub block_live : (c : Context) (k : List Entry) → LiveIn k bs → LiveIn (region_end e w ∷ k) (block_scope c k)
   block_live c k live = ((tt, ((λ is. opened_lasting (length w.regions) (ends_of k) (lent_now g)), live_more (length w.regions) (ends_of k) bs live.0)), refl)
 
-  -- where it ends
+  -- the end of a block
   pub block_stack : (c : Context) (k : List Entry) (f h : flow.State) → LiveIn k bs → Implies f h → IsStack p g x bs (Go h) k → IsStack p g x (block_scope c k) (Go f) (region_end e w ∷ k)
   block_stack c k f h live implies stack = (bs, c.next_region, OfRegion (length w.regions) (ends_of k) (lent_now g), true, h, refl, implies, live, stack)
 
   -- ---- statements
 
-  pub execute : (s : Statement) (k : List Entry) (c : Context) (f h before behind' : flow.State) → LiveIn k bs → IsContext p x bs c → Holds g f bs → WellTypedStatement c s
-      → Derives (rule_statement (around x) s (record { now = f; breaks = before })) (record { now = h; breaks = behind' }) → AreBreaks x.loop behind' → InStatement x.relied c.next_region s → IsStack p g x bs (Go h) k
+  pub execute : (s : Statement) (k : List Entry) (c : Context) (f h before following' : flow.State) → LiveIn k bs → IsContext p x bs c → Holds g f bs → WellTypedStatement c s
+      → Derives (rule_statement (around x) s (record { now = f; breaks = before })) (record { now = h; breaks = following' }) → AreBreaks x.loop following' → InStatement x.relied c.next_region s → IsStack p g x bs (Go h) k
       → IsWell p (step_executing s k e w)
-  execute (Block r js) k c f h before behind' live stands holds (number, well) (l, d, (u, known)) are kept stack =
+  execute (Block r js) k c f h before following' live stands holds (number, well) (l, d, (u, known)) are kept stack =
       let now : h ≡ with_each Full (locks_of js) l.now = ap (λ (z : Known). z.now) known in
-      let breaks : behind' ≡ l.breaks = ap (λ (z : Known). z.breaks) known in
+      let breaks : following' ≡ l.breaks = ap (λ (z : Known). z.breaks) known in
       let continues : Continues x (in_block c) js f h = record {
         before = before;
-        behind = l.breaks;
+        following = l.breaks;
         ending = l.now;
         typed = well;
         flows = d;
@@ -210,9 +210,9 @@ module _ (p : Program) (g : Typing) (x : Exits) (bs : List InScope) (e : Environ
           block_stack c k h h live (implies_self h) stack,
         ),
       )
-  execute Empty k c f h before behind' live stands holds well (u, known) are kept stack =
+  execute Empty k c f h before following' live stands holds well (u, known) are kept stack =
       on Proceeding k live (h, subst (λ z. Holds g z bs) (sym (ap (λ (z : Known). z.now) known)) holds, stack)
-  execute (Evaluate a) k c f h before behind' live stands holds (t, well) (f1, d, (u, known)) are kept stack =
+  execute (Evaluate a) k c f h before following' live stands holds (t, well) (f1, d, (u, known)) are kept stack =
       on (Evaluating a) (Discard ∷ k) live (
         c,
         t,
@@ -223,18 +223,18 @@ module _ (p : Program) (g : Typing) (x : Exits) (bs : List InScope) (e : Environ
         record { waiting = []; typed = inl well; flows = d; kept = kept },
         subst (λ z. IsStack p g x bs (Go z) k) (ap (λ (z : Known). z.now) known) stack,
       )
-  execute (Swap y z) k c f h before behind' live stands holds (t, ty, tz, plain) (f1, (f2, dy, (f3, dz, (demands, same))), (u, known)) are (ky, kz) stack =
+  execute (Swap y z) k c f h before following' live stands holds (t, ty, tz, plain) (f1, (f2, dy, (f3, dz, (demands, same))), (u, known)) are (ky, kz) stack =
       let now : h ≡ f3 = ap (λ (z : Known). z.now) known ∙ same in
       let (first, second) = kept_append (side_demanded [] y f3) (side_demanded (and_peeked (peeked_side y) []) z f3) demands in
       swap_on p g x bs e w typed' globals bound variables y z c t k f f2 f3 (and_peeked (peeked_side y) []) live stands holds plain ty dy first ky
       (λ reached. record { waiting = and_peeked (peeked_side y) []; typed = tz; flows = dz; used = second; kept = looked_side x.relied (peeked_side y) z [] f2 f3 reached dz kz }) (subst (λ i. IsStack p g x bs (Go i) k) now stack)
-  execute (If a s t) k c f h before behind' live stands holds ((v, well, tested), ws, wt) (f1, d, (l, ds, (m, dt, (u, known)))) are (ka, ks, kt) stack =
+  execute (If a s t) k c f h before following' live stands holds ((v, well, tested), ws, wt) (f1, d, (l, ds, (m, dt, (u, known)))) are (ka, ks, kt) stack =
       let now : h ≡ meet l.now m.now = ap (λ (z : Known). z.now) known in
-      let breaks : behind' ≡ m.breaks = ap (λ (z : Known). z.breaks) known in
+      let breaks : following' ≡ m.breaks = ap (λ (z : Known). z.breaks) known in
       let later : AreBreaks x.loop m.breaks = subst (λ z. AreBreaks x.loop z) breaks are in
       let sooner : AreBreaks x.loop l.breaks = breaks_before x.loop l.breaks m.breaks (breaks_statement (around x) t (record { now = f1; breaks = l.breaks }) m dt) later in
-      let one : Executes x c s f1 l.now = record { before = before; behind = l.breaks; typed = ws; flows = ds; breaks = sooner; kept = ks } in
-      let two : Executes x (behind c s) t f1 m.now = record { before = l.breaks; behind = m.breaks; typed = wt; flows = dt; breaks = later; kept = kt } in
+      let one : Executes x c s f1 l.now = record { before = before; following = l.breaks; typed = ws; flows = ds; breaks = sooner; kept = ks } in
+      let two : Executes x (following c s) t f1 m.now = record { before = l.breaks; following = m.breaks; typed = wt; flows = dt; breaks = later; kept = kt } in
       on (Evaluating a) (Needs (Choose s t) ∷ k) live (
         c,
         v,
@@ -247,13 +247,13 @@ module _ (p : Program) (g : Typing) (x : Exits) (bs : List InScope) (e : Environ
           [],
           bs,
           Go h,
-          awaited.chooses (judgements.seen_by a well) c (behind c s) v f1 l.now m.now h tested stands (context_after p x bs c s stands) one two
+          awaited.chooses (judgements.seen_by a well) c (following c s) v f1 l.now m.now h tested stands (context_after p x bs c s stands) one two
               (subst (λ z. Implies l.now z) (sym now) (meet_first l.now m.now)) (subst (λ z. Implies m.now z) (sym now) (meet_second l.now m.now)),
           tt,
           stack,
         ),
       )
-  execute (While place a s) k c f h before behind' live stands holds ((v, well, tested), ws) (f1, d, (l, ds, (demands, known))) are (ka, ks) stack =
+  execute (While place a s) k c f h before following' live stands holds ((v, well, tested), ws) (f1, d, (l, ds, (demands, known))) are (ka, ks) stack =
       let now : h ≡ meet f1 l.breaks = ap (λ (z : Known). z.now) known in
       let exit : LoopExit = record { place = place; head = f; breaks = l.breaks } in
       let first : Evaluates x.relied c a f v f1 = record { waiting = []; typed = well; flows = d; kept = ka } in
@@ -263,26 +263,26 @@ module _ (p : Program) (g : Typing) (x : Exits) (bs : List InScope) (e : Environ
         stands = stands;
         tested = tested;
         first = first;
-        again = record { before = Unreached; behind = l.breaks; typed = ws; flows = ds; breaks = implies_self l.breaks; kept = ks };
+        again = record { before = Unreached; following = l.breaks; typed = ws; flows = ds; breaks = implies_self l.breaks; kept = ks };
         back = at_least_implies l.now f demands.0;
         fails = subst (λ z. Implies f1 z) (sym now) (meet_first f1 l.breaks);
         left = subst (λ z. Implies l.breaks z) (sym now) (meet_second f1 l.breaks);
       } in
       on (Evaluating a) (Needs (Test a s) ∷ k) live (c, v, f, f1, stands, holds, first, ([], bs, Go h, awaited.tests (judgements.seen_by a well) exit v f1 h loop, tt, stack))
-  execute (typed.Return None) k c f h before behind' live stands holds is (f1, d, (u, known)) are kept stack =
+  execute (typed.Return None) k c f h before following' live stands holds is (f1, d, (u, known)) are kept stack =
       on (Returning None) k live (h, return_none (operands_in k) x.result c (subst (λ r. IsReturned c r None) stands.result is), stack)
-  execute (typed.Return (Some (Convert from to a))) k c f h before behind' live stands holds is (f1, d, (u, known)) are kept stack =
+  execute (typed.Return (Some (Convert from to a))) k c f h before following' live stands holds is (f1, d, (u, known)) are kept stack =
       return_on a from to k c f f1 c.result live stands holds stands.result refl is d kept (subst (λ z. IsStack p g x bs (Go z) k) (ap (λ (z : Known). z.now) known) stack)
-  execute Break k c f h before behind' live stands holds is (u, known) are kept stack =
-      break_on k c f h before behind' x.loop refl (stands.loop is) live holds (ap (λ (z : Known). z.breaks) known) are stack
-  execute Continue k c f h before behind' live stands holds is (demands, known) are kept stack = continue_on k f h x.loop refl (stands.loop is) live holds demands stack
-  execute (Throw tag None) k c f h before behind' live stands holds well (f1, d, (u, known)) are kept stack = on (Throwing tag 0) k live (Go h, stack)
-  execute (Throw tag (Some a)) k c f h before behind' live stands holds (has, is, well) (f1, d, (u, known)) are kept stack = thrown has tag a k c f f1 h live stands holds well d kept stack
-  execute (Try s cs) k c f h before behind' live stands holds (ws, wcs) (l, ds, dcs) are (ks, kcs) stack =
-      let sooner : AreBreaks x.loop l.breaks = breaks_before x.loop l.breaks behind' (breaks_clauses (around x) (caught f s) cs l (record { now = h; breaks = behind' }) dcs) are in
+  execute Break k c f h before following' live stands holds is (u, known) are kept stack =
+      break_on k c f h before following' x.loop refl (stands.loop is) live holds (ap (λ (z : Known). z.breaks) known) are stack
+  execute Continue k c f h before following' live stands holds is (demands, known) are kept stack = continue_on k f h x.loop refl (stands.loop is) live holds demands stack
+  execute (Throw tag None) k c f h before following' live stands holds well (f1, d, (u, known)) are kept stack = on (Throwing tag 0) k live (Go h, stack)
+  execute (Throw tag (Some a)) k c f h before following' live stands holds (has, is, well) (f1, d, (u, known)) are kept stack = thrown has tag a k c f f1 h live stands holds well d kept stack
+  execute (Try s cs) k c f h before following' live stands holds (ws, wcs) (l, ds, dcs) are (ks, kcs) stack =
+      let sooner : AreBreaks x.loop l.breaks = breaks_before x.loop l.breaks following' (breaks_clauses (around x) (caught f s) cs l (record { now = h; breaks = following' }) dcs) are in
       let y : Exits = relying x (caught f s) in
-      let one : Executes y c s f l.now = record { before = before; behind = l.breaks; typed = ws; flows = ds; breaks = sooner; kept = relied_body x.relied c.next_region s f ks } in
-      let catches : Catches x (behind c s) (caught f s) cs l.now h = record { before = l.breaks; behind = behind'; typed = wcs; flows = dcs; breaks = are; kept = kcs } in
+      let one : Executes y c s f l.now = record { before = before; following = l.breaks; typed = ws; flows = ds; breaks = sooner; kept = relied_body x.relied c.next_region s f ks } in
+      let catches : Catches x (following c s) (caught f s) cs l.now h = record { before = l.breaks; following = following'; typed = wcs; flows = dcs; breaks = are; kept = kcs } in
       running p g y bs e w typed' globals bound variables (Executing s) (Handler cs ∷ k) live (
         c,
         f,
@@ -292,32 +292,32 @@ module _ (p : Program) (g : Typing) (x : Exits) (bs : List InScope) (e : Environ
         one,
         (
           x,
-          behind c s,
+          following c s,
           caught f s,
           h,
           refl,
           context_after p x bs c s stands,
           holds_implied g f (caught f s) bs (emptied_implied (touched_statement s []) f) holds,
           catches,
-          clauses_implied (around x) (caught f s) cs l (record { now = h; breaks = behind' }) dcs,
+          clauses_implied (around x) (caught f s) cs l (record { now = h; breaks = following' }) dcs,
           stack,
         ),
       )
 
   -- ---- items
 
-  -- what is left of a block behind an item that lends this
-  lent_rest : (lent : ℕ) (js : Items) (c : Context) (f before behind' ending : flow.State) → lent < c.next_local → IsLockedIn lent f → AreScoped c.locals c.next_local → WellTypedItems c js
-      → Derives (rule_items (around (lending x lent)) js (record { now = f; breaks = before })) (record { now = ending; breaks = behind' }) → AreBreaks x.loop behind' → InItems x.relied c.next_region js
+  -- the rest of a block after an item that lends this local
+  lent_rest : (lent : ℕ) (js : Items) (c : Context) (f before following' ending : flow.State) → lent < c.next_local → IsLockedIn lent f → AreScoped c.locals c.next_local → WellTypedItems c js
+      → Derives (rule_items (around (lending x lent)) js (record { now = f; breaks = before })) (record { now = ending; breaks = following' }) → AreBreaks x.loop following' → InItems x.relied c.next_region js
       → Continues (lending x lent) c js f (with_each Full (locks_of js) ending)
-  lent_rest lent js c f before behind' ending less locked scope well flows are kept = record {
+  lent_rest lent js c f before following' ending less locked scope well flows are kept = record {
     before = before;
-    behind = behind';
+    following = following';
     ending = ending;
     typed = well;
     flows = flows;
     breaks = are;
-    kept = λ reached. locked_items x.relied lent (updated nowhere lent true) c.next_region (around (lending x lent)) js (record { now = f; breaks = before }) (record { now = ending; breaks = behind' }) (updated_same nowhere lent true lent refl)
+    kept = λ reached. locked_items x.relied lent (updated nowhere lent true) c.next_region (around (lending x lent)) js (record { now = f; breaks = before }) (record { now = ending; breaks = following' }) (updated_same nowhere lent true lent refl)
         (items_fresh (updated nowhere lent true) c js (lent_below nowhere c.next_local lent (λ n s. let k : false ≡ true = s in absurd (cc)) less) scope well) locked flows kept;
     ends = implies_self (with_each Full (locks_of js) ending);
   }
@@ -325,33 +325,33 @@ module _ (p : Program) (g : Typing) (x : Exits) (bs : List InScope) (e : Environ
   again : (lent : ℕ) (js : Items) (ending h : flow.State) → Implies (with_each Full (lent ∷ locks_of js) ending) h → Implies (with_fullness Full (with_each Full (locks_of js) ending) lent) h
   again lent js ending h ends = subst (λ z. Implies z h) (sym (full_last lent (locks_of js) ending)) ends
 
-  pub continue_with : (js : Items) (k : List Entry) (cs : List InScope) (c : Context) (f h before behind' ending : flow.State) → IsNested k e w → LiveIn k bs → Within cs bs → IsContext p x bs c → Holds g f bs
-      → WellTypedItems c js → Derives (rule_items (around x) js (record { now = f; breaks = before })) (record { now = ending; breaks = behind' }) → AreBreaks x.loop behind' → InItems x.relied c.next_region js
+  pub continue_with : (js : Items) (k : List Entry) (cs : List InScope) (c : Context) (f h before following' ending : flow.State) → IsNested k e w → LiveIn k bs → Within cs bs → IsContext p x bs c → Holds g f bs
+      → WellTypedItems c js → Derives (rule_items (around x) js (record { now = f; breaks = before })) (record { now = ending; breaks = following' }) → AreBreaks x.loop following' → InItems x.relied c.next_region js
       → Implies (with_each Full (locks_of js) ending) h → IsStack p g x cs (Go h) k → IsWell p (continues_with js k e w)
-  continue_with NoItems k cs c f h before behind' ending nests live within stands holds well (u, known) are kept ends stack =
+  continue_with NoItems k cs c f h before following' ending nests live within stands holds well (u, known) are kept ends stack =
       let now : ending ≡ f = ap (λ (z : Known). z.now) known in
       let implies : Implies f h = subst (λ z. Implies z h) now ends in
       running p g x cs e w typed' globals (within_bound e cs bs within bound) (within_variables g cs bs within variables) Proceeding k (within_live k cs bs within live)
       (h, within_holds g h cs bs within (holds_implied g f h bs implies holds), stack)
-  continue_with (MoreItems (Execute s) js) k cs c f h before behind' ending nests live within stands holds (ws, wjs) (l, ds, djs') are (ks, kjs) ends stack =
-      let djs = nothing_locked (around x) js l (record { now = ending; breaks = behind' }) djs' in
-      let sooner : AreBreaks x.loop l.breaks = breaks_before x.loop l.breaks behind' (breaks_items (around x) js l (record { now = ending; breaks = behind' }) djs) are in
-      let one : Executes x c s f l.now = record { before = before; behind = l.breaks; typed = ws; flows = ds; breaks = sooner; kept = ks } in
-      let rest : Continues x (behind c s) js l.now h =
-      record { before = l.breaks; behind = behind'; ending = ending; typed = wjs; flows = djs; breaks = are; kept = λ reached. asked_of (may_end s) (ends_so nowhere (around x) s (record { now = f; breaks = before }) l (statement_fresh nowhere c s (λ n s. let k : false ≡ true = s in absurd (cc)) (scope_below p x bs c stands) ws) ds reached) kjs; ends = ends } in
-      on (Executing s) (Rest js ∷ k) live (c, f, l.now, stands, holds, one, (cs, behind c s, h, within, context_after p x bs c s stands, rest, stack))
-  continue_with (MoreItems (Declare n t None) js) k cs c f h before behind' ending nests live within stands holds ((number, has, alive), initial, wjs) (l, (f1, (u1, known1), (u2, known2)), djs') are (named, kv, kjs) ends stack =
-      let djs = nothing_locked (around x) js l (record { now = ending; breaks = behind' }) djs' in
+  continue_with (MoreItems (Execute s) js) k cs c f h before following' ending nests live within stands holds (ws, wjs) (l, ds, djs') are (ks, kjs) ends stack =
+      let djs = nothing_locked (around x) js l (record { now = ending; breaks = following' }) djs' in
+      let sooner : AreBreaks x.loop l.breaks = breaks_before x.loop l.breaks following' (breaks_items (around x) js l (record { now = ending; breaks = following' }) djs) are in
+      let one : Executes x c s f l.now = record { before = before; following = l.breaks; typed = ws; flows = ds; breaks = sooner; kept = ks } in
+      let rest : Continues x (following c s) js l.now h =
+      record { before = l.breaks; following = following'; ending = ending; typed = wjs; flows = djs; breaks = are; kept = λ reached. asked_of (may_end s) (ends_so nowhere (around x) s (record { now = f; breaks = before }) l (statement_fresh nowhere c s (λ n s. let k : false ≡ true = s in absurd (cc)) (scope_below p x bs c stands) ws) ds reached) kjs; ends = ends } in
+      on (Executing s) (Rest js ∷ k) live (c, f, l.now, stands, holds, one, (cs, following c s, h, within, context_after p x bs c s stands, rest, stack))
+  continue_with (MoreItems (Declare n t None) js) k cs c f h before following' ending nests live within stands holds ((number, has, alive), initial, wjs) (l, (f1, (u1, known1), (u2, known2)), djs') are (named, kv, kjs) ends stack =
+      let djs = nothing_locked (around x) js l (record { now = ending; breaks = following' }) djs' in
       let l_is : l ≡ record { now = with_fullness Vacant f n; breaks = before } = known2 ∙ ap (λ z. record { now = z; breaks = before }) known1 in
-      let flows = subst (λ (z : Known). Derives (rule_items (around x) js z) (record { now = ending; breaks = behind' })) l_is djs in
+      let flows = subst (λ (z : Known). Derives (rule_items (around x) js z) (record { now = ending; breaks = following' })) l_is djs in
       declares_blank p g x bs e w typed' globals bound variables n (values.kind_of t) t js cs c f h k nests live within stands holds (named, alive) number (sym (kind_meant (lives_in bs) t))
-      (record { before = before; behind = behind'; ending = ending; typed = wjs; flows = flows; breaks = are; kept = λ reached. kjs; ends = ends }) stack
-  continue_with (MoreItems (Declare n t (Some (Convert from to a))) js) k cs c f h before behind' ending nests live within stands holds ((number, has, alive), (s, well, conv, from_is, to_is), wjs) (l, (f2, (f1, d, (u1, known1)), (u2, known2)), djs') are (named, kv, kjs) ends stack =
-      let djs = nothing_locked (around x) js l (record { now = ending; breaks = behind' }) djs' in
+      (record { before = before; following = following'; ending = ending; typed = wjs; flows = flows; breaks = are; kept = λ reached. kjs; ends = ends }) stack
+  continue_with (MoreItems (Declare n t (Some (Convert from to a))) js) k cs c f h before following' ending nests live within stands holds ((number, has, alive), (s, well, conv, from_is, to_is), wjs) (l, (f2, (f1, d, (u1, known1)), (u2, known2)), djs') are (named, kv, kjs) ends stack =
+      let djs = nothing_locked (around x) js l (record { now = ending; breaks = following' }) djs' in
       let l_is : l ≡ record { now = with_fullness Full f1 n; breaks = before } = known2 ∙ ap (λ z. record { now = z; breaks = before }) known1 in
-      let flows = subst (λ (z : Known). Derives (rule_items (around x) js z) (record { now = ending; breaks = behind' })) l_is djs in
+      let flows = subst (λ (z : Known). Derives (rule_items (around x) js z) (record { now = ending; breaks = following' })) l_is djs in
       let rest : Continues x (with_local true t c) js (with_fullness Full f1 n) h =
-      record { before = before; behind = behind'; ending = ending; typed = wjs; flows = flows; breaks = are; kept = λ reached. kjs; ends = ends } in
+      record { before = before; following = following'; ending = ending; typed = wjs; flows = flows; breaks = are; kept = λ reached. kjs; ends = ends } in
       on (Evaluating a) (Needs (ConvertTo from to (target_by a)) ∷ Needs (Initialise n (values.kind_of t) js) ∷ k) live (
         c,
         s,
@@ -369,13 +369,13 @@ module _ (p : Program) (g : Typing) (x : Exits) (bs : List InScope) (e : Environ
           ([], cs, Go h, awaited.initialises cs c t f1 h within stands (named, alive) number (sym (kind_meant (lives_in bs) t) ∙ kind_read (lives_in bs) t) rest, tt, stack),
         ),
       )
-  continue_with (MoreItems (DeclareRegion r n) js) k cs c f h before behind' ending nests live within stands holds ((region, less), (number, has, alive), wjs) (l, (u, known), djs') are kjs ends stack =
-      let djs = nothing_locked (around x) js l (record { now = ending; breaks = behind' }) djs' in
-      let flows = subst (λ (z : Known). Derives (rule_items (around x) js z) (record { now = ending; breaks = behind' })) known djs in
+  continue_with (MoreItems (DeclareRegion r n) js) k cs c f h before following' ending nests live within stands holds ((region, less), (number, has, alive), wjs) (l, (u, known), djs') are kjs ends stack =
+      let djs = nothing_locked (around x) js l (record { now = ending; breaks = following' }) djs' in
+      let flows = subst (λ (z : Known). Derives (rule_items (around x) js z) (record { now = ending; breaks = following' })) known djs in
       let t : Ty = types.Handle (regions.Variable r) in
       let d : Context = with_opened scopes.Lexical c in
       let rest : Continues x (with_local false t d) js (with_fullness Full f n) h =
-      record { before = before; behind = behind'; ending = ending; typed = wjs; flows = flows; breaks = are; kept = λ reached. kjs; ends = ends } in
+      record { before = before; following = following'; ending = ending; typed = wjs; flows = flows; breaks = are; kept = λ reached. kjs; ends = ends } in
       let l : Life = OfRegion (length w.regions) (ends_of k) (lent_now g) in
       let inner : List InScope = Names c.next_region l true ∷ bs in
       let here : IsContext p x inner d = context_lexical p x bs c stands g variables (length w.regions) (ends_of k) live.0 alive in
@@ -400,7 +400,7 @@ module _ (p : Program) (g : Typing) (x : Exits) (bs : List InScope) (e : Environ
         rest,
         (h, implies_self h, within_live k cs bs within live, stack),
       )
-  continue_with (MoreItems (OpenRegion r n place key) js) k cs c f h before behind' ending nests live within stands holds (((home, has), there), (number, variable, alive), wjs) (l, (f1, (demands, known1), (u, known2)), djs) are (spared, kjs) ends stack =
+  continue_with (MoreItems (OpenRegion r n place key) js) k cs c f h before following' ending nests live within stands holds (((home, has), there), (number, variable, alive), wjs) (l, (f1, (demands, known1), (u, known2)), djs) are (spared, kjs) ends stack =
       let t : Ty = types.Key (regions.Variable r) in
       let now : l ≡ record { now = with_fullness Full (with_fullness Locked f key) n; breaks = before } = known2 ∙ ap (λ z. record { now = z; breaks = before }) known1 in
       let bound_is = bound_to (lives_in bs) c.locals bs key t home stands.scope has in
@@ -413,8 +413,8 @@ module _ (p : Program) (g : Typing) (x : Exits) (bs : List InScope) (e : Environ
       let less : key < c.next_local = found_below c.locals c.next_local key t home below has in
       let lent_now' : IsLockedIn key (with_fullness Full (with_fullness Locked f key) n) = now_locked f key n holds.0 demands.0 (λ same. let e : key ≡ n = same in absurd (omega (arith, less, e, number))) in
       let set : IsSet f key = not-true (is_vacant (flow.fullness f key)) demands.0 in
-      let rest = lent_rest key js (with_local false (types.Handle (regions.Variable r)) (with_key_opened r c)) (with_fullness Full (with_fullness Locked f key) n) before behind' ending (let past : key < suc c.next_local = omega (arith, less) in past) lent_now' (next_in_scope c below) wjs
-      (subst (λ (z : Known). Derives (rule_items (around (lending x key)) js z) (record { now = ending; breaks = behind' })) now djs) are kjs in
+      let rest = lent_rest key js (with_local false (types.Handle (regions.Variable r)) (with_key_opened r c)) (with_fullness Full (with_fullness Locked f key) n) before following' ending (let past : key < suc c.next_local = omega (arith, less) in past) lent_now' (next_in_scope c below) wjs
+      (subst (λ (z : Known). Derives (rule_items (around (lending x key)) js z) (record { now = ending; breaks = following' })) now djs) are kjs in
       looks_bound p g x bs e w typed' globals bound variables (Needs (OpenBy n key js) ∷ k) key t b f nests.0 live holds bound_among number_of of_type (used_full f key demands.0 demands.1.0) (
         [],
         cs,
@@ -423,7 +423,7 @@ module _ (p : Program) (g : Typing) (x : Exits) (bs : List InScope) (e : Environ
         tt,
         stack,
       )
-  continue_with (MoreItems (DeclareAlias r n t place source) js) k cs c f h before behind' ending nests live within stands holds ((region, less), (v, ((home, has), there), unique, of_type), (number, variable, alive), wjs) (l, (f1, (demands, known1), (u, known2)), djs) are (spared, kjs) ends stack =
+  continue_with (MoreItems (DeclareAlias r n t place source) js) k cs c f h before following' ending nests live within stands holds ((region, less), (v, ((home, has), there), unique, of_type), (number, variable, alive), wjs) (l, (f1, (demands, known1), (u, known2)), djs) are (spared, kjs) ends stack =
       let now : l ≡ record { now = with_fullness Full (with_fullness Locked f source) n; breaks = before } = known2 ∙ ap (λ z. record { now = z; breaks = before }) known1 in
       let bound_is = bound_to (lives_in bs) c.locals bs source v home stands.scope has in
       let b = bound_is.bound in
@@ -436,8 +436,8 @@ module _ (p : Program) (g : Typing) (x : Exits) (bs : List InScope) (e : Environ
       let lent_now' : IsLockedIn source (with_fullness Full (with_fullness Locked f source) n) = now_locked f source n holds.0 demands.0 (λ same. let e : source ≡ n = same in absurd (omega (arith, less', e, number))) in
       let full : IsFullIn f source = used_full f source demands.0 demands.1.0 in
       let set : IsSet f source = not-true (is_vacant (flow.fullness f source)) demands.0 in
-      let rest = lent_rest source js (with_local true t (with_opened scopes.Alias c)) (with_fullness Full (with_fullness Locked f source) n) before behind' ending (let past : source < suc c.next_local = omega (arith, less') in past) lent_now' (next_in_scope c below) wjs
-      (subst (λ (z : Known). Derives (rule_items (around (lending x source)) js z) (record { now = ending; breaks = behind' })) now djs) are kjs in
+      let rest = lent_rest source js (with_local true t (with_opened scopes.Alias c)) (with_fullness Full (with_fullness Locked f source) n) before following' ending (let past : source < suc c.next_local = omega (arith, less') in past) lent_now' (next_in_scope c below) wjs
+      (subst (λ (z : Known). Derives (rule_items (around (lending x source)) js z) (record { now = ending; breaks = following' })) now djs) are kjs in
       subst (λ kind. IsWell p (loaded_from kind (e.locals source) (Needs (AliasOf n source js) ∷ k) e w)) (sym (ap values.kind_of of_type ∙ alias_kind (regions.Variable r) v))
       (looks_bound p g x bs e w typed' globals bound variables (Needs (AliasOf n source js) ∷ k) source v b f nests.0 live holds bound_among number_of of_bound full (
         [],
@@ -448,8 +448,8 @@ module _ (p : Program) (g : Typing) (x : Exits) (bs : List InScope) (e : Environ
         tt,
         stack,
       ))
-  continue_with (MoreItems (DeclareKey r n) js) k cs c f h before behind' ending nests live within stands holds ((region, less), (number, variable, alive), wjs) (l, (u, known), djs') are kjs ends stack =
-      let djs = nothing_locked (around x) js l (record { now = ending; breaks = behind' }) djs' in
-      let flows = subst (λ (z : Known). Derives (rule_items (around x) js z) (record { now = ending; breaks = behind' })) known djs in
+  continue_with (MoreItems (DeclareKey r n) js) k cs c f h before following' ending nests live within stands holds ((region, less), (number, variable, alive), wjs) (l, (u, known), djs') are kjs ends stack =
+      let djs = nothing_locked (around x) js l (record { now = ending; breaks = following' }) djs' in
+      let flows = subst (λ (z : Known). Derives (rule_items (around x) js z) (record { now = ending; breaks = following' })) known djs in
       keys_on p g x bs e w typed' globals bound variables n r js k cs c f h nests live holds within stands region alive number
-      (record { before = before; behind = behind'; ending = ending; typed = wjs; flows = flows; breaks = are; kept = λ reached. kjs; ends = ends }) stack
+      (record { before = before; following = following'; ending = ending; typed = wjs; flows = flows; breaks = are; kept = λ reached. kjs; ends = ends }) stack

@@ -1,4 +1,4 @@
--- PLACES that a pointer leads to, and what waits for them; operators of pointers.
+-- PLACES that a pointer leads to, the entries that wait for them, and operators on pointers.
 use Rattle.std.proofs.Common.{◌≡◌, ◌⊎◌, inl, inr, ℕ, zero, suc, ◌+◌, ◌<◌, ◌≤◌, Bool, true, false, List, [], ◌∷◌, length, map, Option, Some, None, slice_get, refl, sym, ap, subst, ◌∙◌, arith}
 use Rattle.std.specs.Prelude.{if◌then◌else◌, nat_lt, ◌==◌, ◌&&◌}
 use Rattle.std.proofs.lemmas.Bool.{eq-eqb, ltb-true, and_from}
@@ -23,7 +23,7 @@ use Rattle.cyc_types.specs.typing.Expressions.{assigned_type}
 use Rattle.cyc_types.specs.typing.WellTyped.{Context, WellTyped, IsPeek, IsLive, IsCell, Converts, PointerOperation, adds, subtracts, equals, differs, thin_null, thin_there, fat_null, fat_there, null_is, null_is_not}
 use Rattle.cyc_types.specs.flow.States as flow
 use Rattle.cyc_types.specs.flow.States.{is_reached}
-use Rattle.cyc_types.specs.flow.Expressions.{and_peeked, peek_of, peek_behind, rule_place}
+use Rattle.cyc_types.specs.flow.Expressions.{and_peeked, peek_of, peek_after, rule_place}
 use Rattle.cyc_meaning.specs.Values.{Operand, Cell, is_kind, are_kinds, is_thin, kinds_of}
 use Rattle.cyc_meaning.specs.Values as values
 use Rattle.cyc_meaning.specs.Operators.{Result, Gives, Raises, Misfits, null_exception, array_bounds, truth}
@@ -59,7 +59,7 @@ use Rattle.cyc_soundness.proofs.states.Cells.{plain_claims, pointer_plain, part_
 
 -- ---- pointers
 
--- a thin pointer is null or leads to a cell
+-- a thin pointer is null, or leads to a cell
 data IsThin (g : Typing) (t : RunTy) (l : Life) : values.Value → Type 0 where
   is_null : IsThin g t l values.Null
   leads : (object offset : ℕ) → IsTarget g t l object offset → IsThin g t l (values.Thin object offset)
@@ -110,7 +110,7 @@ fat_kind marks.Nullable fat = absurd (let e : true ≡ false = fat in cc)
 fat_kind marks.NonNull fat = absurd (let e : true ≡ false = fat in cc)
 fat_kind marks.Fat fat = refl
 
--- an operator takes its left operand
+-- an operator accepts its left operand
 pub takes_left : (n : Lives) (g : Typing) {c : Context} {o : PointerOperator} {u v w : ValueType} (left : Operand) → PointerOperation c o u v w → IsResult g (value_at n u) left → takes_kind o left.kind ≡ true
 takes_left n g left (adds t r other) is = is_kind_same left.kind kinds.Fat is.0
 takes_left n g left (subtracts t r other) is = is_kind_same left.kind kinds.Fat is.0
@@ -156,7 +156,7 @@ through_part : (g : Typing) (i : ℕ) (peek : Option ℕ) (t : RunTy) (r : RunVa
 through_part g i peek t r v (inl same) is = looked_part g i peek t v (subst (λ z. ClaimsBy g i z v) same is)
 through_part g i peek t r v (inr same) is = subst (λ z. ClaimsBy g i z v) same is
 
--- an assignment hands on nothing that only one may have
+-- an assignment passes on no linear resource
 pub moved_comes : (g : Typing) (i : ℕ) (bs : List InScope) (t : Ty) (v : values.Value) → AreVariables g bs → ClaimsBy g i (read_value bs (assigned_type t)) v
 moved_comes g i bs t v variables = go (tests.is_moved t) refl
   where
@@ -164,7 +164,7 @@ moved_comes g i bs t v variables = go (tests.is_moved t) refl
     go true e = tt
     go false e = plain_claims g.own (Hand i) (read bs t) v (plain_read g bs variables t e)
 
--- a pointer that is moved leads into the same
+-- a pointer moved by arithmetic leads into the object of the original pointer
 moved_thing : (t : RunTy) (l : Life) (change : ℕ → ℕ) (v z : values.Value) → moved change v ≡ Gives z → thing_of (lives.Pointer marks.Fat t l) z ≡ thing_of (lives.Pointer marks.Fat t l) v
 moved_thing t l change values.Null z same = ap (λ k. thing_of (lives.Pointer marks.Fat t l) k) (sym (gives_same values.Null z same))
 moved_thing t l change (values.Fat object start count index) z same = ap (λ k. thing_of (lives.Pointer marks.Fat t l) k) (sym (gives_same (values.Fat object start count (change index)) z same))
@@ -191,14 +191,14 @@ kinds_typed l g (t ∷ ts) [] n are = absurd are
 kinds_typed l g (t ∷ ts) (c ∷ cs) zero (one, are) = and_from (is_kind c.kind (values.kind_of t)) (are_kinds (kinds_of cs) (map values.kind_of ts)) (is_kind_same c.kind (values.kind_of t) (one.0 ∙ kind_meant l t)) (kinds_typed l g ts cs zero are)
 kinds_typed l g (t ∷ ts) (c ∷ cs) (suc n) (one, are) = and_from (is_kind c.kind (values.kind_of t)) (are_kinds (kinds_of cs) (map values.kind_of ts)) (is_kind_same c.kind (values.kind_of t) (one.0 ∙ kind_meant l t)) (kinds_typed l g ts cs n are)
 
--- ---- what is reached is what the tree says
+-- ---- the target of a pointer is the one that the tree states
 
 abbrev leads_nowhere : RunTy → Type 0
 leads_nowhere (lives.Pointer k t l) = ⊥
 leads_nowhere t = Unit {0}
 
 module _ (g : Typing) (w : World) (typed : IsTyped g w.regions w.objects) where
-  -- a cell of the type that the tree says
+  -- the cell has the type that the tree states
   value_there : (l : Lives) (y : ObjectType) (t : Ty) (offset : ℕ) (z : Object) (n : ℕ) → IsObject g n y z → slice_get y.cells offset ≡ Some (at l t)
       → is_target (Some (values.kind_of t)) offset (slice_get z.cells offset) ≡ true
   value_there l y t offset z n is here =
@@ -239,7 +239,7 @@ module _ (g : Typing) (w : World) (typed : IsTyped g w.regions w.objects) where
   no_pointer (lives.Pointer k t l) target v plain has = absurd plain
   no_pointer t target v plain has = absurd has
 
-  -- also of what is converted
+  -- the target of a pointer, also as the source of a conversion
   pub converted_leads : (l : Lives) (c : Context) (s : ValueType) (t : Ty) (v : Operand) → Converts c s t → IsResult g (value_at l s) v → leads_to w (target_of_value s) (followed v.value) ≡ true
   converted_leads l c (types.Value types.Int) t v conv is = no_pointer lives.Int None v.value tt is.1
   converted_leads l c (types.Value types.Char) t v conv is = no_pointer lives.Char None v.value tt is.1
@@ -259,29 +259,29 @@ module _ (p : Program) (g : Typing) (x : Exits) (bs : List InScope) (e : Environ
   on : (focus : Focus) (k : List Entry) → LiveIn k bs → IsFocus p g x bs focus k → IsWell p (Running focus k e w)
   on focus k live stands = running p g x bs e w typed globals bound variables focus k live stands
 
-  -- what was computed
+  -- passing on a computed value
   pub gives_by : (k : List Entry) (kind : Kind) (t : RunTy) (f : flow.State) (r : Result) → LiveIn k bs → Holds g f bs → kind ≡ kind_at t → Fits g t r → ((v : values.Value) → r ≡ Gives v → Claims g.own (Hand (awaited.operands_in k)) t v)
       → IsStack p g x bs (Val (Value t) f) k → IsWell p (computed kind r k e w)
   gives_by k kind t f (Gives v) live holds same fits comes stack = on (Given (record { kind = kind; value = v })) k live (Value t, f, holds, (same, fits), comes v refl, stack)
   gives_by k kind t f (Raises tag) live holds same fits comes stack = on (Throwing tag 0) k live (Val (Value t) f, stack)
   gives_by k kind t f Misfits live holds same fits comes stack = absurd fits
 
-  -- a pointer into what is looked at, or in hand
+  -- a pointer into an object that is peeked at or held by an operand
   gives_into : (k : List Entry) (peek : Option ℕ) (kind : Kind) (t : RunTy) (f : flow.State) (r : Result) → LiveIn k bs → Holds g f bs → kind ≡ kind_at t → Fits g t r → ((v : values.Value) → r ≡ Gives v → ClaimsPart g (awaited.operands_in k) peek (thing_of t v))
       → IsStack p g x bs (Val (lives.Into peek t) f) k → IsWell p (computed kind r k e w)
   gives_into k peek kind t f (Gives v) live holds same fits comes stack = on (Given (record { kind = kind; value = v })) k live (lives.Into peek t, f, holds, (same, fits), comes v refl, stack)
   gives_into k peek kind t f (Raises tag) live holds same fits comes stack = on (Throwing tag 0) k live (Val (lives.Into peek t) f, stack)
   gives_into k peek kind t f Misfits live holds same fits comes stack = absurd fits
 
-  -- where it is nothing that only one may have
+  -- a computed value that is not a linear resource
   pub gives : (k : List Entry) (kind : Kind) (t : RunTy) (f : flow.State) (r : Result) → LiveIn k bs → Holds g f bs → IsPlain t → kind ≡ kind_at t → Fits g t r → IsStack p g x bs (Val (Value t) f) k
       → IsWell p (computed kind r k e w)
   gives k kind t f r live holds plain same fits stack = gives_by k kind t f r live holds same fits (λ v given. plain_claims g.own (Hand (awaited.operands_in k)) t v plain) stack
 
-  -- ---- a place is found
+  -- ---- evaluating a place
 
   pub locate : (d : Dereference) (k : List Entry) (c : Context) (t : Ty) (f h : flow.State) (q : List ℕ) (r : Named) → LiveIn k bs → IsContext p x bs c → Holds g f bs → IsCell c d t r → Derives (rule_place q d f) h → InPlace (relied_at x.relied k) d
-      → IsStack p g x bs (PlaceOf (peek_behind d) (read bs t) (lives_in bs r) h) k → IsWell p (step_locating p d k e w)
+      → IsStack p g x bs (PlaceOf (peek_after d) (read bs t) (lives_in bs r) h) k → IsWell p (step_locating p d k e w)
   locate (Target pk a u) k c t f h q r live stands holds (m, well, alive, kind, same) flows kept stack =
       on (Evaluating a) (Needs (Follow pk (target_of u)) ∷ k) live (
         c,
@@ -455,7 +455,7 @@ module _ (p : Program) (g : Typing) (x : Exits) (bs : List InScope) (e : Environ
       → IsWell p (computed kinds.Int (element_count v.value) k e w)
   count_on peek t l v k f live holds is stack = gives k kinds.Int lives.Int f (element_count v.value) live holds tt refl (element_count_fits g t l v.value (looked_result g peek (Value (lives.Pointer marks.Fat t l)) v is).1) stack
 
-  -- ---- what waits for a place
+  -- ---- entries that wait for a place
 
   pub place_given : {a : AwaitingPlace} {o : Option ℕ} {t : RunTy} {l : Life} {f : flow.State} {next : awaited.Want} (place : values.Value) (k : List Entry) → AreOpen w.regions (ends_of k) → LiveIn k bs → Holds g f bs → HasType g (lives.Pointer marks.NonNull t l) place
       → ClaimsPart g (awaited.count_place a + awaited.operands_in k) o (thing_of (lives.Pointer marks.NonNull t l) place) → WaitsPlace p x (relied_at x.relied k) bs a o t l f next → KeepsPlace p g (awaited.operands_in k) bs a t f → IsStack p g x bs next k → IsWell p (placed a place k e w)
@@ -516,21 +516,21 @@ module _ (p : Program) (g : Typing) (x : Exits) (bs : List InScope) (e : Environ
 
   -- ---- operators
 
-  told : (negated equal : Bool) (k : List Entry) (f : flow.State) → LiveIn k bs → Holds g f bs → IsStack p g x bs (Val (Value lives.Int) f) k → IsWell p (tells negated (Found equal) k e w)
-  told false equal k f live holds stack = on (Given (record { kind = kinds.Int; value = values.Int (truth equal) })) k live (Value lives.Int, f, holds, (refl, tt), (tt, tt), stack)
-  told true equal k f live holds stack = on (Given (record { kind = kinds.Int; value = values.Int (if equal then 0 else 1) })) k live (Value lives.Int, f, holds, (refl, tt), (tt, tt), stack)
+  reflects : (negated equal : Bool) (k : List Entry) (f : flow.State) → LiveIn k bs → Holds g f bs → IsStack p g x bs (Val (Value lives.Int) f) k → IsWell p (tells negated (Found equal) k e w)
+  reflects false equal k f live holds stack = on (Given (record { kind = kinds.Int; value = values.Int (truth equal) })) k live (Value lives.Int, f, holds, (refl, tt), (tt, tt), stack)
+  reflects true equal k f live holds stack = on (Given (record { kind = kinds.Int; value = values.Int (if equal then 0 else 1) })) k live (Value lives.Int, f, holds, (refl, tt), (tt, tt), stack)
 
   compared_on : (negated : Bool) (t u : RunTy) (l m : Life) (left right : values.Value) (k : List Entry) (f : flow.State) → AreOpen w.regions (ends_of k) → LiveIn k bs → IsPresent g (ends_of k) l → IsPresent g (ends_of k) m
       → (a b : PointerKind) → IsHad g (thing_of (lives.Pointer a t l) left) → IsHad g (thing_of (lives.Pointer b u m) right) → Holds g f bs → IsThin g t l left → IsThin g u m right → IsStack p g x bs (Val (Value lives.Int) f) k → IsWell p (tells negated (compared w left right) k e w)
-  compared_on negated t u l m left right k f opens live one two a b here_had there_had holds is_null is_null stack = told negated true k f live holds stack
-  compared_on negated t u l m left right k f opens live one two a b here_had there_had holds is_null (leads object offset there) stack = told negated false k f live holds stack
-  compared_on negated t u l m left right k f opens live one two a b here_had there_had holds (leads object offset here) is_null stack = told negated false k f live holds stack
+  compared_on negated t u l m left right k f opens live one two a b here_had there_had holds is_null is_null stack = reflects negated true k f live holds stack
+  compared_on negated t u l m left right k f opens live one two a b here_had there_had holds is_null (leads object offset there) stack = reflects negated false k f live holds stack
+  compared_on negated t u l m left right k f opens live one two a b here_had there_had holds (leads object offset here) is_null stack = reflects negated false k f live holds stack
   compared_on negated t u l m left right k f opens live one two a b here_had there_had holds (leads object offset here) (leads other place there) stack =
       let (y, found) = target_live g w typed k t l object offset opens one here_had here in
       let (z, also) = target_live g w typed k u m other place opens two there_had there in
       let equal : Bool = (object == other) && (offset == place) in
       subst (λ a. IsWell p (tells negated (both_found a (object_at w other) equal) k e w)) (sym found)
-      (subst (λ a. IsWell p (tells negated (both_found (Found y) a equal) k e w)) (sym also) (told negated equal k f live holds stack))
+      (subst (λ a. IsWell p (tells negated (both_found (Found y) a equal) k e w)) (sym also) (reflects negated equal k f live holds stack))
 
   lasts : (c : Context) (r : Named) (k : List Entry) → IsContext p x bs c → LiveIn k bs → IsLive c r → IsPresent g (ends_of k) (lives_in bs r)
   lasts c r k stands live alive = there_present g (ends_of k) bs r live.0 variables (there_of p x bs c stands r alive)

@@ -1,4 +1,4 @@
--- THE CONTROL STACK is left entry by entry: normally, by `break`, `continue` and `return`, and by an exception.
+-- UNWINDING THE CONTROL STACK entry by entry: normally, by `break`, `continue` and `return`, and by an exception.
 use Rattle.std.proofs.Common.{◌≡◌, ◌≤◌, ℕ, zero, suc, arith, Bool, true, false, List, [], ◌∷◌, Option, Some, None, refl, sym, ap, subst, ◌∙◌, slice_get}
 use Rattle.std.proofs.lemmas.Option.{same_Some}
 use Rattle.cyc_types.specs.Types.{Ty, ValueType}
@@ -42,7 +42,7 @@ module _ (p : Program) (g : Typing) (e : Environment) (w : World) (typed : IsTyp
     on : (focus : Focus) (k : List Entry) → LiveIn k bs → IsFocus p g x bs focus k → IsWell p (Running focus k e w)
     on focus k live stands = running p g x bs e w typed globals bound variables focus k live stands
 
-    -- a region closes, whose name is out of scope then
+    -- a region is closed, and its name leaves the scope
     closes : (focus : Focus) (region home number : ℕ) (l : Life) (alive : Bool) (k : List Entry) (cs : List InScope) → bs ≡ Home region ∷ Names number l alive ∷ cs → IsNested (CloseRegion region home ∷ k) e w → LiveIn k cs
         → IsFocus p g x cs focus k → IsWell p (closing (region_at w region) focus region home k e w)
     closes focus region home number l alive k cs same nests live stands =
@@ -68,9 +68,9 @@ module _ (p : Program) (g : Typing) (e : Environment) (w : World) (typed : IsTyp
         running p g y bs e w typed globals bound variables (Evaluating condition) (Needs (Test condition body) ∷ k) live
         (loop.context, v, l.head, u, loop.stands, holds, loop.first, ([], bs, Go h, awaited.tests (judgements.seen_by condition loop.first.typed) l v u h loop, tt, stack))
 
-    -- ---- a loan ends
+    -- ---- the end of a loan
 
-    -- what was lent is its local's again
+    -- the typing after the loan: the resource belongs to its local again
     abbrev ended_typing : (j : ℕ) → Option Thing → (object : ℕ) → Typing
     ended_typing j o object = handing (record g { loans = j }) o (At object 0) object Here
 
@@ -83,7 +83,7 @@ module _ (p : Program) (g : Typing) (e : Environment) (w : World) (typed : IsTyp
       scope : AreVariables (ended_typing j what object) bs
       stack : IsStack p (ended_typing j what object) y bs (Go h) k
 
-    -- what is in the variable, if anything is, is what was lent
+    -- the content of the variable, if any, is the lent resource
     lent_content : (lent j : ℕ) (t : RunTy) (object : ℕ) → IsLentOut g lent j t object
         → (o : Option Thing) × Owns g.own (Lent j object) o × ((own : Thing → Holder) → Owns own (At object 0) o → (x : Object) → slice_get w.objects object ≡ Some x → (c : Cell) (v : values.Value) → slice_get x.cells 0 ≡ Some c → c.content ≡ Some v → Claims own (At object 0) t v)
     lent_content lent j t object (l, there, away) =
@@ -136,14 +136,14 @@ module _ (p : Program) (g : Typing) (e : Environment) (w : World) (typed : IsTyp
         variable_claims own t x claims zero u c v found at content = subst (λ e. Claims own (At object 0) e v) (same_Some t u found) (claims c v at content)
         variable_claims own t x claims (suc i) u c v found at content = absurd (let e : None ≡ Some u = found in cc)
 
-    -- and it is full
+    -- after the end of a loan the local is full
     ended_holds : (f : flow.State) (lent j object : ℕ) (y : Exits) (h : flow.State) (k : List Entry) (z : HasEnded lent j object y h k) → AreFullAt g lent object bs → Holds g f bs → Holds (ended_typing j z.what object) (with_fullness Full f lent) bs
     ended_holds f lent j object y h k z full holds =
         let m = record g { loans = j } in
         given_back (Lent j object) m (ended_typing j z.what object) z.changed lent object (λ i. at_not_lent i 0 j object) z.here f bs
         (full_at_grown p g m (moment_grows g g.depth j) lent object bs full) (holds_lent g j f bs holds)
 
-    -- a value that is returned is still who has it
+    -- a returned value keeps its holder
     return_other : (i j object : ℕ) (what : Option Thing) (o : Option Ty) (r : RunValue) (v : Option Operand) → Changed (Lent j object) (record g { loans = j }) (ended_typing j what object) → IsReturn g i o r v → IsReturn (ended_typing j what object) i o r v
     return_other i j object what None r None changed is = tt
     return_other i j object what None r (Some v) changed is = absurd is
@@ -153,12 +153,12 @@ module _ (p : Program) (g : Typing) (e : Environment) (w : World) (typed : IsTyp
       alone_kept (Lent j object) (record g { loans = j }) (ended_typing j what object) changed i r v.value (λ e. let z : Hand i ≡ Lent j object = e in absurd (cc)) has,
     )
 
-    -- ---- to the end of a call
+    -- ---- unwinding to the end of a call
 
     pub proceed : (k : List Entry) (f : flow.State) → IsNested k e w → LiveIn k bs → Holds g f bs → IsStack p g x bs (Go f) k → IsWell p (step_proceeding k e w)
     proceed (Discard ∷ k) f nests live holds stack = on Proceeding k live (f, holds, stack)
     proceed (Rest js ∷ k) f nests live holds (cs, c, h, within, stands, rest, stack) =
-        continue_with p g x bs e w typed globals bound variables js k cs c f h rest.before rest.behind rest.ending nests live within stands holds rest.typed rest.flows rest.breaks (rest.kept holds.0) rest.ends stack
+        continue_with p g x bs e w typed globals bound variables js k cs c f h rest.before rest.following rest.ending nests live within stands holds rest.typed rest.flows rest.breaks (rest.kept holds.0) rest.ends stack
     proceed (Join ∷ k) f nests live holds (h, i, stack) = on Proceeding k live (h, holds_implied g f h bs i holds, stack)
     proceed (Loop condition body ∷ k) f nests live holds (y, l, v, u, h, same, loop, i, stack) = tests_again condition body k y l v u h live loop (holds_implied g f l.head bs i holds) stack
     proceed (CloseRegion region home ∷ k) f nests live holds (cs, number, l, alive, h, same, i, outer, stack) =
@@ -179,7 +179,7 @@ module _ (p : Program) (g : Typing) (e : Environment) (w : World) (typed : IsTyp
     proceed (Main ∷ k) f nests live holds (loop, int, gives, blocked, stack) = let z : true ≡ false = sym holds.0 ∙ blocked in absurd (cc)
     proceed k f nests live holds stack = absurd stack
 
-    -- ---- to the loop around
+    -- ---- unwinding to the enclosing loop
 
     pub breaks : (k : List Entry) (l : LoopExit) (f h : flow.State) → IsNested k e w → LiveIn k bs → x.loop ≡ Some l → Holds g f bs → Implies (with_each Full x.locks f) l.breaks → IsStack p g x bs (Go h) k → IsWell p (step_breaking k e w)
     breaks (Discard ∷ k) l f h nests live same holds left stack = on Breaking k live (l, f, h, same, holds, left, stack)
@@ -233,7 +233,7 @@ module _ (p : Program) (g : Typing) (e : Environment) (w : World) (typed : IsTyp
     continues (Main ∷ k) l f h nests live same holds left (loop, int, gives, blocked, stack) = absurd (never_loop x.loop l loop same)
     continues k l f h nests live same holds left stack = absurd stack
 
-    -- ---- to the caller
+    -- ---- returning to the caller
 
     main_on : (i : ℕ) (v : Option Operand) → IsReturn g i (Some types.Int) (Value lives.Int) v → IsWell p (main_returned v w)
     main_on i None is = absurd is
@@ -271,7 +271,7 @@ module _ (p : Program) (g : Typing) (e : Environment) (w : World) (typed : IsTyp
     returns_on (Main ∷ k) v f nests live is (loop, int, gives, blocked, stack) = main_on (operands_in k) v (subst (λ z. IsReturn g (operands_in k) (Some types.Int) z v) gives (subst (λ z. IsReturn g (operands_in k) z x.gives v) int is))
     returns_on k v f nests live is stack = absurd stack
 
-    -- ---- to a `try`
+    -- ---- unwinding to a `try`
 
     pub throws_on : (k : List Entry) (tag value : ℕ) (want : Want) → IsNested k e w → LiveIn k bs → IsStack p g x bs want k → IsWell p (step_throwing tag value k e w)
     throws_on [] tag value want nests live stack = tt

@@ -1,4 +1,5 @@
--- What region variables stand for in a call: what is lent to it, what its function is told, and the fields and globals that it names.
+-- The lifetimes that region variables denote in a call: for its loans, for the types in its function, and for its struct fields and
+-- globals.
 use Rattle.std.proofs.Common.{◌≡◌, ◌≢◌, inl, inr, ℕ, zero, suc, ◌≤◌, ◌<◌, Bool, true, false, List, [], ◌∷◌, length, map, Some, slice_get, refl, sym, ap, subst, ◌∙◌, arith}
 use Rattle.std.specs.Prelude.{Option, None, option_map, if◌then◌else◌, ◌==◌, Contains, slice_index_or}
 use Rattle.std.proofs.lemmas.Bool.{eqb-true, eq-eqb}
@@ -20,7 +21,7 @@ use Rattle.cyc_soundness.specs.inside.Classes.{IsDeclarable}
 use Rattle.cyc_soundness.specs.inside.Frames.{later, InScope, Names, life_named, is_live_named, lives_in, read, read_value, home_of, lives_among, IsThereBy, Exits, AreNamed, Stand, IsHome, AreKnownLocals, AreKnown, IsContext}
 use Rattle.cyc_soundness.specs.inside.Awaited.{regions_at_call, IsInstance}
 use Rattle.cyc_soundness.proofs.types.TypeLemmas.{all_in_weaker, every_in, read_alike, value_alike, lives_by, instance_by, result_by}
-use Rattle.cyc_soundness.proofs.types.RegionLemmas.{other_name, same_name, other_life, other_there, also_opened, again_life, again_there, in_value, every_value, others_value, known_others, scope_kept, known_behind, known_opened, known_live, known_pairs, renamed, there_of, agrees_of}
+use Rattle.cyc_soundness.proofs.types.RegionLemmas.{other_name, same_name, other_life, other_there, also_opened, again_life, again_there, in_value, every_value, others_value, known_others, scope_kept, known_after, known_opened, known_live, known_pairs, renamed, there_of, agrees_of}
 
 stand_named : (number : ℕ) (l : Life) (alive : Bool) (c : RegionContext) (bs : List InScope)
     → ((r : Region) → Contains (live_regions c.live c.opened) r → IsOther number r) → ((a b : Region) → Contains c.written (a, b) → IsOther number a × IsOther number b)
@@ -86,25 +87,25 @@ module _ (p : Program) (x : Exits) (bs : List InScope) (c : Context) (stands : I
       home_named c.region c.next_region l live bs (sym (other_name c.next_region c.region l (life_named bs c.region) apart))
       (λ there. other_name c.next_region c.region live (is_live_named bs c.region) apart ∙ there) stands.home
 
-  -- behind a key, whose region is not open
+  -- the context after the declaration of a key, whose region is not open
   pub context_key : (l : Life) → IsContext p x (Names c.next_region l false ∷ bs) (with_region c)
   context_key l = context_named c.next_region l false (other_life c.next_region l false bs) (suc c.next_region) c.regions
-      (known_behind c.next_region (suc c.next_region) c.regions c.locals c.result (let most : c.next_region ≤ suc c.next_region = omega arith in most) stands.known) (stand_new l false) (home_new l false)
+      (known_after c.next_region (suc c.next_region) c.regions c.locals c.result (let most : c.next_region ≤ suc c.next_region = omega arith in most) stands.known) (stand_new l false) (home_new l false)
 
-  -- behind an alias
+  -- the context after the declaration of an alias
   pub context_alias : (l : Life) → IsContext p x (Names c.next_region l true ∷ bs) (with_opened scopes.Alias c)
   context_alias l = context_named c.next_region l true (other_life c.next_region l true bs) (suc c.next_region) (with_scope scopes.Alias (regions.Variable c.next_region) c.regions)
       (known_opened c.next_region scopes.Alias c.regions c.locals c.result stands.known)
       (stand_also scopes.Alias c.next_region l c.regions bs refl (stand_new l true)) (home_new l true)
 
-  -- where the region of a key is open
+  -- the context in which the region of a key is open
   pub context_again : (r : ℕ) → r < c.next_region → IsContext p x (Names r (life_named bs r) true ∷ bs) (with_key_opened r c)
   context_again r less = context_named r (life_named bs r) true (λ s other. again_life r bs s) c.next_region (with_scope scopes.Dynamic (regions.Variable r) c.regions)
       (known_in_dynamic c.next_region r c.regions c.locals c.result less stands.known)
       (stand_also scopes.Dynamic r (life_named bs r) c.regions bs refl (stand_again r c.regions bs stands.regions))
       (home_named c.region r (life_named bs r) true bs (again_life r bs (regions.Variable c.region)) (λ there. again_there r (life_named bs r) bs (regions.Variable c.region) there) stands.home)
 
--- ---- a function begins
+-- ---- the start of a function
 
 named_other : (k : ℕ) (r : Region) → IsNamed k r → IsOther 0 r
 named_other k regions.Heap named = tt
@@ -155,7 +156,7 @@ alike_parameters k i j (t ∷ ts) (one, named) same =
     let here : at i t ≡ at j t = read_alike i j t (all_in_weaker (IsNamed k) (λ r. i r ≡ j r) (λ r is. same r (named_other k r is)) t (named_in k t one)) in
     ap (λ u. u ∷ map (at i) ts) here ∙ ap (λ us. at j t ∷ us) (alike_parameters k i j ts named same)
 
--- a function's types, effect and constraints name other regions than its own
+-- a function's types, effect and constraints do not mention the function's own region
 pub record NamesOthers (h : Function) : Type 0 where
   pub result : (i j : Lives) → ((r : Region) → IsOther 0 r → i r ≡ j r) → value_at i (result_type h.result) ≡ value_at j (result_type h.result)
   pub parameters : (i j : Lives) → ((r : Region) → IsOther 0 r → i r ≡ j r) → map (at i) h.parameters ≡ map (at j) h.parameters
@@ -177,7 +178,7 @@ known_parameters k number (t ∷ ts) vs (one, named) known =
     known_parameters k (suc number) ts (record { number = number; of_type = t; region = 0; is_place = true } ∷ vs) named
     ((all_in_weaker (IsNamed k) (IsKnown (suc k)) (λ r is. named_known k r is) t (named_in k t one), (let e : 0 < suc k = omega arith in e)), known)
 
--- and what its body knows was declared
+-- the regions known in a function's body are declared
 pub known_body : (p : Program) (h : Function) → IsWellTypedFunction p h → AreKnown (suc h.variables) (body_context p h).regions (parameters_in_scope h.parameters 0 []) h.result
 known_body p h well = record {
   live = live;
@@ -204,7 +205,7 @@ field_lives bs rs regions.Heap known = refl
 field_lives bs rs regions.Unique known = refl
 field_lives bs rs (regions.Variable n) known = life_among (lives_in bs) rs n (regions.Variable n) known
 
--- a field's type, where the struct's parameters stand for what is put in their place
+-- a field's type, with the struct's parameters instantiated
 pub field_means : (bs : List InScope) (rs : List Region) (s : StructType) (t : Ty) → length rs ≡ s.parameters → IsDeclarable s.parameters t
     → at (lives_among (map (lives_in bs) rs)) t ≡ read bs (substituted_ty rs t)
 field_means bs rs s t count known = read_alike (lives_among (map (lives_in bs) rs)) (lives_by (lives_in bs) rs) t
@@ -224,7 +225,7 @@ fields_mean bs rs s count known = all_mean bs rs s s.fields count known
 
 -- ---- globals
 
--- the type of a global names no region variable, and so is read alike everywhere
+-- the type of a global mentions no region variable, so it means the same in every scope
 pub global_means : (bs : List InScope) (t : Ty) → IsDeclarable 0 t → read bs t ≡ at as_heap t
 global_means bs t known = read_alike (lives_in bs) as_heap t (all_in_weaker (IsKnown 0) (λ r. lives_in bs r ≡ as_heap r) none t known)
   where
@@ -241,17 +242,17 @@ cell_live c (Element a i u) t r (well, index, alive, same) = alive
 
 -- ---- calls
 
--- what the region variables of a callee stand for
+-- the lifetimes that the region variables of a callee denote
 abbrev pub these_by : Lives → List Region → ℕ → Life
 these_by n m k = n (substituted_region m (regions.Variable k))
 
--- which of that is live there
+-- the region variables that are live in the callee
 abbrev pub is_among : ℕ → List Region → Bool
 is_among n [] = false
 is_among n (regions.Variable k ∷ rs) = if n == k then true else is_among n rs
 is_among n (r ∷ rs) = is_among n rs
 
--- where region variables are put in their place
+-- the lifetimes of instantiated region variables
 these_are : (bs : List InScope) (m : List Region) (r : Region) → lives_by (lives_in bs) m r ≡ lives_of (these_by (lives_in bs) m) r
 these_are bs m regions.Heap = refl
 these_are bs m regions.Unique = refl
@@ -302,7 +303,7 @@ outliving c m (q ∷ ps) a b (is, are) has = elim (Contains-cons_cases q ps (a, 
   | inr old ↦ outliving c m ps a b are old
 ]
 
--- what is put in the place of a region variable is not unique
+-- no region variable is instantiated with the unique region
 never_unique : (m : List Region) (n : ℕ) → AreNotUnique m → substituted_region m (regions.Variable n) ≢ regions.Unique
 never_unique [] n apart = λ e. (let k : regions.Variable n ≡ regions.Unique = e in absurd (cc))
 never_unique (r ∷ m) zero (one, apart) = one
@@ -313,7 +314,7 @@ never_unique (r ∷ m) (suc n) (one, apart) = λ e. never_other m n n apart e
     never_other (r ∷ m) zero n (one, apart) = one
     never_other (r ∷ m) (suc i) n (one, apart) = never_other m i n apart
 
--- no constraint names what is unique
+-- no constraint mentions the unique region
 unmixed : (k : ℕ) (ps : List (Region × Region)) (a : Region) → AreConstraints k ps → Contains ps (a, regions.Unique) → ⊥
 unmixed k [] a named has = absurd (Contains-empty (a, regions.Unique) has)
 unmixed k (q ∷ ps) a ((first, plain, second, also), named) has = elim (Contains-cons_cases q ps (a, regions.Unique) has) [

@@ -1,4 +1,4 @@
--- What region variables stand for: where more of them are named, where a region is opened, and where a function is called.
+-- The lifetimes that region variables denote when a region is named, opened, or passed at a call.
 use Rattle.std.proofs.Common.{◌≡◌, ◌≢◌, inl, inr, ℕ, suc, ◌≤◌, ◌<◌, Bool, true, false, List, [], ◌∷◌, length, eqb, refl, sym, ap, subst, ◌∙◌, arith}
 use Rattle.std.specs.Prelude.{Option, if◌then◌else◌, ◌==◌, Contains}
 use Rattle.std.proofs.lemmas.Bool.{eqb-true, eq-eqb, false_from_ne_true}
@@ -16,18 +16,18 @@ use Rattle.cyc_types.specs.typing.Scopes.{with_scope}
 use Rattle.cyc_types.specs.typing.WellTyped.{LocalInScope, Context, IsLive, in_block, with_local, with_opened}
 use Rattle.cyc_types.proofs.typing.FormedLemmas.{known_more}
 use Rattle.cyc_soundness.specs.inside.Lives.{Life, OfRegion, Kept, Lives, at, lives_of, AllIn, AllInValue, IsKnown, IsOther, Owned}
-use Rattle.cyc_soundness.specs.inside.Worlds.{Thing, KeyOf, PointerTo, Typing, IsKnownLife, IsOpenIn, lent_now, Outlasts, heap as for_ever, stays, encloses, whole, behind, AgreesWith, IsNumber, IsKnownOwner}
+use Rattle.cyc_soundness.specs.inside.Worlds.{Thing, KeyOf, PointerTo, Typing, IsKnownLife, IsOpenIn, lent_now, Outlasts, heap as for_ever, stays, encloses, whole, following, AgreesWith, IsNumber, IsKnownOwner}
 use Rattle.cyc_soundness.specs.inside.Frames.{later, InScope, Variable, Level, Names, Instance, Home, life_named, is_live_named, lives_in, read_value, home_of, AreVariables}
 use Rattle.cyc_soundness.specs.inside.Frames.{IsThereBy, IsThere, IsScope, IsLasting, IsLiveIn, AreLiveIn, Exits, AreNamed, Stand, IsHome, AreKnownLocals, AreKnown, IsContext}
 use Rattle.cyc_soundness.specs.inside.Awaited.{IsNew}
 use Rattle.cyc_soundness.proofs.types.TypeLemmas.{all_in_weaker, every_in, read_alike, value_alike}
 use Rattle.cyc_soundness.proofs.types.ValueLemmas.{given_agree}
 
--- ---- what lasts
+-- ---- lifetimes that have not ended
 
 pub lasting_more : (n : ℕ) (ns : List ℕ) (l : Life) → IsLasting ns l → IsLasting (n ∷ ns) l
 lasting_more n ns (OfRegion m ms us) (inl heap) = inl heap
-lasting_more n ns (OfRegion m ms us) (inr end) = inr (behind n ns end)
+lasting_more n ns (OfRegion m ms us) (inr end) = inr (following n ns end)
 lasting_more n ns Owned is = absurd is
 lasting_more n ns (Kept a) is = is
 
@@ -78,13 +78,13 @@ name_open g (Home region ∷ bs) k (is, are) live = name_open g bs k are live
 name_open g (Instance these lives ∷ bs) k (is, are) live = (is k).1 live
 name_open g (Names number l alive ∷ bs) k (is, are) live = open_either g (k == number) l (life_named bs k) alive (is_live_named bs k) is.1 (λ e. name_open g bs k are e) live
 
--- what a live region stands for is open
+-- a live region denotes an open lifetime
 pub there_open : (g : Typing) (bs : List InScope) (r : Region) → AreVariables g bs → IsThere bs r → IsOpenIn g (lives_in bs r)
 there_open g bs regions.Heap are there = λ r e. absurd (let z : false ≡ true = e in cc)
 there_open g bs regions.Unique are there = tt
 there_open g bs (regions.Variable n) are there = name_open g bs n are there
 
--- what a region stands for is known
+-- a region denotes a known lifetime
 pub life_known : (g : Typing) (bs : List InScope) (r : Region) → r ≢ regions.Unique → AreVariables g bs → IsKnownLife g (lives_in bs r)
 life_known g bs regions.Heap plain are = tt
 life_known g bs regions.Unique plain are = absurd (plain refl)
@@ -96,13 +96,13 @@ owner_known g (Kept (KeyOf region)) is = is
 owner_known g (Kept (PointerTo object)) is = tt
 owner_known g Owned is = tt
 
--- also of unique objects
+-- a region denotes a known owner, also for unique objects
 pub region_owner : (g : Typing) (bs : List InScope) (r : Region) → AreVariables g bs → IsKnownOwner g (lives_in bs r)
 region_owner g bs regions.Heap are = tt
 region_owner g bs regions.Unique are = tt
 region_owner g bs (regions.Variable n) are = owner_known g (life_named bs n) (name_known g bs n are)
 
--- what a live region stands for has not ended
+-- a live region denotes a lifetime that has not ended
 pub there_lasting : (ns : List ℕ) (bs : List InScope) (r : Region) → AreLiveIn ns bs → r ≢ regions.Unique → IsThere bs r → IsLasting ns (lives_in bs r)
 there_lasting ns bs regions.Heap are plain there = inl refl
 there_lasting ns bs regions.Unique are plain there = absurd (plain refl)
@@ -114,7 +114,7 @@ lasts_around g ns n (OfRegion m ms us) (inr end) opens = encloses m n ms ns us (
 lasts_around g ns n Owned is opens = absurd is
 lasts_around g ns n (Kept a) is opens = stays a n ns (lent_now g) opens
 
--- ---- names
+-- ---- names of regions
 
 pub other_name : {A : Type 0} (number k : ℕ) (a b : A) → k ≢ number → (if k == number then a else b) ≡ b
 other_name number k a b apart = ap (λ (z : Bool). if z then a else b) (false_from_ne_true (eqb k number) (λ h. apart (eqb-true k number h)))
@@ -127,7 +127,7 @@ known_other n regions.Heap known = tt
 known_other n regions.Unique known = tt
 known_other n (regions.Variable m) less = λ e. (let k : m ≡ n = e in absurd (omega (arith, less, k)))
 
--- another region stands for the same
+-- another region keeps its lifetime
 pub other_life : (number : ℕ) (l : Life) (live : Bool) (bs : List InScope) (r : Region) → IsOther number r → lives_in bs r ≡ lives_in (Names number l live ∷ bs) r
 other_life number l live bs regions.Heap other = refl
 other_life number l live bs regions.Unique other = refl
@@ -138,12 +138,12 @@ other_there number l alive bs regions.Heap other there = tt
 other_there number l alive bs regions.Unique other there = tt
 other_there number l alive bs (regions.Variable n) other there = other_name number n alive (is_live_named bs n) other ∙ there
 
--- ---- a region is opened
+-- ---- opening a region
 
 opened_there : (number : ℕ) (l : Life) (bs : List InScope) (r : Region) → regions.Variable number ≡ r → IsThere (Names number l true ∷ bs) r
 opened_there number l bs r same = subst (λ z. IsThere (Names number l true ∷ bs) z) same (same_name number true (is_live_named bs number))
 
--- what outlives a region that was opened before was live then, and this was opened
+-- a region that outlives an opened one was live at its opening
 at_opening : (live : List Region) (opened : List Scope) (a b : Region) → IsLiveAtOpening live opened a b → Contains (live_regions live opened) a × Contains (live_regions live opened) b
 at_opening live [] a b is = absurd is
 at_opening live (s ∷ earlier) a b (inl (kind, same, plain, has)) =
@@ -151,7 +151,7 @@ at_opening live (s ∷ earlier) a b (inl (kind, same, plain, has)) =
 at_opening live (s ∷ earlier) a b (inr is) =
     let (one, two) = at_opening live earlier a b is in (Contains-tail s.region (live_regions live earlier) a one, Contains-tail s.region (live_regions live earlier) b two)
 
--- where a scope opens, nothing else outlives what is unique
+-- when a scope opens, no other region outlives the unique region
 opened_plain : (kind : Kind) (number : ℕ) (c : RegionContext) → ((a : Region) → IsGiven c a regions.Unique → ⊥) → (a : Region) → IsGiven (with_scope kind (regions.Variable number) c) a regions.Unique → ⊥
 opened_plain kind number c plain a (inl (heap, other)) = other refl
 opened_plain kind number c plain a (inr (inl written)) = plain a (inr (inl written))
@@ -188,7 +188,7 @@ module _ (g : Typing) (kind : Kind) (number region : ℕ) (ns : List ℕ) (c : R
       agrees a b (inr (inr (inr old))) =
           let (one, two) = at_opening c.live c.opened a b old in moved a b (others a one) (others b two) (names.agrees a b (inr (inr old)))
 
--- ---- a name more, where all that is known of stands for the same
+-- ---- one more named region; known regions keep their lifetimes
 
 module _ (number : ℕ) (l : Life) (alive : Bool) (c : RegionContext) (bs : List InScope) (Q : Region → Type 0) (same : (r : Region) → Q r → lives_in bs r ≡ lives_in (Names number l alive ∷ bs) r)
     (still : (r : Region) → Q r → IsThere bs r → IsThere (Names number l alive ∷ bs) r)
@@ -207,7 +207,7 @@ module _ (number : ℕ) (l : Life) (alive : Bool) (c : RegionContext) (bs : List
       agrees a b (inr (inl written)) = let (one, two) = pairs a b written in moved a b one two (names.agrees a b (inr (inl written)))
       agrees a b (inr (inr old)) = let (one, two) = at_opening c.live c.opened a b old in moved a b (others a one) (others b two) (names.agrees a b (inr (inr old)))
 
--- a scope whose region is older than itself
+-- a scope whose region is older than the scope
 pub also_opened : (kind : Kind) (number : ℕ) (c : RegionContext) (these : ℕ → Life) (live : ℕ → Bool) → is_outlived_by_live kind ≡ false → live number ≡ true → AreNamed c these live
     → AreNamed (with_scope kind (regions.Variable number) c) these live
 also_opened kind number c these live older alive names = record { there = there; agrees = agrees; plain = opened_plain kind number c names.plain }
@@ -224,7 +224,7 @@ also_opened kind number c these live older alive names = record { there = there;
     agrees a b (inr (inr (inl (outlived, new, plain, has)))) = absurd (let z : true ≡ false = sym outlived ∙ older in cc)
     agrees a b (inr (inr (inr old))) = names.agrees a b (inr (inr old))
 
--- a region that is named again
+-- a region that is named again keeps its lifetime
 pub again_life : (number : ℕ) (bs : List InScope) (r : Region) → lives_in bs r ≡ lives_in (Names number (life_named bs number) true ∷ bs) r
 again_life number bs regions.Heap = refl
 again_life number bs regions.Unique = refl
@@ -243,7 +243,7 @@ again_there number l bs (regions.Variable n) there = go (n == number)
     go true = refl
     go false = there
 
--- ---- what is known of other regions
+-- ---- facts about other regions
 
 pub in_value : (P Q : Region → Type 0) → ((r : Region) → P r → Q r) → (v : ValueType) → AllInValue P v → AllInValue Q v
 in_value P Q so types.Void all = tt
@@ -266,7 +266,7 @@ pub known_others : (n : ℕ) (vs : List LocalInScope) → AreKnownLocals n vs �
 known_others n [] known = tt
 known_others n (v ∷ vs) ((of_type, region), known) = ((all_in_weaker (IsKnown n) (IsOther n) (known_other n) v.of_type of_type, known_other n (regions.Variable v.region) region), known_others n vs known)
 
--- a scope stays where all that it names stands for the same
+-- a scope stays valid if the regions that it mentions keep their lifetimes
 pub scope_kept : (n : ℕ) (j k : Lives) (vs : List LocalInScope) (bs : List InScope) → ((r : Region) → IsOther n r → j r ≡ k r) → AreOthers n vs → IsScope j vs bs → IsScope k vs bs
 scope_kept n j k vs [] same others is = is
 scope_kept n j k vs (Variable b ∷ bs) same others (rest, (v, vs_are, number, of_type, hidden, homed), is) =
@@ -275,15 +275,15 @@ scope_kept n j k vs (Variable b ∷ bs) same others (rest, (v, vs_are, number, o
     (rest, (v, vs_are, number, kept, hidden, homed ∙ same (regions.Variable v.region) home), scope_kept n j k rest bs same more is)
 scope_kept n j k vs (b ∷ bs) same others (rest, vs_are, is) = (rest, vs_are, scope_kept n j k rest bs same (subst (λ us. AreOthers n us) vs_are others) is)
 
--- ---- more is known
+-- ---- more regions are known
 
 known_locals_more : (n m : ℕ) (vs : List LocalInScope) → n ≤ m → AreKnownLocals n vs → AreKnownLocals m vs
 known_locals_more n m [] most known = tt
 known_locals_more n m (v ∷ vs) most ((of_type, region), known) =
     ((all_in_weaker (IsKnown n) (IsKnown m) (λ r k. known_more n m r most k) v.of_type of_type, (let e : v.region < m = omega (arith, region, most) in e)), known_locals_more n m vs most known)
 
-pub known_behind : (n k : ℕ) (c : RegionContext) (vs : List LocalInScope) (result : Option Ty) → n ≤ k → AreKnown n c vs result → AreKnown k c vs result
-known_behind n k c vs result most known = record {
+pub known_after : (n k : ℕ) (c : RegionContext) (vs : List LocalInScope) (result : Option Ty) → n ≤ k → AreKnown n c vs result → AreKnown k c vs result
+known_after n k c vs result most known = record {
   live = λ r has. known_more n k r most (known.live r has);
   pairs = λ a b has. (known_more n k a most (known.pairs a b has).0, known_more n k b most (known.pairs a b has).1);
   locals = known_locals_more n k vs most known.locals;
@@ -317,7 +317,7 @@ known_local c b t known (declared, live) = record {
   gives = known.gives;
 }
 
--- ---- a region is opened in a context
+-- ---- opening a region in a context
 
 pub known_live : (n : ℕ) (c : RegionContext) (vs : List LocalInScope) (result : Option Ty) → AreKnown n c vs result → (r : Region) → Contains (live_regions c.live c.opened) r → IsOther n r
 known_live n c vs result known r has = known_other n r (known.live r has)
@@ -345,7 +345,7 @@ same_home number region ns us c bs known same live (at_home, there) =
     )
 
 module _ (p : Program) (x : Exits) (bs : List InScope) (c : Context) (stands : IsContext p x bs c) where
-  -- a live region has not ended
+  -- a live region's lifetime has not ended
   pub there_of : (r : Region) → IsLive c r → IsThere bs r
   there_of r live = stands.regions.there r live
 
@@ -371,7 +371,7 @@ module _ (p : Program) (x : Exits) (bs : List InScope) (c : Context) (stands : I
     stand_here kind outlived = stand_opened g kind c.next_region region ns c.regions bs variables outlived live
         (known_live c.next_region c.regions c.locals c.result stands.known) (known_pairs c.next_region c.regions c.locals c.result stands.known) stands.regions
 
-    -- inside a block
+    -- the context inside a block
     pub context_inside : IsContext p x (Home region ∷ here) (in_block c)
     context_inside = record {
       globals = stands.globals;
@@ -388,7 +388,7 @@ module _ (p : Program) (x : Exits) (bs : List InScope) (c : Context) (stands : I
       home = new_home c.next_region region ns (lent_now g) bs;
     }
 
-    -- behind a lexical region
+    -- the context after a lexical region
     pub context_lexical : IsLive c (regions.Variable c.region) → IsContext p x here (with_opened scopes.Lexical c)
     context_lexical alive = record {
       globals = stands.globals;

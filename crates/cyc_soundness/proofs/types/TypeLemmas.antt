@@ -1,4 +1,4 @@
--- Types in two readings, their kinds, and conversions.
+-- Types in their two readings, their kinds, and conversions.
 use Rattle.std.proofs.Common.{◌≡◌, ◌⊎◌, inl, inr, true, List, [], ◌∷◌, map, Option, Some, None, refl, sym, ap, subst, ◌∙◌}
 use Rattle.std.specs.Prelude.{option_map}
 use Rattle.cyc_syntax.specs.declared.tree.PointerKind.{PointerKind}
@@ -36,7 +36,7 @@ mark_kinds marks.Nullable = refl
 mark_kinds marks.NonNull = refl
 mark_kinds marks.Fat = refl
 
--- a kind does not depend on what regions stand for
+-- a kind does not depend on lifetimes
 pub kind_read : (n : Lives) (t : Ty) → kind_at (at n t) ≡ tests.kind_of t
 kind_read n types.Int = refl
 kind_read n types.Char = refl
@@ -53,7 +53,7 @@ kind_meant n (types.Handle r) = refl
 kind_meant n (types.Key r) = refl
 kind_meant n (types.Struct s rs) = refl
 
--- ---- which regions a type names
+-- ---- the regions that a type mentions
 
 all_of : (P Q : Region → Type 0) → ((r : Region) → P r → Q r) → (rs : List Region) → AllOf P rs → AllOf Q rs
 all_of P Q so [] all = tt
@@ -83,7 +83,7 @@ same_of : (m n : Lives) (rs : List Region) → AllOf (λ r. m r ≡ n r) rs → 
 same_of m n [] same = refl
 same_of m n (r ∷ rs) (one, same) = ap (λ l. l ∷ map m rs) one ∙ ap (λ ls. n r ∷ ls) (same_of m n rs same)
 
--- a type is read alike where the regions that it names stand for the same
+-- a type is read equally under lifetimes that agree on its regions
 pub read_alike : (m n : Lives) (t : Ty) → AllIn (λ r. m r ≡ n r) t → at m t ≡ at n t
 read_alike m n types.Int same = refl
 read_alike m n types.Char same = refl
@@ -97,9 +97,9 @@ value_alike m n types.Void same = refl
 value_alike m n types.Null same = refl
 value_alike m n (types.Value t) same = ap Value (read_alike m n t same)
 
--- ---- instances
+-- ---- instantiation
 
--- what the regions of a callee, or of a struct, stand for where these are put in their place
+-- the lifetimes of a callee's or a struct's regions, given the regions that instantiate them
 abbrev pub lives_by : Lives → List Region → Lives
 lives_by n m r = n (substituted_region m r)
 
@@ -107,7 +107,7 @@ regions_by : (n : Lives) (m rs : List Region) → map n (map (substituted_region
 regions_by n m [] = refl
 regions_by n m (r ∷ rs) = ap (λ ls. lives_by n m r ∷ ls) (regions_by n m rs)
 
--- the regions of an instance stand for what those that are put in their place stand for
+-- reading an instantiated type is reading the type under the instantiated lifetimes
 pub instance_by : (n : Lives) (m : List Region) (t : Ty) → at n (substituted_ty m t) ≡ at (lives_by n m) t
 instance_by n m types.Int = refl
 instance_by n m types.Char = refl
@@ -148,12 +148,12 @@ well_type c (Assign l d u) t (v, r, place, converted, gives_u, same) = same
 well_type c (Store d e u) t (v, r, cell, converted, gives_u, same) = same
 well_type c (New w i u) t (k, v, r, placement, made, u_is, same) = same
 
--- a peek too
+-- the type of a tree that may be a peek
 seen_type : (c : Context) (a : Expression) (t : ValueType) → WellTyped c a t ⊎ IsPeek c a t → t ≡ type_of a
 seen_type c a t (inl well) = well_type c a t well
 seen_type c (Peek p n u) t (inr (variable, unique, same)) = same
 seen_type c a t (inr is) = absurd is
 
--- what the tree of a value says that it leads to
+-- the target that the tree of a value states
 pub target_typed : (c : Context) (a : Expression) (t : ValueType) → WellTyped c a t ⊎ IsPeek c a t → target_by a ≡ target_of_value t
 target_typed c a t is = ap target_of_value (sym (seen_type c a t is))

@@ -1,4 +1,5 @@
--- WHAT IS AWAITED: the values and places that entries of the control stack wait for, the operands that wait in them, and what goes on then.
+-- AWAITED VALUES: the values and places that entries of the control stack wait for, the operands stored in the entries, and the
+-- continuation after them.
 use Rattle.std.specs.Prelude.{◌≡◌, ◌≢◌, ◌⊎◌, ℕ, suc, ◌+◌, ◌<◌, ◌≤◌, Bool, true, false, List, [], ◌∷◌, length, map, Option, Some, None, slice_get}
 use Rattle.cyc_syntax.specs.declared.tree.PointerKind.{PointerKind}
 use Rattle.cyc_syntax.specs.declared.tree.PointerKind.TheVariants as marks
@@ -35,19 +36,19 @@ use Rattle.cyc_soundness.specs.inside.Frames.{IsAmong, Bound, InScope, Variable,
 use Rattle.cyc_soundness.specs.inside.Judgements.{seen_by, Evaluates, EvaluatesWhole, Computes, Passes, Makes, Finds, Executes, Continues}
 
 pub data Want : Type 0 where
-  -- nothing: the run is over
+  -- nothing is awaited: the run is over
   Nothing : Want
-  -- a value, or nothing where no value is used, and this is known
+  -- a value of this type (or none, if no value is used) is awaited, with this flow state after it
   Val : RunValue → flow.State → Want
-  -- a place of this type, which is there so long, behind what is looked at in this local, or else in hand
+  -- a place of this type and lifetime is awaited, reached through a peek of this local, or else by an operand on the stack
   PlaceOf : (peek : Option ℕ) → RunTy → Life → flow.State → Want
-  -- the end of a statement
+  -- the end of a statement is awaited
   Go : flow.State → Want
 
 abbrev pub place_operand : values.Value → Operand
 place_operand place = record { kind = kinds.NonNull; value = place }
 
--- the operands that wait in an entry
+-- the operands stored in an entry that waits for a value
 abbrev pub held : Awaiting → List Operand
 held (Apply operator left) = left ∷ []
 held (ApplyPointer peek operator left) = left ∷ []
@@ -57,18 +58,18 @@ held (Advance peek target base) = base ∷ []
 held (MakeFields owner before rest) = before
 held a = []
 
--- how many that is: the pointer to an array that is being made is one
+-- the number of stored operands; the pointer to an array under construction counts as one
 abbrev pub count_held : Awaiting → ℕ
 count_held (FillElement object count index level kind element) = 1
 count_held a = length (held a)
 
--- the left place of a swap is one, too
+-- the number of operands of an entry that waits for a place; the left place of a swap counts as one
 abbrev pub count_place : AwaitingPlace → ℕ
 count_place (SwapRight kind peek is_cell left) = 1
 count_place a = 0
 
--- How what waits in an entry stands to what is around: an expression begins under it, or is a part of one that goes on behind it; and
--- the local that was looked at, where the value is still to be used.
+-- The relation of an entry to its surroundings: the awaited expression is a whole one, or it is a part of a larger expression. The record
+-- also names the local with a pending peek, if any.
 pub data Part : Type 0 where
   Whole : (peek : Option ℕ) → Part
   PartOf : (peek : Option ℕ) → Part
@@ -95,29 +96,29 @@ abbrev pub relied_by : Part → (around now : Relied) → Relied
 relied_by (Whole peek) around now = and_looked peek around
 relied_by (PartOf peek) around now = and_looked peek now
 
--- What is relied on above this stack, where clauses rely on the first: what was looked at, and is still to be used, stays as it is.
+-- The flow states relied on above this stack, given those that clauses rely on: a local with a pending peek must not change.
 abbrev pub relied_at : Relied → List Entry → Relied
 relied_at q [] = q
 relied_at q (Needs a ∷ stack) = relied_by (part a) q (relied_at q stack)
 relied_at q (NeedsPlace a ∷ stack) = relied_by (part_of_place a) q (relied_at q stack)
 relied_at q (entry ∷ stack) = q
 
--- these operands, the newest first, and then those of the second list
+-- the operands of the first list, newest first, reversed onto the second list
 abbrev pub turned : {A : Type 0} → List A → List A → List A
 turned [] rest = rest
 turned (a ∷ before) rest = turned before (a ∷ rest)
 
--- what is live and what outlives what when a function begins, before its own region is open
+-- the live regions and constraints at the start of a function, before its own region is open
 abbrev pub regions_at_call : Function → RegionContext
 regions_at_call h = record { written = h.constraints; live = regions.Heap ∷ regions.Unique ∷ h.effect; opened = [] }
 
--- What the region variables of a callee stand for, and which of that is live there, is so here.
+-- The callee's region variables denote lifetimes of the caller's regions, and those that are live in the callee are live in the caller.
 pub record IsInstance (bs : List InScope) (h : Function) (these : ℕ → Life) (live : ℕ → Bool) : Type 0 where
   pub stand : Stand (regions_at_call h) (Instance these live ∷ [])
   pub lasting : (n : ℕ) → live n ≡ true → (r : Region) × (r ≢ regions.Unique) × IsThere bs r × (lives_in bs r ≡ these n)
   pub named : (n : ℕ) → (r : Region) × (r ≢ regions.Unique) × (lives_in bs r ≡ these n)
 
--- a call with arguments of these types gives this
+-- a call of this callee with arguments of these types returns a value of this type
 abbrev pub IsCalled : Program → List InScope → Callee → List RunTy → RunValue → Type 0
 IsCalled p bs callees.Putchar ts r = (ts ≡ lives.Int ∷ []) × (r ≡ Value lives.Int)
 IsCalled p bs callees.Getchar ts r = (ts ≡ []) × (r ≡ Value lives.Int)
@@ -125,7 +126,7 @@ IsCalled p bs (callees.Function number) ts r =
     (h : Function) × (these : ℕ → Life) × (live : ℕ → Bool) × (slice_get p.functions number ≡ Some h) × IsInstance bs h these live
     × (ts ≡ map (at (lives_of these)) h.parameters) × (r ≡ value_at (lives_of these) (result_type h.result))
 
--- these are the types of the fields of a struct whose parameters stand for this, and no key is among them
+-- these are the field types of a struct with these lifetimes as parameters, and no field type is a key
 abbrev pub AreFields : Program → (struct : ℕ) → List Life → List RunTy → Type 0
 AreFields p n ls ts = (s : StructType) × (slice_get p.structs n ≡ Some s) × (length ls ≡ s.parameters) × (ts ≡ map (at (lives_among ls)) s.fields) × AreKeyless ts
 
@@ -136,11 +137,11 @@ IsNew c t = IsDeclarable c.next_region t × IsLive c (regions.Variable c.region)
 abbrev pub null : Operand
 null = record { kind = kinds.Nullable; value = values.Null }
 
--- in the body of this loop
+-- the exits inside the body of this loop
 abbrev pub inside : Exits → LoopExit → Exits
 inside x l = record x { loop = Some l; locks = [] }
 
--- A loop, whose condition has a value of this type and leaves this known; behind the loop it is this.
+-- A well-typed loop: the condition has a value of this type and leads to the state `f`; after the loop the state is `exit`.
 pub record IsLoop (p : Program) (x : Exits) (bs : List InScope) (l : LoopExit) (condition : Expression) (body : Statement) (v : ValueType) (f exit : flow.State) : Type 0 where
   pub context : Context
   pub now : flow.State
@@ -152,7 +153,7 @@ pub record IsLoop (p : Program) (x : Exits) (bs : List InScope) (l : LoopExit) (
   pub fails : Implies f exit
   pub left : Implies l.breaks exit
 
--- The elements of an array, of this type: each leaves known what was known before it.
+-- The elements of an array of this type: evaluating one element leaves at least the state before it.
 pub record Repeats (q : Relied) (c : Context) (level : ℕ) (kind : Kind) (element : Expression) (t : Ty) (f : flow.State) : Type 0 where
   pub now : flow.State
   pub level_is : level ≡ c.counters
@@ -162,36 +163,37 @@ pub record Repeats (q : Relied) (c : Context) (level : ℕ) (kind : Kind) (eleme
   pub back : Implies now f
   pub plain : is_key t ≡ false
 
--- nothing but what is unique becomes unique
+-- a region that outlives a unique lifetime also denotes a unique lifetime
 abbrev pub KeepsUnique : RegionContext → (Region → Life) → Type 0
 KeepsUnique c n = (a b : Region) → OutlivesIn c a b → n b ≡ Owned → n a ≡ Owned
 
--- nothing that only one may have is given
+-- the value is not a resource that has a single holder
 abbrev pub IsPlainValue : RunValue → Type 0
 IsPlainValue (Value t) = IsPlain t
 IsPlainValue r = Unit {0}
 
--- What is left of a chain may stand behind a peek of this local where it is looked at.
+-- The remaining operators of a chain may follow a peek of this local only if the next operator only looks at the operand.
 abbrev pub IsChained : Option ℕ → RunValue → Operations → Type 0
 IsChained peek r (ThenTest o a os) = Unit {0}
 IsChained peek r (ThenPointerPeek n o a os) = (peek ≡ Some n) ⊎ ((peek ≡ None) × IsPlainValue r)
 IsChained peek r os = peek ≡ None
 
--- a pointer through which a place is reached, of this type
+-- a pointer of this type through which a place is reached
 abbrev pub IsThrough : Option ℕ → RunTy → RunValue → Type 0
 IsThrough peek t r = (r ≡ looked peek (Value t)) ⊎ (r ≡ Into peek t)
 
--- nobody else has what has this life
+-- the lifetime is not that of a unique object, so others may share it
 abbrev pub IsCommonLife : Life → Type 0
 IsCommonLife Owned = ⊥
 IsCommonLife l = Unit {0}
 
--- what values of this type claim, their type tells
+-- the type alone determines whether a value claims a resource: it is not a unique pointer
 abbrev pub IsByType : RunTy → Type 0
 IsByType (lives.Pointer k t l) = IsCommonLife l
 IsByType t = Unit {0}
 
--- What waits for a value: with the types of the operands that wait in it, what it awaits, and what goes on then, in which scope.
+-- The typing of an entry that waits for a value. The typing consists of the types of the entry's stored operands, the awaited value, the
+-- value with which the run continues, and the scope.
 pub data Waits (p : Program) (x : Exits) (q : Relied) (bs : List InScope) : Awaiting → List RunTy → RunValue → flow.State → List InScope → Want → Type 0 where
   converts : {from to : Kind} {target : Option Kind} (c : Context) (v : ValueType) (t : Ty) (f : flow.State) → AgreesWith c.regions (lives_in bs) → KeepsUnique c.regions (lives_in bs) → Converts c v t → from ≡ kind_of_value v → to ≡ kind_of t → target ≡ target_of_value v
       → Waits p x q bs (ConvertTo from to target) [] (read_value bs v) f bs (Val (Value (read bs t)) f)
@@ -260,7 +262,7 @@ pub data Waits (p : Program) (x : Exits) (q : Relied) (bs : List InScope) : Awai
       → Continues (lending x lent) (with_local true t (with_opened scopes.Alias c)) js (with_fullness Full (with_fullness Locked f lent) number) h
       → Implies (with_fullness Full h lent) i → Waits p x q bs (AliasOf number lent js) [] (Seen b.object (read bs u)) f cs (Go i)
 
--- what waits for a place, of this type and there so long, and what goes on then
+-- the typing of an entry that waits for a place of this type and lifetime, with the continuation after it
 pub data WaitsPlace (p : Program) (x : Exits) (q : Relied) (bs : List InScope) : AwaitingPlace → Option ℕ → RunTy → Life → flow.State → Want → Type 0 where
   loads_from : {kind : Kind} (peek : Option ℕ) (t : Ty) (r : Region) (f : flow.State) → IsThere bs r → IsByType (read bs t) → is_struct t ≡ false → kind ≡ values.kind_of t
       → WaitsPlace p x q bs (LoadFrom kind) peek (read bs t) (lives_in bs r) f (Val (Value (read bs t)) f)
@@ -274,46 +276,45 @@ pub data WaitsPlace (p : Program) (x : Exits) (q : Relied) (bs : List InScope) :
 
 -- ---- arrays
 
--- the cells of an object that is there so long have this type from the first on, so many of them, and up to the second number they hold
--- something
+-- the first `count` cells of the object have this type, and the first `index` cells hold a value; the object has this lifetime
 abbrev pub IsArray : Typing → RunTy → Life → (object count index : ℕ) → Type 0
 IsArray g t l object count index =
     (y : ObjectType) × (slice_get g.objects object ≡ Some y) × (y.is_hidden ≡ false) × (y.life ≡ l)
     × ((i : ℕ) → i < count → slice_get y.cells i ≡ Some t) × IsFilled g object index × (index ≤ count)
 
--- the pointer to it is in hand
+-- an array under construction whose pointer is held by an operand on the stack
 abbrev pub IsArrayOf : Typing → (hand : ℕ) → List RunTy → (object count index : ℕ) → Type 0
 IsArrayOf g i (lives.Pointer m t l ∷ []) object count index = (index < count) × IsArray g t l object count index × Owns g.own (Hand i) (pointer_at l object)
 IsArrayOf g i ts object count index = ⊥
 
--- operands on the stack, the newest first, above so many others
+-- operands stored on the stack (newest first), above this many others, claim their resources
 abbrev pub AreClaimed : (own : Thing → Holder) → (below : ℕ) → List RunTy → List Operand → Type 0
 AreClaimed own i (t ∷ ts) (v ∷ vs) = Claims own (Hand (i + length ts)) t v.value × AreClaimed own i ts vs
 AreClaimed own i ts vs = Unit {0}
 
--- and in order, from this one on
+-- arguments in order, from this position on, claim their resources
 abbrev pub AreGiven : (own : Thing → Holder) → (place : ℕ) → List RunTy → List Operand → Type 0
 AreGiven own i (t ∷ ts) (v ∷ vs) = Claims own (Hand i) t v.value × AreGiven own (suc i) ts vs
 AreGiven own i ts vs = Unit {0}
 
--- one operand, of which no more is needed than what it leads into
+-- a single operand, which only has to claim the resource that it points into
 abbrev pub IsHeldPart : Typing → (hand : ℕ) → (peek : Option ℕ) → List RunTy → Operand → Type 0
 IsHeldPart g i peek [] v = Unit {0}
 IsHeldPart g i peek (t ∷ ts) v = ClaimsPart g i peek (thing_of t v.value)
 
--- how many operands wait on a stack
+-- the number of operands stored on a stack
 abbrev pub operands_in : List Entry → ℕ
 operands_in [] = 0
 operands_in (Needs a ∷ stack) = count_held a + operands_in stack
 operands_in (NeedsPlace a ∷ stack) = count_place a + operands_in stack
 operands_in (entry ∷ stack) = operands_in stack
 
--- a value that comes to this stack
+-- the value passed to this stack claims its resource, as the newest operand
 abbrev pub Comes : Typing → RunValue → Operand → List Entry → Type 0
 Comes g r v stack = ClaimsBy g (operands_in stack) r v.value
 
--- The operands that wait in an entry, above so many others, are of these types, and this is the type of the pointer to an array that is
--- being made.
+-- The operands stored in an entry, above this many others, have these types. For an array under construction, this is the type of the
+-- pointer to it.
 abbrev pub Keeps : Typing → (below : ℕ) → Awaiting → List RunTy → Type 0
 Keeps g i (FillElement object count index level kind element) ts = IsArrayOf g i ts object count index
 Keeps g i (ApplyPointer peek operator left) ts = AreOperands g ts (left ∷ []) × IsHeldPart g i peek ts left
@@ -324,7 +325,7 @@ Keeps g i a (t ∷ ts) = AreOperands g (t ∷ ts) (held a) × AreClaimed g.own i
 
 -- ---- swaps
 
--- A side of a swap whose place is found: a variable that is full where this is known, or a cell that a pointer leads to.
+-- A side of a swap whose place is known: a variable that is full in this state, or a cell that a pointer leads to.
 pub data IsSpot (p : Program) (g : Typing) (bs : List InScope) (t : Ty) (f : flow.State) : values.Value → Type 0 where
   of_local : (b : Bound) → IsAmong (Variable b) bs → b.of_type ≡ read bs t → IsFullIn f b.number → IsSpot p g bs t f (values.Thin b.object 0)
   of_global : (number : ℕ) → slice_get (map (λ (v : GlobalVariable). v.of_type) p.globals) number ≡ Some t → read bs t ≡ at as_heap t
@@ -332,37 +333,39 @@ pub data IsSpot (p : Program) (g : Typing) (bs : List InScope) (t : Ty) (f : flo
   of_cell : (place : values.Value) (r : Region) → IsThere bs r → HasType g (lives.Pointer marks.NonNull (read bs t) (lives_in bs r)) place → IsHad g (thing_of (lives.Pointer marks.NonNull (read bs t) (lives_in bs r)) place)
       → IsSpot p g bs t f place
 
--- The left place of a swap that waits for the right one, of this type: a variable's, or a cell behind what is looked at, or in hand.
+-- The left place of a swap that waits for the right one. The left place is a variable, or a cell that is reached through a peek or by a
+-- stored operand.
 pub data IsLeftSpot (p : Program) (g : Typing) (hand : ℕ) (peek : Option ℕ) (bs : List InScope) (t : Ty) (f : flow.State) : values.Value → Type 0 where
   left_variable : (place : values.Value) → ((h : Typing) → IsSpot p h bs t f place) → IsLeftSpot p g hand peek bs t f place
   left_cell : (place : values.Value) (r : Region) → IsThere bs r → HasType g (lives.Pointer marks.NonNull (read bs t) (lives_in bs r)) place
       → ClaimsPart g hand peek (thing_of (lives.Pointer marks.NonNull (read bs t) (lives_in bs r)) place) → IsLeftSpot p g hand peek bs t f place
 
--- the left place of a swap that waits for the right one, of this type
+-- the left place stored in a swap that waits for the right place; both have this type
 abbrev pub KeepsPlace : Program → Typing → (hand : ℕ) → List InScope → AwaitingPlace → RunTy → flow.State → Type 0
 KeepsPlace p g i bs (SwapRight kind peek is_cell left) r f = (t : Ty) × (r ≡ read bs t) × (is_struct t ≡ false) × IsLeftSpot p g i peek bs t f left
 KeepsPlace p g i bs a r f = Unit {0}
 
--- a value is that of this cell
+-- the value claims its resource as the content of this cell
 abbrev pub ClaimsAt : (own : Thing → Holder) → (place : values.Value) → RunTy → values.Value → Type 0
 ClaimsAt own (values.Thin object offset) t v = Claims own (At object offset) t v
 ClaimsAt own place t v = ⊥
 
--- what was read of the left side, and is still there
+-- the value read from the left side of a swap, if any, is still that cell's content
 abbrev pub IsRead : Typing → (left : values.Value) → RunTy → Option Operand → Type 0
 IsRead g left t None = Unit {0}
 IsRead g left t (Some v) = IsResult g (Value t) v × ClaimsAt g.own left t v.value
 
--- a place that gets a value of its type
+-- a write of a value of the place's type
 abbrev pub IsWrite : Program → Typing → List InScope → flow.State → Ty → Write → Type 0
 IsWrite p g bs f t w = (is_struct t ≡ false) × IsSpot p g bs t f w.place × IsResult g (Value (read bs t)) w.operand
 
--- a swap awaits its second write, to this place
+-- a swap still has to perform its second write, to this place
 abbrev pub IsAwaited : Typing → (place : values.Value) → Type 0
 IsAwaited g (values.Thin object offset) = g.pending ≡ Awaits object offset
 IsAwaited g place = ⊥
 
--- Each of two places gets what the other one has; then what the left one had is in hand, and the right one, which awaits it, has nothing.
+-- The two writes of a swap. After the first write, the old value of the left place is held by the pending operand, and the right place
+-- awaits its value.
 abbrev pub AreSwapped : Program → Typing → (hand : ℕ) → List InScope → flow.State → List Write → Type 0
 AreSwapped p g i bs f [] = g.pending ≡ Settled
 AreSwapped p g i bs f (w ∷ []) = (t : Ty) × IsWrite p g bs f t w × IsAwaited g w.place × Claims g.own (Hand i) (read bs t) w.operand.value

@@ -1,4 +1,4 @@
--- THE CLASS OF PROGRAMS that the proof speaks of: a predicate on typed trees. What the typing rules derive from a text is in it.
+-- THE CLASS OF PROGRAMS that the proof covers: a predicate on typed trees. The trees that the typing rules derive from texts are in it.
 use Rattle.std.specs.Prelude.{◌≡◌, ℕ, zero, suc, ◌+◌, Bool, true, false, List, [], ◌∷◌, Option, Some, None, get_or, ◌&&◌, ◌||◌}
 use Rattle.cyc_types.specs.Types.{Ty, ValueType, Void}
 use Rattle.cyc_types.specs.Declarations.{declared_regions, item_regions}
@@ -11,20 +11,20 @@ use Rattle.cyc_types.specs.flow.States as flow
 use Rattle.cyc_types.specs.flow.States.{Fullness, Vacant, Full, Unreached, Reached}
 use Rattle.cyc_soundness.specs.inside.Lives.{AllIn, IsKnown}
 
--- a type names only regions with a number below this one
+-- a type mentions only regions with numbers below this one
 abbrev pub IsDeclarable : ℕ → Ty → Type 0
 IsDeclarable n t = AllIn (IsKnown n) t
 
--- What is known where the clauses begin of each `try` around: they rely on it.
+-- The states at the starts of the clauses of each enclosing `try`, on which the clauses rely.
 abbrev pub Relied : Type 0
 Relied = List flow.State
 
--- whether a local holds a value that is not lent
+-- true if a local holds a value that is not lent
 abbrev pub is_full : Fullness → Bool
 is_full Full = true
 is_full a = false
 
--- a local does not have to be full there
+-- the state does not rely on this local being full
 abbrev pub IsSparedBy : flow.State → ℕ → Type 0
 IsSparedBy Unreached n = Unit {0}
 IsSparedBy (Reached as') n = is_full (get_or as' n Vacant) ≡ false
@@ -33,24 +33,24 @@ abbrev pub IsSpared : Relied → ℕ → Type 0
 IsSpared [] n = Unit {0}
 IsSpared (f ∷ q) n = IsSparedBy f n × IsSpared q n
 
--- a local of this number is full, and of others nothing is known
+-- the state in which only this local is known to be full
 abbrev pub only : ℕ → List Fullness
 only zero = Full ∷ []
 only (suc n) = Vacant ∷ only n
 
--- also where what this local holds was looked at, and is still to be used
+-- the states relied on, extended by a local with a pending peek
 abbrev pub and_looked : Option ℕ → Relied → Relied
 and_looked None q = q
 and_looked (Some n) q = Reached (only n) ∷ q
 
--- nor does one that is assigned what only one may have
+-- no state relies on a local to which a unique pointer or key is assigned
 abbrev pub SparesAssigned : Relied → Lvalue → ValueType → Type 0
 SparesAssigned q (Local p n) Void = IsSpared q n
 SparesAssigned q l t = Unit {0}
 
--- ---- code that is never run
+-- ---- unreachable code
 
--- control may come to what is behind
+-- control may reach the end of the statement
 abbrev mutual
   pub may_end : Statement → Bool
   may_end (Block r js) = items_may_end js
@@ -79,16 +79,16 @@ abbrev mutual
   clauses_may_end (Default r js) = items_may_end js
   clauses_may_end (Case e v r js cs) = items_may_end js || clauses_may_end cs
 
--- this is asked where code may be run
+-- the demand applies only to code that may be run
 abbrev pub Asked : (run : Bool) → Type 0 → Type 0
 Asked false A = Unit {0}
 Asked true A = A
 
 -- ---- the class
 
--- All forms of the language are in the class. What is consumed or lent, or assigned what only one may have, is nothing that the clauses
--- around rely on: at the start of a function there are none, and of the body of a `try` that is shown. Of code that is never run nothing
--- is asked.
+-- All forms of the language are in the class. Enclosing clauses do not rely on a local that is consumed, lent, or assigned a value with a
+-- single owner. At the start of a function there are no clauses, and for the body of a `try` the condition is proved. At unreachable code,
+-- the condition demands nothing.
 abbrev mutual
   pub InExpression : Relied → Expression → Type 0
   InExpression q (Number n) = Unit {0}
@@ -152,7 +152,7 @@ abbrev pub InSide : Relied → Side → Type 0
 InSide q (VariableSide l t) = Unit {0}
 InSide q (CellSide d) = InPlace q d
 
--- Statements where the next region gets this number: the types of locals name only regions that are declared before them.
+-- Statements in which the next region has this number: the types of locals mention only regions declared before them.
 abbrev mutual
   pub InStatement : Relied → ℕ → Statement → Type 0
   InStatement q n (Block r js) = InItems q (suc n) js
@@ -185,12 +185,12 @@ abbrev pub InFunctions : List Function → Type 0
 InFunctions [] = Unit {0}
 InFunctions (h ∷ hs) = InItems [] (suc h.variables) h.body × InFunctions hs
 
--- the types of globals name no region variable
+-- the types of globals mention no region variable
 abbrev pub InGlobals : List GlobalVariable → Type 0
 InGlobals [] = Unit {0}
 InGlobals (v ∷ vs) = IsDeclarable 0 v.of_type × InGlobals vs
 
--- the types of fields name only the parameters of their struct, and none is a key
+-- the types of fields mention only their struct's parameters, and none is a key
 abbrev pub InFields : ℕ → List Ty → Type 0
 InFields n [] = Unit {0}
 InFields n (t ∷ ts) = IsDeclarable n t × (is_key t ≡ false) × InFields n ts
@@ -199,6 +199,6 @@ abbrev pub InStructs : List StructType → Type 0
 InStructs [] = Unit {0}
 InStructs (s ∷ ss) = InFields s.parameters s.fields × InStructs ss
 
--- programs of the class
+-- the programs of the class
 abbrev pub IsInClass : Program → Type 0
 IsInClass p = InFunctions p.functions × InGlobals p.globals × InStructs p.structs

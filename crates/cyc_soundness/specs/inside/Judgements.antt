@@ -1,4 +1,4 @@
--- TYPED TREES, with what is known before and behind them: on the control stack each keeps its judgements, types and flow in one.
+-- TYPED TREES with their flow states before and after: each entry of the control stack stores both its typing and its flow judgement.
 use Rattle.std.specs.Prelude.{◌≡◌, ◌⊎◌, ℕ, suc, true, false, List, [], Option, Some, None}
 use mathlib.Core.Logic.{inl, inr}
 use Rattle.cyc_syntax.specs.declared.tree.PointerKind.{PointerKind}
@@ -15,19 +15,19 @@ use Rattle.cyc_types.specs.flow.Programs.{start_of, in_function}
 use Rattle.cyc_soundness.specs.inside.Classes.{Relied, InExpression, InPlace, InSide, InInitial, InArguments, InOperations, InStatement, InItems, InClauses}
 use Rattle.cyc_soundness.specs.inside.Frames.{Implies, Exits, around, AreBreaks}
 
--- the local that an expression only looks at, if it is a peek
+-- the local that an expression peeks at, if it is a peek
 abbrev pub seen_by : {A B : Type 0} → Expression → A ⊎ B → Option ℕ
 seen_by a (inl well) = None
 seen_by a (inr peek) = peek_of a
 
--- an expression, which may be a peek
+-- the judgement of an expression, which may be a peek
 pub record Evaluates (q : Relied) (c : Context) (a : Expression) (f : flow.State) (t : ValueType) (h : flow.State) : Type 0 where
   pub waiting : List ℕ
   pub typed : WellTyped c a t ⊎ IsPeek c a t
   pub flows : Derives (rule waiting a f) h
   pub kept : InExpression q a
 
--- one whose value is taken
+-- the judgement of an expression whose value is used, not only peeked at
 abbrev pub EvaluatesWhole : Relied → Context → Expression → flow.State → ValueType → flow.State → Type 0
 EvaluatesWhole q c a f t h = (evaluates : Evaluates q c a f t h) × (seen_by a evaluates.typed ≡ None)
 
@@ -43,21 +43,21 @@ pub record Passes (q : Relied) (c : Context) (ts : List Ty) (as' : Arguments) (f
   pub flows : Derives (rule_arguments waiting as' f) h
   pub kept : InArguments q as'
 
--- a place that a pointer into this region leads to, of this type
+-- the judgement of a place of this type, reached by a pointer into this region
 pub record Locates (q : Relied) (c : Context) (d : Dereference) (f : flow.State) (t : Ty) (r : Region) (h : flow.State) : Type 0 where
   pub waiting : List ℕ
   pub typed : IsCell c d t r
   pub flows : Derives (rule_place waiting d f) h
   pub kept : InPlace q d
 
--- what a new object holds, of this type, to which the pointer has this mark
+-- the judgement of the initial contents of an object of this type, whose pointer has this mark
 pub record Makes (q : Relied) (c : Context) (i : Initial) (k : PointerKind) (t : Ty) (f h : flow.State) : Type 0 where
   pub waiting : List ℕ
   pub typed : IsMade c i k t
   pub flows : Derives (rule_initial waiting i f) h
   pub kept : InInitial q i
 
--- a side of a swap, of this type; what is known is what is known once both places are found
+-- the judgement of a side of a swap of this type; the resulting state is that after both places were evaluated
 pub record Finds (q : Relied) (c : Context) (y : Side) (f : flow.State) (t : Ty) (h : flow.State) : Type 0 where
   pub waiting : List ℕ
   pub typed : IsSide c y t
@@ -65,36 +65,36 @@ pub record Finds (q : Relied) (c : Context) (y : Side) (f : flow.State) (t : Ty)
   pub used : AllKept (side_demanded waiting y h)
   pub kept : InSide q y
 
--- behind a statement this is known, which is what the breaks in it leave to the loop around
+-- the judgement of a statement, with the state after it and the state at its breaks
 pub record Executes (x : Exits) (c : Context) (s : Statement) (f h : flow.State) : Type 0 where
   pub before : flow.State
-  pub behind : flow.State
+  pub following : flow.State
   pub typed : WellTypedStatement c s
-  pub flows : Derives (rule_statement (around x) s (record { now = f; breaks = before })) (record { now = h; breaks = behind })
-  pub breaks : AreBreaks x.loop behind
+  pub flows : Derives (rule_statement (around x) s (record { now = f; breaks = before })) (record { now = h; breaks = following })
+  pub breaks : AreBreaks x.loop following
   pub kept : InStatement x.relied c.next_region s
 
--- what is left of a block: at its end, what these items have locked is full again
+-- the judgement of the rest of a block; at its end, the locals that these items have locked are full again
 pub record Continues (x : Exits) (c : Context) (js : Items) (f h : flow.State) : Type 0 where
   pub before : flow.State
-  pub behind : flow.State
+  pub following : flow.State
   pub ending : flow.State
   pub typed : WellTypedItems c js
-  pub flows : Derives (rule_items (around x) js (record { now = f; breaks = before })) (record { now = ending; breaks = behind })
-  pub breaks : AreBreaks x.loop behind
+  pub flows : Derives (rule_items (around x) js (record { now = f; breaks = before })) (record { now = ending; breaks = following })
+  pub breaks : AreBreaks x.loop following
   pub kept : is_reached f ≡ true → InItems x.relied c.next_region js
   pub ends : Implies (with_each Full (locks_of js) ending) h
 
--- clauses that begin with this known
+-- the judgement of clauses that begin with this state
 pub record Catches (x : Exits) (c : Context) (start : flow.State) (cs : Clauses) (f h : flow.State) : Type 0 where
   pub before : flow.State
-  pub behind : flow.State
+  pub following : flow.State
   pub typed : WellTypedClauses c cs
-  pub flows : Derives (rule_clauses (around x) start cs (record { now = f; breaks = before })) (record { now = h; breaks = behind })
-  pub breaks : AreBreaks x.loop behind
+  pub flows : Derives (rule_clauses (around x) start cs (record { now = f; breaks = before })) (record { now = h; breaks = following })
+  pub breaks : AreBreaks x.loop following
   pub kept : InClauses x.relied c.next_region cs
 
--- a function that is accepted, behind whose body this is known
+-- a function that the rules accept, with the state after its body
 pub record IsAccepted (p : Program) (h : Function) (end : flow.State) : Type 0 where
   pub typed : IsWellTypedFunction p h
   pub breaks : flow.State

@@ -1,6 +1,6 @@
--- TYPES AS A RUN READS THEM. Trees name regions, which mean something in their function alone. States speak of lives: the region of a
--- number, or a unique object. A type of a tree becomes one of a state by what each region of its function stands for. (One language of
--- types in two readings is this project's own choice.)
+-- TYPES AT RUN TIME. Regions in trees have a meaning only in their function. States use lifetimes instead: the region of a number, or a
+-- unique object. A type of a tree becomes a run-time type when each of its regions is replaced by the lifetime that it denotes. (One
+-- language of types in two readings is this project's own choice.)
 use Rattle.std.specs.Prelude.{◌≢◌, ℕ, Bool, false, List, [], map, Option, Some, None}
 use Rattle.cyc_syntax.specs.declared.tree.PointerKind.{PointerKind}
 use Rattle.cyc_types.specs.declared.region.Region.{Region}
@@ -12,18 +12,19 @@ use Rattle.cyc_types.specs.Types as types
 pub use Rattle.cyc_types.specs.inside.typing.Formed.{AllOf, AllIn, IsKnown}
 use Rattle.cyc_meaning.specs.Values.{kind_of_mark}
 
--- what only one may have: the key of a dynamic region, or the pointer to a unique object
+-- a linear resource: the key of a dynamic region, or the pointer to a unique object
 pub data Thing : Type 0 where
   KeyOf : (region : ℕ) → Thing
   PointerTo : (object : ℕ) → Thing
 
--- How long something is there: to the end of a region, or until it is given back. With a region that a scope ends come those that were open
--- around that scope, the innermost first, and what was lent then: this lasts as long.
+-- The lifetime of an object: to the end of a region, or until it is freed. The lifetime of a scoped region lists the regions that were open
+-- around its scope, innermost first, and the resources that were lent then. All of these regions and lent resources last at least as long
+-- as the region.
 pub data Life : Type 0 where
   OfRegion : (region : ℕ) → (around : List ℕ) → (lent : Thing → Bool) → Life
-  -- until whoever has its unique pointer gives it back
+  -- until the holder of the unique pointer frees the object
   Owned : Life
-  -- no scope ends it: a dynamic region, or a unique object while it is lent
+  -- a lifetime that no scope ends: a dynamic region, or a unique object while it is lent
   Kept : Thing → Life
 
 pub data RunTy : Type 0 where
@@ -34,18 +35,18 @@ pub data RunTy : Type 0 where
   Key : Life → RunTy
   Struct : ℕ → List Life → RunTy
 
--- the type of what an expression gives
+-- the run-time type of an expression's value
 pub data RunValue : Type 0 where
-  -- nothing that may be used
+  -- no usable value
   Void : RunValue
   Null : RunValue
   Value : RunTy → RunValue
-  -- of this type, and looked at only: the variable of this object has it
+  -- a value of this type that is only peeked at; the variable of this object keeps it
   Seen : (object : ℕ) → RunTy → RunValue
-  -- a pointer into what is looked at in this local, or else is in hand
+  -- a pointer into the object of a local with a pending peek, or else of an operand on the stack
   Into : (peek : Option ℕ) → RunTy → RunValue
 
--- what the regions of a function stand for
+-- the lifetimes that the regions of a function denote
 abbrev pub Lives : Type 0
 Lives = Region → Life
 
@@ -62,13 +63,13 @@ value_at m types.Void = Void
 value_at m types.Null = Null
 value_at m (types.Value t) = Value (at m t)
 
--- of a peek of this local, if it is one
+-- the value type after a peek of this local, if it is one
 abbrev pub looked : Option ℕ → RunValue → RunValue
 looked None r = r
 looked (Some n) (Value t) = Into (Some n) t
 looked (Some n) r = r
 
--- the kind of the cells of a type
+-- the kind of the cells of a run-time type
 abbrev pub kind_at : RunTy → Kind
 kind_at Int = kinds.Int
 kind_at Char = kinds.Char
@@ -79,29 +80,29 @@ kind_at (Struct n ls) = kinds.Int
 
 -- ---- regions
 
--- the heap is there for ever
+-- the lifetime of the heap, which never ends
 abbrev pub heap_life : Life
 heap_life = OfRegion 0 [] (λ a. false)
 
--- region variables stand for these
+-- the lifetimes of all regions, given those of the region variables
 abbrev pub lives_of : (ℕ → Life) → Lives
 lives_of m regions.Heap = heap_life
 lives_of m regions.Unique = Owned
 lives_of m (regions.Variable n) = m n
 
--- where no region variable is named, as in the types of globals, each may stand for the heap
+-- the reading of a type without region variables, such as a global's: each variable is read as the heap
 abbrev pub as_heap : Lives
 as_heap r = lives_of (λ n. heap_life) r
 
--- ---- which regions a type names
+-- ---- the regions that a type mentions
 
--- of what an expression gives
+-- the predicate holds of all regions in the type of a value
 abbrev pub AllInValue : (Region → Type 0) → ValueType → Type 0
 AllInValue P types.Void = Unit {0}
 AllInValue P types.Null = Unit {0}
 AllInValue P (types.Value t) = AllIn P t
 
--- another region than the variable of this number
+-- the region is not the variable of this number
 abbrev pub IsOther : ℕ → Region → Type 0
 IsOther n regions.Heap = Unit {0}
 IsOther n regions.Unique = Unit {0}

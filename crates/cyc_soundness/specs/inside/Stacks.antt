@@ -1,5 +1,5 @@
--- THE TYPING OF STATES. Each entry of the control stack is typed from what it awaits to what it hands on; the locals in scope are an index,
--- of which an entry may forget the newest.
+-- THE TYPING OF STATES. Each entry of the control stack has a type from what it awaits to what it passes on. The scope is an index, from
+-- which an entry may drop the newest locals.
 use Rattle.std.specs.Prelude.{◌≡◌, ℕ, zero, suc, ◌+◌, ◌≤◌, Bool, true, false, List, [], ◌∷◌, length, map, Option, Some, None, slice_get}
 use Rattle.cyc_syntax.specs.declared.tree.PointerKind.TheVariants as marks
 use Rattle.cyc_types.specs.declared.region.Region.{Region}
@@ -11,7 +11,7 @@ use Rattle.cyc_types.specs.typing.Tests.{is_struct}
 use Rattle.cyc_types.specs.typing.WellTyped.{LocalInScope, Context, body_context, with_local, parameters_in_scope}
 use Rattle.cyc_types.specs.flow.States as flow
 use Rattle.cyc_types.specs.flow.States.{Full, with_fullness, with_each, is_reached}
-use Rattle.cyc_types.specs.flow.Expressions.{peek_behind}
+use Rattle.cyc_types.specs.flow.Expressions.{peek_after}
 use Rattle.cyc_meaning.specs.Values.{Operand}
 use Rattle.cyc_meaning.specs.Values as values
 use Rattle.cyc_meaning.specs.State.{Write, Entry, Needs, NeedsPlace, Discard, Rest, Join, Loop, CloseRegion, CloseLexical, EndLoan, Handler, Caller, Main, Environment, World, Focus, Evaluating, Locating, Given, GivenPlace, Executing, Proceeding, Calling, Entering, Binding, Naming, Writing}
@@ -27,12 +27,12 @@ use Rattle.cyc_soundness.specs.inside.Awaited.{Want, Nothing, Val, PlaceOf, Go, 
 
 -- ---- the control stack
 
--- a function with a result never comes to its end
+-- the end of a function with a result is unreachable
 abbrev pub IsBlocked : Option Ty → flow.State → Type 0
 IsBlocked None f = Unit {0}
 IsBlocked (Some t) f = is_reached f ≡ false
 
--- what is in this variable of a local, to which no pointer leads, is lent by the last loan
+-- the content of this hidden variable is lent by the newest loan
 abbrev pub IsLentOut : Typing → (lent loan : ℕ) → RunTy → (object : ℕ) → Type 0
 IsLentOut g lent j t object = (l : Life) × (slice_get g.objects object ≡ Some (variable_type t l true (OfLocal g.depth lent))) × (g.here object ≡ Away j)
 
@@ -43,24 +43,24 @@ IsStack p g x bs (Val r f) (Needs a ∷ k) =
 IsStack p g x bs (PlaceOf peek t l f) (NeedsPlace a ∷ k) = (next : Want) × WaitsPlace p x (relied_at x.relied k) bs a peek t l f next × KeepsPlace p g (operands_in k) bs a t f × IsStack p g x bs next k
 IsStack p g x bs (Val r f) (Discard ∷ k) = IsStack p g x bs (Go f) k
 IsStack p g x bs (Go f) (Discard ∷ k) = IsStack p g x bs (Go f) k
--- the locals that a block declares are out of scope behind its items
+-- the locals that a block declares are out of scope after its items
 IsStack p g x bs (Go f) (Rest js ∷ k) =
     (cs : List InScope) × (c : Context) × (h : flow.State) × Within cs bs × IsContext p x bs c × Continues x c js f h × IsStack p g x cs (Go h) k
 IsStack p g x bs (Go f) (Join ∷ k) = (h : flow.State) × Implies f h × IsStack p g x bs (Go h) k
 IsStack p g x bs (Go f) (Loop condition body ∷ k) =
     (y : Exits) × (l : LoopExit) × (v : ValueType) × (u h : flow.State) × (x ≡ inside y l) × IsLoop p y bs l condition body v u h × Implies f l.head × IsStack p g y bs (Go h) k
--- and so are a block's region and a lexical one behind their ends
+-- the region of a block is out of scope after its end, and so is a lexical region
 IsStack p g x bs (Go f) (CloseRegion region home ∷ k) =
     (cs : List InScope) × (number : ℕ) × (l : Life) × (live : Bool) × (h : flow.State) × (bs ≡ Home region ∷ Names number l live ∷ cs) × Implies f h × LiveIn k cs × IsStack p g x cs (Go h) k
 IsStack p g x bs (Go f) (CloseLexical region ∷ k) = (h : flow.State) × Implies f h × LiveIn k bs × IsStack p g x bs (Go h) k
--- what was lent is not so any more
+-- after the end of a loan, the resource is no longer lent
 IsStack p g x bs (Go f) (EndLoan lent ∷ k) =
     (y : Exits) × (h : flow.State) × (j : ℕ) × (t : RunTy) × (object : ℕ) × (x ≡ lending y lent) × (g.loans ≡ suc j) × IsLentOut g lent j t object × Implies (with_fullness Full f lent) h × AreFullAt g lent object bs
     × AreVariables (record g { loans = j }) bs
     × IsStack p (record g { loans = j }) y bs (Go h) k
 IsStack p g x bs (Go f) (Handler cs ∷ k) =
     (y : Exits) × (c : Context) × (start h : flow.State) × (x ≡ relying y start) × IsContext p y bs c × Holds g start bs × Catches y c start cs f h × Implies f h × IsStack p g y bs (Go h) k
--- the caller's locals are as they were, and hold what they held
+-- the caller's locals are unchanged, and hold their values
 IsStack p g x bs (Go f) (Caller e ∷ k) =
     (y : Exits) × (cs : List InScope) × (h : flow.State) × (d : ℕ) × (g.depth ≡ suc d) × (is_loop x.loop ≡ false) × IsBlocked x.result f × HasResult x.result x.gives × IsBound e.locals e.counters cs
     × AreVariables (record g { depth = d }) cs × LiveIn k cs × Holds (record g { depth = d }) h cs × IsStack p (record g { depth = d }) y cs (Val x.gives h) k
@@ -75,18 +75,19 @@ AreNext g zero ts vs = AreOperands g ts vs
 AreNext g (suc i) [] vs = ⊥
 AreNext g (suc i) (t ∷ ts) vs = AreNext g i ts vs
 
--- which are in hand, from this place on
+-- these operands are on the stack, from this position on
 abbrev pub AreNextGiven : (own : Thing → Holder) → (place offset : ℕ) → List RunTy → List Operand → Type 0
 AreNextGiven own i zero ts vs = AreGiven own i ts vs
 AreNextGiven own i (suc o) [] vs = Unit {0}
 AreNextGiven own i (suc o) (t ∷ ts) vs = AreNextGiven own i o ts vs
 
--- an object of this type is, as a whole, of that type
+-- an object of this type has this run-time type as a whole
 abbrev pub IsWhole : Typing → ObjectType → RunTy → Type 0
 IsWhole g y (lives.Struct n ls) = g.fields n ls ≡ Some y.cells
 IsWhole g y t = y.cells ≡ t ∷ []
 
--- A new object holds something up to a cell. These writes give its other cells what they are to hold, and then this pointer leads to it.
+-- An object under construction, whose first cells hold values. The remaining writes fill its other cells; after them the pointer to it is
+-- passed on.
 pub record IsMaking (g : Typing) (hand : ℕ) (writes : List Write) (v : Operand) (t : RunTy) (l : Life) : Type 0 where
   pub object : ℕ
   pub offset : ℕ
@@ -100,7 +101,7 @@ pub record IsMaking (g : Typing) (hand : ℕ) (writes : List Write) (v : Operand
   pub filled : IsFilled g object offset
   pub rest : AreNext g offset of_type.cells operands
   pub whole : IsWhole g of_type t
-  -- they are in hand, and above them the pointer to it
+  -- the operands are on the stack, and above them the pointer to the object
   pub place : ℕ
   pub least : hand ≤ place
   pub given : AreNextGiven g.own place offset of_type.cells operands
@@ -108,13 +109,13 @@ pub record IsMaking (g : Typing) (hand : ℕ) (writes : List Write) (v : Operand
 
 -- ---- states
 
--- a function with a result returns a value of this type, and one without returns none
+-- a function with a result returns a value of its type; a function without one returns no value
 abbrev pub IsReturn : Typing → (below : ℕ) → Option Ty → RunValue → Option Operand → Type 0
 IsReturn g i None r None = Unit {0}
 IsReturn g i (Some t) r (Some v) = IsResult g r v × ClaimsAlone g.own i r v.value
 IsReturn g i result r v = ⊥
 
--- these locals all hold something
+-- this local, if the entry is one, holds a value
 abbrev pub IsFilledIn : Typing → InScope → Type 0
 IsFilledIn g (Variable b) = IsFull g b.object
 IsFilledIn g b = Unit {0}
@@ -123,7 +124,7 @@ abbrev pub AreFull : Typing → List InScope → Type 0
 AreFull g [] = Unit {0}
 AreFull g (b ∷ bs) = IsFilledIn g b × AreFull g bs
 
--- and have what they hold
+-- this local, if the entry is one, holds its own resource
 abbrev pub IsOwnIn : Typing → InScope → Type 0
 IsOwnIn g (Variable b) = IsHere g g.depth b.number b.object
 IsOwnIn g b = Unit {0}
@@ -132,7 +133,7 @@ abbrev pub AreOwn : Typing → List InScope → Type 0
 AreOwn g [] = Unit {0}
 AreOwn g (b ∷ bs) = IsOwnIn g b × AreOwn g bs
 
--- in a function's body, outside of loops
+-- the exits at the top level of a function's body, outside loops
 abbrev pub IsBody : Exits → List InScope → Function → Type 0
 IsBody x bs h = (x.loop ≡ None) × (x.locks ≡ []) × (x.relied ≡ []) × (x.result ≡ h.result) × (read_value bs (result_type h.result) ≡ x.gives)
 
@@ -140,7 +141,7 @@ abbrev pub IsFocus : Program → Typing → Exits → List InScope → Focus →
 IsFocus p g x bs (Evaluating a) k =
     (c : Context) × (t : ValueType) × (f h : flow.State) × IsContext p x bs c × Holds g f bs × (evaluates : Evaluates (relied_at x.relied k) c a f t h) × IsStack p g x bs (Val (looked (seen_by a evaluates.typed) (read_value bs t)) h) k
 IsFocus p g x bs (Locating d) k =
-    (c : Context) × (t : Ty) × (r : Region) × (f h : flow.State) × IsContext p x bs c × Holds g f bs × Locates (relied_at x.relied k) c d f t r h × IsStack p g x bs (PlaceOf (peek_behind d) (read bs t) (lives_in bs r) h) k
+    (c : Context) × (t : Ty) × (r : Region) × (f h : flow.State) × IsContext p x bs c × Holds g f bs × Locates (relied_at x.relied k) c d f t r h × IsStack p g x bs (PlaceOf (peek_after d) (read bs t) (lives_in bs r) h) k
 IsFocus p g x bs (GivenPlace place) k =
     (peek : Option ℕ) × (t : RunTy) × (l : Life) × (f : flow.State) × Holds g f bs × HasType g (lives.Pointer marks.NonNull t l) place × ClaimsPart g (operands_in k) peek (thing_of (lives.Pointer marks.NonNull t l) place)
     × IsStack p g x bs (PlaceOf peek t l f) k
@@ -189,7 +190,7 @@ pub record IsRunning (p : Program) (focus : Focus) (k : List Entry) (e : Environ
   pub live : LiveIn k locals
   pub stands : IsFocus p typing exits locals focus k
 
--- THE INVARIANT: every part of a state has its type, so it is neither dead nor wrong
+-- THE INVARIANT: every part of a state is well-typed, so the state is neither dead nor wrong.
 abbrev pub IsWell : Program → State → Type 0
 IsWell p (Running focus k e w) = IsRunning p focus k e w
 IsWell p (Ended ending output input) = Unit {0}

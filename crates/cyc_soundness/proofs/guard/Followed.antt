@@ -1,5 +1,5 @@
--- What the rules derive keeps the fit of a state: code that is never run stays so, what is locked stays so but for what ends with a block,
--- and what is not touched holds its value still.
+-- The derivations of the rules keep the match with a guard. Unreachable code stays unreachable. Locals stay locked, except those whose
+-- block ends. Untouched locals keep their values.
 use Rattle.std.proofs.Common.{◌≡◌, ℕ, Bool, false, not, List, [], ◌∷◌, ◌++◌, Option, Some, None, sym, subst}
 use Rattle.std.proofs.lemmas.Bool.{and_parts}
 use Rattle.cyc_types.specs.Types.{ValueType, Void, Null, Value}
@@ -11,17 +11,17 @@ use Rattle.cyc_types.specs.Rules.{Derives}
 use Rattle.cyc_types.specs.flow.States.{State, Unreached, Full, meet, fullness, with_each, is_locked}
 use Rattle.cyc_types.specs.flow.Touched.{and_local, and_assigned, touched, touched_place, touched_placement, touched_initial, touched_converted, touched_arguments, touched_operations}
 use Rattle.cyc_types.specs.flow.Touched.{touched_side, touched_value, touched_thrown, touched_declaration, touched_statement, touched_items, touched_item, touched_clauses}
-use Rattle.cyc_types.specs.flow.Expressions.{and_peeked, peek_of, peek_behind, used, stored, is_free, rule, rule_place, rule_placement, rule_initial, rule_converted, rule_arguments, rule_operations}
+use Rattle.cyc_types.specs.flow.Expressions.{and_peeked, peek_of, peek_after, used, stored, is_free, rule, rule_place, rule_placement, rule_initial, rule_converted, rule_arguments, rule_operations}
 use Rattle.cyc_types.specs.flow.Statements.{Around, Known, at, in_loop, left_loop, rule_side, peeked_side, rule_swapped, locked_by, locks_of, rule_declared, caught, with_caught, or_clause, rule_statement, rule_items, rule_item, rule_clauses}
 use Rattle.cyc_types.specs.flow.Statements as published
-use Rattle.cyc_guard.specs.inside.Held.{IsAtLeast, Guard}
-use Rattle.cyc_guard.specs.inside.Statements.{behind_item}
-use Rattle.cyc_guard.proofs.Bools.{has_left, has_right, has_last, updated_true}
-use Rattle.cyc_guard.proofs.States.{held_of, at_least_same, at_least_trans, meet_left}
-use Rattle.cyc_guard.proofs.Fitting.{Fits, Rests, fits_never, filled_fits, vacated_fits, moved_out, put_in, not_relied, fits_meet, emptied_fits, Leaves, leaves_none, leaves_append, unlocked, lending, Lent, lent_filled}
-use Rattle.cyc_guard.proofs.Numbers.{IsFreshCaught, IsFresh, AreFresh, IsFreshItem, AreFreshClauses}
+use Rattle.cyc_soundness.specs.inside.guard.Held.{IsAtLeast, Guard}
+use Rattle.cyc_soundness.specs.inside.guard.Statements.{following_item}
+use Rattle.cyc_soundness.proofs.guard.Bools.{has_left, has_right, has_last, updated_true}
+use Rattle.cyc_soundness.proofs.guard.States.{held_of, at_least_same, at_least_trans, meet_left}
+use Rattle.cyc_soundness.proofs.guard.Fitting.{Fits, Rests, fits_never, filled_fits, vacated_fits, moved_out, put_in, not_relied, fits_meet, emptied_fits, Leaves, leaves_none, leaves_append, unlocked, lending, Lent, lent_filled}
+use Rattle.cyc_soundness.proofs.guard.Numbers.{IsFreshCaught, IsFresh, AreFresh, IsFreshItem, AreFreshClauses}
 
--- ---- what is touched before is touched behind
+-- ---- locals touched before stay touched
 
 module _ (p : Guard) where
   rests_front : (ns ms : List ℕ) → Rests p (ns ++ ms) → Rests p ns
@@ -134,14 +134,14 @@ module _ (p : Guard) where
     before_clauses (Default c js) ns r = before_items js ns r
     before_clauses (Case e n c js cs) ns r = before_items js ns (before_clauses cs (touched_items js ns) r)
 
--- what is locked rests
-pub behind_rests : (j : Item) (p : Guard) (ns : List ℕ) → Rests p ns → Rests (behind_item j p) ns
-behind_rests (Execute s) p ns r = r
-behind_rests (Declare n t v) p ns r = r
-behind_rests (DeclareRegion c n) p ns r = r
-behind_rests (OpenRegion c n at k) p ns r = λ m s h. updated_true p.locked k m (r m s h)
-behind_rests (DeclareAlias c n t at k) p ns r = λ m s h. updated_true p.locked k m (r m s h)
-behind_rests (DeclareKey c n) p ns r = r
+-- after an item, touched and relied locals are still locked
+pub after_rests : (j : Item) (p : Guard) (ns : List ℕ) → Rests p ns → Rests (following_item j p) ns
+after_rests (Execute s) p ns r = r
+after_rests (Declare n t v) p ns r = r
+after_rests (DeclareRegion c n) p ns r = r
+after_rests (OpenRegion c n at k) p ns r = λ m s h. updated_true p.locked k m (r m s h)
+after_rests (DeclareAlias c n t at k) p ns r = λ m s h. updated_true p.locked k m (r m s h)
+after_rests (DeclareKey c n) p ns r = r
 
 -- ---- expressions
 
@@ -175,7 +175,7 @@ module _ (p : Guard) (e : Bool) where
         followed_operations os q b g (touched a ns) (followed a q f b ns h (before_operations p os (touched a ns) r) x) r y
     followed (Assign l c t) q f g ns h r (b, x, y) = store_followed q l b g (followed_converted c q f b ns h (before_assigned p l t (touched_converted c ns) r) x) y
     followed (Store d c t) q f g ns h r (b, x, y) =
-        followed_converted c (and_peeked (peek_behind d) q) b g (touched_place d ns) (followed_place d q f b ns h (before_converted p c (touched_place d ns) r) x) r y
+        followed_converted c (and_peeked (peek_after d) q) b g (touched_place d ns) (followed_place d q f b ns h (before_converted p c (touched_place d ns) r) x) r y
     followed (New w i t) q f g ns h r (b, x, y) =
         followed_initial i q b g (touched_placement w ns) (followed_placement w q f b ns h (before_initial p i (touched_placement w ns) r) x) r y
 
@@ -213,7 +213,7 @@ module _ (p : Guard) (e : Bool) where
     followed_operations (ThenPointerPeek n o a os) q f g ns h r (b, x, y) =
         followed_operations os q b g (touched a ns) (followed a (and_peeked (Some n) q) f b ns h (before_operations p os (touched a ns) r) x) r y
 
-  -- ---- what stands in a statement
+  -- ---- parts of statements
 
   pub followed_side : (x : Side) (q : List ℕ) (f g : State) (ns : List ℕ) → Fits p e f → Rests p (touched_side x ns) → Derives (rule_side q x f) g → Fits p e g
   followed_side (VariableSide l t) q f g ns h r (u, eq) = subst (Fits p e) (sym eq) h
@@ -230,15 +230,15 @@ module _ (p : Guard) (e : Bool) where
 
 -- ---- statements
 
--- what is known fits, and so does what is known at the breaks so far
+-- the state and the state at the breaks so far both match their guards
 abbrev pub BothFit : Guard → Bool → Guard → Bool → Known → Type 0
 BothFit p e o d k = Fits p e k.now × Fits o d k.breaks
 
--- behind an item
+-- the states after an item and at its breaks match their guards
 abbrev pub ItemFits : Item → Guard → Bool → Guard → Bool → Known → Type 0
-ItemFits j p e o d l = (i : Bool) × Leaves (locked_by j) (behind_item j p) i p e × Fits (behind_item j p) i l.now × Fits o d l.breaks
+ItemFits j p e o d l = (i : Bool) × Leaves (locked_by j) (following_item j p) i p e × Fits (following_item j p) i l.now × Fits o d l.breaks
 
--- behind items, which have locked these
+-- the match after items that have locked these locals
 pub record ItemsFit (ls : List ℕ) (p : Guard) (e : Bool) (o : Guard) (d : Bool) (l : Known) : Type 0 where
   pub inner : Guard
   pub never : Bool
@@ -291,13 +291,13 @@ mutual
       subst (ItemsFit [] p e o d) (sym eq) (record { inner = p; never = e; leaves = leaves_none p e; now = h; breaks = i })
   followed_items p e o d c (MoreItems j js) k l ns h i w (new, new') r (m, x, y) =
       let one : ItemFits j p e o d m = followed_item p e o d c j k m ns h i w new (before_items p js (touched_item j ns) r) x in
-      let rest : ItemsFit (locks_of js) (behind_item j p) one.0 o d l =
-      followed_items (behind_item j p) one.0 o d (published.behind_item j c) js m l (touched_item j ns) one.2 one.3
-      (leaves_append c.locks (locked_by j) p e (behind_item j p) one.0 o d w one.1) new' (behind_rests j p (touched_items js (touched_item j ns)) r) y in
+      let rest : ItemsFit (locks_of js) (following_item j p) one.0 o d l =
+      followed_items (following_item j p) one.0 o d (published.following_item j c) js m l (touched_item j ns) one.2 one.3
+      (leaves_append c.locks (locked_by j) p e (following_item j p) one.0 o d w one.1) new' (after_rests j p (touched_items js (touched_item j ns)) r) y in
       record {
         inner = rest.inner;
         never = rest.never;
-        leaves = leaves_append (locked_by j) (locks_of js) (behind_item j p) one.0 rest.inner rest.never p e one.1 rest.leaves;
+        leaves = leaves_append (locked_by j) (locks_of js) (following_item j p) one.0 rest.inner rest.never p e one.1 rest.leaves;
         now = rest.now;
         breaks = rest.breaks;
       }
@@ -336,7 +336,7 @@ mutual
 falls_to : (k l : Known) {m : Known} → l ≡ m → IsAtLeast (held_of k.breaks) (held_of m.breaks) → IsAtLeast (held_of k.breaks) (held_of l.breaks)
 falls_to k l eq h = subst (λ z. IsAtLeast (held_of k.breaks) (held_of z.breaks)) (sym eq) h
 
--- What is known at the breaks behind is no more than before.
+-- The state at the breaks after a statement is at most that before it.
 mutual
   pub falls : (c : Around) (s : Statement) (k l : Known) → Derives (rule_statement c s k) l → IsAtLeast (held_of k.breaks) (held_of l.breaks)
   falls c (Block b js) k l (m, x, (u, eq)) = falls_to k l eq (falls_items c js k m x)
@@ -355,7 +355,7 @@ mutual
   pub falls_items : (c : Around) (js : Items) (k l : Known) → Derives (rule_items c js k) l → IsAtLeast (held_of k.breaks) (held_of l.breaks)
   falls_items c NoItems k l (u, eq) = falls_to k l eq (at_least_same (held_of k.breaks))
   falls_items c (MoreItems j js) k l (m, x, y) =
-      at_least_trans (held_of k.breaks) (held_of m.breaks) (held_of l.breaks) (falls_item c j k m x) (falls_items (published.behind_item j c) js m l y)
+      at_least_trans (held_of k.breaks) (held_of m.breaks) (held_of l.breaks) (falls_item c j k m x) (falls_items (published.following_item j c) js m l y)
 
   pub falls_item : (c : Around) (j : Item) (k l : Known) → Derives (rule_item c j k) l → IsAtLeast (held_of k.breaks) (held_of l.breaks)
   falls_item c (Execute s) k l x = falls c s k l x

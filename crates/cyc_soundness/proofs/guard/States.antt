@@ -1,10 +1,10 @@
--- The states of the rules, and what a proof about runs takes them for: a local that is lent out holds a value.
+-- The states of the rules and their reading in proofs about runs: a lent local holds a value.
 use Rattle.std.proofs.Common.{◌≡◌, ◌⊎◌, ℕ, zero, suc, Bool, true, false, cond, not, ◌||◌, nat_eq, List, [], ◌∷◌, get_or, slice_set, inl, inr, refl, sym, ap, subst, ◌∙◌}
 use Rattle.std.proofs.lemmas.Bool.{and_parts}
 use Rattle.std.proofs.lemmas.List.{get_or-set_other}
 use Rattle.cyc_types.specs.flow.States.{Fullness, Vacant, Locked, Full, State, Unreached, Reached, lower, lower_each, meet, is_as_full, are_as_full, is_at_least, fullness, with_fullness, with_each, is_vacant, is_locked, emptied}
-use Rattle.cyc_guard.specs.inside.Held.{Held, Never, Holds, IsAtLeast, updated, with_held}
-use Rattle.cyc_guard.proofs.Bools.{Told, same, other, told, has, updated_same, updated_true}
+use Rattle.cyc_soundness.specs.inside.guard.Held.{Held, Never, Holds, IsAtLeast, updated, with_held}
+use Rattle.cyc_soundness.proofs.guard.Bools.{Reflects, same, other, reflects, has, updated_same, updated_true}
 
 abbrev pub is_full : List Fullness → ℕ → Bool
 is_full as' n = not (is_vacant (get_or as' n Vacant))
@@ -13,9 +13,9 @@ abbrev pub held_of : State → Held
 held_of Unreached = Never
 held_of (Reached as') = Holds (is_full as')
 
--- ---- one local of a list is changed
+-- ---- changing one local of a list
 
--- it is as it is wanted, or the list has no such local
+-- after a change the local has the new value, or the list has no such local
 pub set_here : (as' : List Fullness) (n : ℕ) (a : Fullness) → (get_or (slice_set as' n a) n Vacant ≡ a) ⊎ (get_or (slice_set as' n a) n Vacant ≡ get_or as' n Vacant)
 set_here [] n a = inr refl
 set_here (b ∷ bs) zero a = inl refl
@@ -34,20 +34,20 @@ set_vacant (b ∷ bs) (suc n) = set_vacant bs n
 pub set_other : (as' : List Fullness) (n : ℕ) (a : Fullness) (m : ℕ) → (m ≡ n → ⊥) → get_or (slice_set as' n a) m Vacant ≡ get_or as' m Vacant
 set_other as' n a m h = get_or-set_other as' n m a Vacant h
 
--- a local is the one that is changed, or as it was
+-- each local is either the changed one, or unchanged
 pub set_at : (as' : List Fullness) (n : ℕ) (a : Fullness) (m : ℕ) → ((n ≡ m) × (get_or (slice_set as' n a) m Vacant ≡ a)) ⊎ (get_or (slice_set as' n a) m Vacant ≡ get_or as' m Vacant)
-set_at as' n a m = go (nat_eq n m) (told n m)
+set_at as' n a m = go (nat_eq n m) (reflects n m)
   where
     here : (get_or (slice_set as' n a) n Vacant ≡ a) ⊎ (get_or (slice_set as' n a) n Vacant ≡ get_or as' n Vacant)
         → ((n ≡ n) × (get_or (slice_set as' n a) n Vacant ≡ a)) ⊎ (get_or (slice_set as' n a) n Vacant ≡ get_or as' n Vacant)
     here (inl e) = inl (refl, e)
     here (inr e) = inr e
 
-    go : (t : Bool) → Told n m t → ((n ≡ m) × (get_or (slice_set as' n a) m Vacant ≡ a)) ⊎ (get_or (slice_set as' n a) m Vacant ≡ get_or as' m Vacant)
+    go : (t : Bool) → Reflects n m t → ((n ≡ m) × (get_or (slice_set as' n a) m Vacant ≡ a)) ⊎ (get_or (slice_set as' n a) m Vacant ≡ get_or as' m Vacant)
     go true (same e) = subst (λ k. ((n ≡ k) × (get_or (slice_set as' n a) k Vacant ≡ a)) ⊎ (get_or (slice_set as' n a) k Vacant ≡ get_or as' k Vacant)) e (here (set_here as' n a))
     go false (other h) = inr (set_other as' n a m h)
 
--- ---- the lower of two
+-- ---- the lower of two states
 
 lower_vacant : (a : Fullness) → lower a Vacant ≡ Vacant
 lower_vacant Vacant = refl
@@ -72,7 +72,7 @@ full_right Locked Locked h = refl
 full_right Locked Full h = refl
 full_right Full b h = h
 
--- ---- what is known at least
+-- ---- the order on facts
 
 pub at_least_same : (f : Held) → IsAtLeast f f
 at_least_same Never = tt
@@ -108,7 +108,7 @@ each_enough (a ∷ as') [] h n k = absurd (cc)
 each_enough (a ∷ as') (b ∷ bs) h zero k = full_enough a b (and_parts (is_as_full a b) (are_as_full as' bs) h).0 k
 each_enough (a ∷ as') (b ∷ bs) h (suc n) k = each_enough as' bs (and_parts (is_as_full a b) (are_as_full as' bs) h).1 n k
 
--- what the rules test is so
+-- the rules' test decides the order on facts
 pub tested : (f g : State) → is_at_least f g ≡ true → IsAtLeast (held_of f) (held_of g)
 tested Unreached g h = tt
 tested (Reached as') Unreached h = absurd (cc)
@@ -127,7 +127,7 @@ filled_at_least (Reached as') n = λ m h. go m h (set_at as' n Full m)
 
 pub emptied_at_least : (f : State) (n : ℕ) → IsAtLeast (with_held false (held_of f) n) (held_of (with_fullness Vacant f n))
 emptied_at_least Unreached n = tt
-emptied_at_least (Reached as') n = λ m h. go m h (nat_eq n m) (told n m)
+emptied_at_least (Reached as') n = λ m h. go m h (nat_eq n m) (reflects n m)
   where
     gone : (m : ℕ) → n ≡ m → is_full (slice_set as' n Vacant) m ≡ true → ⊥
     gone m e h =
@@ -135,11 +135,11 @@ emptied_at_least (Reached as') n = λ m h. go m h (nat_eq n m) (told n m)
         let l : not (is_vacant Vacant) ≡ true = subst (λ x. not (is_vacant x) ≡ true) (set_vacant as' n) k in
         absurd (cc)
 
-    go : (m : ℕ) → is_full (slice_set as' n Vacant) m ≡ true → (t : Bool) → Told n m t → cond t false (is_full as' m) ≡ true
+    go : (m : ℕ) → is_full (slice_set as' n Vacant) m ≡ true → (t : Bool) → Reflects n m t → cond t false (is_full as' m) ≡ true
     go m h true (same e) = absurd (gone m e h)
     go m h false (other k) = subst (λ x. not (is_vacant x) ≡ true) (set_other as' n Vacant m k) h
 
--- one is lent out, which holds a value, and another is declared
+-- a local that holds a value is lent, and another is declared
 pub lent_at_least : (f : State) (n m : ℕ) → not (is_vacant (fullness f m)) ≡ true → IsAtLeast (with_held true (held_of f) n) (held_of (with_fullness Full (with_fullness Locked f m) n))
 lent_at_least Unreached n m s = tt
 lent_at_least (Reached as') n m s = λ k h. outer k h (set_at (slice_set as' m Locked) n Full k)
@@ -155,7 +155,7 @@ lent_at_least (Reached as') n m s = λ k h. outer k h (set_at (slice_set as' m L
     outer k h (inl (e, l)) = updated_same (is_full as') n true k e
     outer k h (inr l) = updated_true (is_full as') n k (still k (subst (λ x. not (is_vacant x) ≡ true) l h) (set_at as' m Locked k))
 
--- ---- several are emptied
+-- ---- emptying several locals
 
 abbrev pub emptied_one : (touched : Bool) → Fullness → Fullness
 emptied_one false a = a
@@ -184,18 +184,18 @@ pub emptied_never : (ts : List ℕ) → emptied ts Unreached ≡ Unreached
 emptied_never [] = refl
 emptied_never (t ∷ ts) = emptied_never ts
 
--- what they come to
+-- the state after several locals were emptied
 pub record Emptied (ts : List ℕ) (as' : List Fullness) (f : State) : Type 0 where
   pub left : List Fullness
   pub is : f ≡ Reached left
   pub at : (n : ℕ) → get_or left n Vacant ≡ emptied_one (has ts n) (get_or as' n Vacant)
 
 module _ (t : ℕ) (ts : List ℕ) (as' : List Fullness) where
-  emptied_kept : (n : ℕ) (b : Bool) → Told t n b → is_locked (get_or as' t Vacant) ≡ true → emptied_one (has ts n) (get_or as' n Vacant) ≡ emptied_one (b || has ts n) (get_or as' n Vacant)
+  emptied_kept : (n : ℕ) (b : Bool) → Reflects t n b → is_locked (get_or as' t Vacant) ≡ true → emptied_one (has ts n) (get_or as' n Vacant) ≡ emptied_one (b || has ts n) (get_or as' n Vacant)
   emptied_kept n true (same e) l = locked_stays (has ts n) true (get_or as' n Vacant) (subst (λ k. is_locked (get_or as' k Vacant) ≡ true) e l)
   emptied_kept n false (other h) l = refl
 
-  emptied_taken : (n : ℕ) (b : Bool) → Told t n b → is_locked (get_or as' t Vacant) ≡ false
+  emptied_taken : (n : ℕ) (b : Bool) → Reflects t n b → is_locked (get_or as' t Vacant) ≡ false
       → emptied_one (has ts n) (get_or (slice_set as' t Vacant) n Vacant) ≡ emptied_one (b || has ts n) (get_or as' n Vacant)
   emptied_taken n true (same e) l =
       let here : get_or (slice_set as' t Vacant) n Vacant ≡ Vacant = subst (λ k. get_or (slice_set as' t Vacant) k Vacant ≡ Vacant) e (set_vacant as' t) in
@@ -206,16 +206,16 @@ module _ (t : ℕ) (ts : List ℕ) (as' : List Fullness) where
       → Emptied (t ∷ ts) as' (emptied ts (cond b (Reached as') (Reached (slice_set as' t Vacant))))
   emptied_step rest true l =
       let r : Emptied ts as' (emptied ts (Reached as')) = rest as' in
-      record { left = r.left; is = r.is; at = λ n. r.at n ∙ emptied_kept n (nat_eq t n) (told t n) l }
+      record { left = r.left; is = r.is; at = λ n. r.at n ∙ emptied_kept n (nat_eq t n) (reflects t n) l }
   emptied_step rest false l =
       let r : Emptied ts (slice_set as' t Vacant) (emptied ts (Reached (slice_set as' t Vacant))) = rest (slice_set as' t Vacant) in
-      record { left = r.left; is = r.is; at = λ n. r.at n ∙ emptied_taken n (nat_eq t n) (told t n) l }
+      record { left = r.left; is = r.is; at = λ n. r.at n ∙ emptied_taken n (nat_eq t n) (reflects t n) l }
 
 pub emptied_at : (ts : List ℕ) (as' : List Fullness) → Emptied ts as' (emptied ts (Reached as'))
 emptied_at [] as' = record { left = as'; is = refl; at = λ n. refl }
 emptied_at (t ∷ ts) as' = emptied_step t ts as' (λ bs. emptied_at ts bs) (is_locked (get_or as' t Vacant)) refl
 
--- ---- several are full again
+-- ---- several locals become full again
 
 pub refilled_never : (ls : List ℕ) → with_each Full ls Unreached ≡ Unreached
 refilled_never [] = refl
@@ -235,16 +235,16 @@ module _ (l : ℕ) (ls : List ℕ) (as' : List Fullness) (f : State) (r : Refill
   refilled_rest n true h e = r.full n h (ap is_vacant e)
   refilled_rest n false h e = r.rest n h ∙ e
 
-  refilled_full : (n : ℕ) (b : Bool) → Told l n b → (b || has ls n) ≡ true → is_vacant (get_or as' n Vacant) ≡ false → get_or r.left n Vacant ≡ Full
+  refilled_full : (n : ℕ) (b : Bool) → Reflects l n b → (b || has ls n) ≡ true → is_vacant (get_or as' n Vacant) ≡ false → get_or r.left n Vacant ≡ Full
   refilled_full n true (same e) h v = refilled_rest n (has ls n) refl (refilled_here n e v)
   refilled_full n false (other k) h v = r.full n h (ap is_vacant (set_other as' l Full n k) ∙ v)
 
-  refilled_other : (n : ℕ) (b : Bool) → Told l n b → (b || has ls n) ≡ false → get_or r.left n Vacant ≡ get_or as' n Vacant
+  refilled_other : (n : ℕ) (b : Bool) → Reflects l n b → (b || has ls n) ≡ false → get_or r.left n Vacant ≡ get_or as' n Vacant
   refilled_other n true (same e) h = absurd (cc)
   refilled_other n false (other k) h = r.rest n h ∙ set_other as' l Full n k
 
   refilled_step : Refilled (l ∷ ls) as' f
-  refilled_step = record { left = r.left; is = r.is; full = λ n h v. refilled_full n (nat_eq l n) (told l n) h v; rest = λ n h. refilled_other n (nat_eq l n) (told l n) h }
+  refilled_step = record { left = r.left; is = r.is; full = λ n h v. refilled_full n (nat_eq l n) (reflects l n) h v; rest = λ n h. refilled_other n (nat_eq l n) (reflects l n) h }
 
 pub refilled_at : (ls : List ℕ) (as' : List Fullness) → Refilled ls as' (with_each Full ls (Reached as'))
 refilled_at [] as' = record { left = as'; is = refl; full = λ n h v. absurd (cc); rest = λ n h. refl }

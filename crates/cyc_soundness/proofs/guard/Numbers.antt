@@ -1,8 +1,8 @@
--- Numbers are fresh: none that is declared is lent out where it is declared.
+-- Declared numbers are fresh: no declared local is lent at its declaration.
 use Rattle.std.proofs.Common.{◌≡◌, ℕ, Bool, true, false, Option, Some, None}
 use Rattle.cyc_types.specs.TypedTrees.{Statement, Block, Empty, Evaluate, Swap, If, While, Return, Break, Continue, Throw, Try, Items, NoItems, MoreItems, Item, Execute, Declare, DeclareRegion, OpenRegion, DeclareAlias, DeclareKey, Clauses, NoClauses, Default, Case}
-use Rattle.cyc_guard.specs.inside.Held.{updated}
-use Rattle.cyc_guard.specs.inside.Statements.{and_lent}
+use Rattle.cyc_soundness.specs.inside.guard.Held.{updated}
+use Rattle.cyc_soundness.specs.inside.guard.Statements.{and_lent}
 
 abbrev pub IsFreshCaught : (locked : ℕ → Bool) → Option ℕ → Type 0
 IsFreshCaught w None = Unit {0}

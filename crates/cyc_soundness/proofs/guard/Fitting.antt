@@ -1,12 +1,12 @@
--- A state fits a guard where just what the guard has for locked is locked, and all that it relies on holds a value. Where code is never
--- run (`never`), no more is known than that.
+-- A state matches a guard if exactly the guard's locked locals are locked and all relied locals hold values. In unreachable code (`never`),
+-- nothing more is known.
 use Rattle.std.proofs.Common.{◌≡◌, ◌⊎◌, ℕ, Bool, true, false, cond, not, ◌||◌, nat_eq, List, [], ◌∷◌, ◌++◌, Option, Some, None, get_or, slice_set, inl, inr, refl, sym, ap, subst, ◌∙◌}
 use Rattle.std.proofs.lemmas.Bool.{not-true, not_from_false}
 use Rattle.cyc_words.proofs.Booleans.{or_false_right, or_true_right, or_assoc, false_from_false}
 use Rattle.cyc_types.specs.flow.States.{Fullness, Vacant, Locked, Full, State, Unreached, Reached, lower, meet, fullness, with_fullness, with_each, is_vacant, is_locked, emptied}
-use Rattle.cyc_guard.specs.inside.Held.{Held, Holds, IsAtLeast, updated, Guard, peeking}
-use Rattle.cyc_guard.proofs.Bools.{Told, same, other, told, has, has_append}
-use Rattle.cyc_guard.proofs.States.{is_full, held_of, set_there, set_other, set_at, lower_at, at_least_trans, emptied_one, emptied_never, Emptied, emptied_at, refilled_never, Refilled, refilled_at}
+use Rattle.cyc_soundness.specs.inside.guard.Held.{Held, Holds, IsAtLeast, updated, Guard, peeking}
+use Rattle.cyc_soundness.proofs.guard.Bools.{Reflects, same, other, reflects, has, has_append}
+use Rattle.cyc_soundness.proofs.guard.States.{is_full, held_of, set_there, set_other, set_at, lower_at, at_least_trans, emptied_one, emptied_never, Emptied, emptied_at, refilled_never, Refilled, refilled_at}
 
 abbrev pub FitsAt : Guard → ℕ → Fullness → Type 0
 FitsAt p n a = (is_locked a ≡ p.locked n) × (p.relied n ≡ true → is_vacant a ≡ false)
@@ -19,7 +19,7 @@ Fits p true f = f ≡ Unreached
 Fits p false Unreached = Unit {0}
 Fits p false (Reached as') = FitsEach p as'
 
--- what is touched and relied on is locked
+-- every touched local that is relied on is locked
 abbrev pub Rests : Guard → (touched : List ℕ) → Type 0
 Rests p ns = (n : ℕ) → p.relied n ≡ true → has ns n ≡ true → p.locked n ≡ true
 
@@ -42,26 +42,26 @@ full_fits p n h = (sym h, λ s. refl)
 pub vacant_fits : (p : Guard) (n : ℕ) → p.locked n ≡ false → p.relied n ≡ false → FitsAt p n Vacant
 vacant_fits p n h k = (sym h, λ s. absurd (cc))
 
--- the rules say that it is not locked
+-- by the rules' demands, the local is not locked
 pub not_locked : (p : Guard) (as' : List Fullness) (n : ℕ) → FitsEach p as' → not (is_locked (get_or as' n Vacant)) ≡ true → p.locked n ≡ false
 not_locked p as' n h k = sym (h n).0 ∙ not-true (is_locked (get_or as' n Vacant)) k
 
 pub not_relied : (p : Guard) (n : ℕ) (ns : List ℕ) → Rests p ns → has ns n ≡ true → p.locked n ≡ false → p.relied n ≡ false
 not_relied p n ns r h k = false_from_false (p.relied n) (p.locked n) (λ s. r n s h) k
 
--- a number that is not locked gets a value
+-- storing a value in an unlocked local keeps the match
 pub filled_fits : (p : Guard) (e : Bool) (f : State) (n : ℕ) → Fits p e f → p.locked n ≡ false → Fits p e (with_fullness Full f n)
 filled_fits p true f n h k = ap (λ x. with_fullness Full x n) h
 filled_fits p false Unreached n h k = tt
 filled_fits p false (Reached as') n h k = fits_set p as' n Full h (full_fits p n k)
 
--- a number that is not locked, and on which nothing relies, is emptied
+-- emptying an unlocked local on which nothing relies keeps the match
 pub vacated_fits : (p : Guard) (e : Bool) (f : State) (n : ℕ) → Fits p e f → p.locked n ≡ false → p.relied n ≡ false → Fits p e (with_fullness Vacant f n)
 vacated_fits p true f n h k l = ap (λ x. with_fullness Vacant x n) h
 vacated_fits p false Unreached n h k l = tt
 vacated_fits p false (Reached as') n h k l = fits_set p as' n Vacant h (vacant_fits p n k l)
 
--- the same where only the rules say that it is not locked
+-- emptying a touched local keeps the match if the rules demand that it is unlocked
 pub moved_out : (p : Guard) (e : Bool) (f : State) (n : ℕ) (ns : List ℕ) → Fits p e f → Rests p ns → has ns n ≡ true → not (is_locked (fullness f n)) ≡ true → Fits p e (with_fullness Vacant f n)
 moved_out p true f n ns h r m k = ap (λ x. with_fullness Vacant x n) h
 moved_out p false Unreached n ns h r m k = tt
@@ -74,7 +74,7 @@ put_in p true f n h k = ap (λ x. with_fullness Full x n) h
 put_in p false Unreached n h k = tt
 put_in p false (Reached as') n h k = fits_set p as' n Full h (full_fits p n (not_locked p as' n h k))
 
--- ---- where two branches meet
+-- ---- joins of branches
 
 fits_lower : (p : Guard) (n : ℕ) (a b : Fullness) → FitsAt p n a → FitsAt p n b → FitsAt p n (lower a b)
 fits_lower p n Vacant b h k = h
@@ -89,7 +89,7 @@ fits_meet p false Unreached g h k = k
 fits_meet p false (Reached as') Unreached h k = h
 fits_meet p false (Reached as') (Reached bs) h k = λ n. subst (FitsAt p n) (sym (lower_at as' bs n)) (fits_lower p n (get_or as' n Vacant) (get_or bs n Vacant) (h n) (k n))
 
--- ---- catches
+-- ---- catch clauses
 
 one_emptied : (p : Guard) (n : ℕ) (t : Bool) (a : Fullness) → FitsAt p n a → (p.relied n ≡ true → t ≡ true → p.locked n ≡ true) → FitsAt p n (emptied_one t a)
 one_emptied p n false a h r = h
@@ -104,9 +104,9 @@ emptied_fits p false ts (Reached as') h r =
     let x : Emptied ts as' (emptied ts (Reached as')) = emptied_at ts as' in
     subst (Fits p false) (sym x.is) (λ n. subst (FitsAt p n) (sym (x.at n)) (one_emptied p n (has ts n) (get_or as' n Vacant) (h n) (r n)))
 
--- ---- what stands within a guard
+-- ---- inner guards
 
--- The inner guard has these locked too, which the outer has not.
+-- The inner guard also locks the listed locals, which the outer guard does not.
 abbrev pub LeavesAt : (listed : Bool) → (inner outer : Guard) → ℕ → Type 0
 LeavesAt b p o n = (p.locked n ≡ (o.locked n || b)) × (b ≡ true → o.locked n ≡ false) × (o.relied n ≡ true → p.relied n ≡ true)
 
@@ -140,7 +140,7 @@ locked_full Vacant h = absurd (cc)
 locked_full Locked h = refl
 locked_full Full h = refl
 
--- what is listed is locked
+-- the listed locals are locked
 module _ (ls : List ℕ) (p o : Guard) (as' : List Fullness) (x : (n : ℕ) → LeavesAt (has ls n) p o n) (h : FitsEach p as') where
   listed_full : (n : ℕ) → has ls n ≡ true → is_vacant (get_or as' n Vacant) ≡ false
   listed_full n l =
@@ -162,7 +162,7 @@ module _ (ls : List ℕ) (p o : Guard) (as' : List Fullness) (x : (n : ℕ) → 
       go true l k = not_from_false (is_vacant (get_or as' n Vacant)) (listed_full n l)
       go false l k = subst (λ a. not (is_vacant a) ≡ true) (rest n l) k
 
--- where what they are listed for ends, they are full again
+-- at the end of the loans, the listed locals are full again
 pub unlocked : (ls : List ℕ) (p : Guard) (e : Bool) (o : Guard) (d : Bool) (f : State) → Leaves ls p e o d → Fits p e f → Fits o d (with_each Full ls f)
 unlocked ls p true o d f x h = subst (Fits o d) (sym (ap (with_each Full ls) h ∙ refilled_never ls)) (fits_never o d)
 unlocked ls p false o true f x h = absurd x
@@ -179,7 +179,7 @@ still_known ls p false o false (Reached as') x h =
     let r : Refilled ls as' (with_each Full ls (Reached as')) = refilled_at ls as' in
     subst (λ g. IsAtLeast (Holds (is_full as')) (held_of g)) (sym r.is) (again_full ls p o as' x h r.left r.rest)
 
--- and no more is known then than before
+-- ending loans adds no facts about which locals hold values
 pub unlocked_at_least : (ls : List ℕ) (p : Guard) (e : Bool) (o : Guard) (d : Bool) (f : State) (g : Held) → Leaves ls p e o d → Fits p e f
     → IsAtLeast (held_of (with_each Full ls f)) g → IsAtLeast (held_of f) g
 unlocked_at_least ls p e o d f g x h k = at_least_trans (held_of f) (held_of (with_each Full ls f)) g (still_known ls p e o d f x h) k
@@ -190,23 +190,23 @@ abbrev pub lending : ℕ → Guard → Guard
 lending m p = record p { locked = updated p.locked m true }
 
 leaves_lent : (p : Guard) (m : ℕ) → p.locked m ≡ false → (n : ℕ) → LeavesAt (has (m ∷ []) n) (lending m p) p n
-leaves_lent p m h n = go (nat_eq m n) (told m n)
+leaves_lent p m h n = go (nat_eq m n) (reflects m n)
   where
-    go : (b : Bool) → Told m n b
+    go : (b : Bool) → Reflects m n b
         → (cond b true (p.locked n) ≡ (p.locked n || (b || false))) × ((b || false) ≡ true → p.locked n ≡ false) × (p.relied n ≡ true → p.relied n ≡ true)
     go true (same e) = (sym (or_true_right (p.locked n)), λ k. subst (λ i. p.locked i ≡ false) e h, λ s. s)
     go false (other k) = (sym (or_false_right (p.locked n)), λ l. absurd (cc), λ s. s)
 
--- behind an item that lends one out and declares another
+-- the state after an item that lends one local and declares another
 pub record Lent (p : Guard) (e : Bool) (m : ℕ) (f : State) : Type 0 where
   pub never : Bool
   pub leaves : Leaves (m ∷ []) (lending m p) never p e
   pub fits : Fits (lending m p) never f
 
 fits_lent : (p : Guard) (as' : List Fullness) (m : ℕ) → FitsEach p as' → is_vacant (get_or as' m Vacant) ≡ false → FitsEach (lending m p) (slice_set as' m Locked)
-fits_lent p as' m h v n = go (nat_eq m n) (told m n)
+fits_lent p as' m h v n = go (nat_eq m n) (reflects m n)
   where
-    go : (b : Bool) → Told m n b → (is_locked (get_or (slice_set as' m Locked) n Vacant) ≡ cond b true (p.locked n)) × (p.relied n ≡ true → is_vacant (get_or (slice_set as' m Locked) n Vacant) ≡ false)
+    go : (b : Bool) → Reflects m n b → (is_locked (get_or (slice_set as' m Locked) n Vacant) ≡ cond b true (p.locked n)) × (p.relied n ≡ true → is_vacant (get_or (slice_set as' m Locked) n Vacant) ≡ false)
     go true (same e) =
         let l : get_or (slice_set as' m Locked) n Vacant ≡ Locked = subst (λ k. get_or (slice_set as' m Locked) k Vacant ≡ Locked) e (set_there as' m Locked v) in
         (ap is_locked l, λ s. ap is_vacant l)

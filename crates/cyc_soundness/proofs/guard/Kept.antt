@@ -1,4 +1,5 @@
--- What the rules derive is guarded: each state of the rules, taken for what holds a value in it, is one that the guarded form may choose.
+-- The derivations of the rules are guarded. Each state of the rules is read as the set of locals that hold values, and can be chosen in the
+-- guarded form.
 use Rattle.std.proofs.Common.{◌≡◌, ℕ, Bool, true, false, cond, not, ◌&&◌, ◌||◌, nat_eq, List, [], ◌∷◌, ◌++◌, Option, Some, None, get_or, refl, sym, ap, subst, ◌∙◌}
 use Rattle.std.proofs.lemmas.Bool.{and_parts, not-true}
 use Rattle.cyc_words.proofs.Booleans.{or_false_right, or_true_right}
@@ -9,22 +10,22 @@ use Rattle.cyc_types.specs.TypedTrees.{Return, Break, Continue, Throw, Try, Item
 use Rattle.cyc_types.specs.Rules.{Demand, Derives, AllKept}
 use Rattle.cyc_types.specs.flow.States.{Fullness, State, Unreached, Reached, Vacant, Locked, Full, meet, fullness, with_fullness, with_each, is_vacant, is_locked, emptied}
 use Rattle.cyc_types.specs.flow.Touched.{and_local, touched, touched_place, touched_placement, touched_initial, touched_converted, touched_arguments, touched_operations, touched_side, touched_value, touched_thrown, touched_declaration, touched_statement, touched_items, touched_item, touched_clauses}
-use Rattle.cyc_types.specs.flow.Expressions.{and_peeked, peek_of, peek_behind, used, stored, is_free, rule, rule_place, rule_placement, rule_initial, rule_converted, rule_arguments, rule_operations}
+use Rattle.cyc_types.specs.flow.Expressions.{and_peeked, peek_of, peek_after, used, stored, is_free, rule, rule_place, rule_placement, rule_initial, rule_converted, rule_arguments, rule_operations}
 use Rattle.cyc_types.specs.flow.Statements.{Loop, Around, Known, at, in_loop, left_loop, continue_demanded, rule_value, rule_thrown, rule_side, peeked_side, side_demanded}
 use Rattle.cyc_types.specs.flow.Statements.{rule_swapped, locked_by, locks_of, rule_declared, caught, with_caught, or_clause, rule_statement, rule_items, rule_item, rule_clauses}
 use Rattle.cyc_types.specs.flow.Statements as published
-use Rattle.cyc_guard.specs.inside.Held.{Held, IsAtLeast, with_held, and_held, Guard, peeking, relying, IsSeen, IsUsable, IsAssignable, IsSpared, IsReliable, at_catch}
-use Rattle.cyc_guard.specs.inside.Expressions.{KeepsUse, KeepsAssignment, Keeps, KeepsPlace, KeepsPlacement, KeepsInitial, KeepsConverted, KeepsArguments, KeepsOperations}
-use Rattle.cyc_guard.specs.inside.Statements.{Exits, KeepsValue, KeepsThrown, KeepsSide, IsSwappable, KeepsBreak, KeepsContinue, behind_item, KeepsDeclaration, KeepsLoan, KeepsStatement, KeepsItems, KeepsItem, KeepsClauses}
-use Rattle.cyc_guard.proofs.Bools.{has, has_append, has_last}
-use Rattle.cyc_guard.proofs.States.{is_full, held_of, at_least_same, at_least_trans, meet_left, meet_right, tested, filled_at_least, emptied_at_least, lent_at_least, emptied_one, emptied_never, Emptied, emptied_at}
-use Rattle.cyc_guard.proofs.Fitting.{FitsAt, Fits, Rests, not_locked, not_relied, fits_meet, emptied_fits, Leaves, leaves_none, leaves_append, unlocked, unlocked_at_least, peeking_fits, peeking_rests}
-use Rattle.cyc_guard.proofs.Numbers.{IsFresh, AreFresh, IsFreshItem, AreFreshClauses}
-use Rattle.cyc_guard.proofs.Followed.{rests_back, before, before_initial, before_converted, before_arguments, before_operations, before_assigned, before_side, before_statement, before_items, before_clauses, behind_rests, followed}
-use Rattle.cyc_guard.proofs.Followed.{followed_place, followed_placement, followed_converted, followed_side, BothFit, ItemFits, ItemsFit, caught_fits, followed_statement, followed_items, followed_item, falls, falls_items, falls_clauses}
-use Rattle.cyc_guard.proofs.Never.{never_items}
+use Rattle.cyc_soundness.specs.inside.guard.Held.{Held, IsAtLeast, with_held, and_held, Guard, peeking, relying, IsSeen, IsUsable, IsAssignable, IsSpared, IsReliable, at_catch}
+use Rattle.cyc_soundness.specs.inside.guard.Expressions.{KeepsUse, KeepsAssignment, Keeps, KeepsPlace, KeepsPlacement, KeepsInitial, KeepsConverted, KeepsArguments, KeepsOperations}
+use Rattle.cyc_soundness.specs.inside.guard.Statements.{Exits, KeepsValue, KeepsThrown, KeepsSide, IsSwappable, KeepsBreak, KeepsContinue, following_item, KeepsDeclaration, KeepsLoan, KeepsStatement, KeepsItems, KeepsItem, KeepsClauses}
+use Rattle.cyc_soundness.proofs.guard.Bools.{has, has_append, has_last}
+use Rattle.cyc_soundness.proofs.guard.States.{is_full, held_of, at_least_same, at_least_trans, meet_left, meet_right, tested, filled_at_least, emptied_at_least, lent_at_least, emptied_one, emptied_never, Emptied, emptied_at}
+use Rattle.cyc_soundness.proofs.guard.Fitting.{FitsAt, Fits, Rests, not_locked, not_relied, fits_meet, emptied_fits, Leaves, leaves_none, leaves_append, unlocked, unlocked_at_least, peeking_fits, peeking_rests}
+use Rattle.cyc_soundness.proofs.guard.Numbers.{IsFresh, AreFresh, IsFreshItem, AreFreshClauses}
+use Rattle.cyc_soundness.proofs.guard.Followed.{rests_back, before, before_initial, before_converted, before_arguments, before_operations, before_assigned, before_side, before_statement, before_items, before_clauses, after_rests, followed}
+use Rattle.cyc_soundness.proofs.guard.Followed.{followed_place, followed_placement, followed_converted, followed_side, BothFit, ItemFits, ItemsFit, caught_fits, followed_statement, followed_items, followed_item, falls, falls_items, falls_clauses}
+use Rattle.cyc_soundness.proofs.guard.Never.{never_items}
 
--- a peek waits of just what the guard says
+-- the pending peeks are exactly those of the guard
 abbrev pub Waits : Guard → List ℕ → Type 0
 Waits p q = (n : ℕ) → p.peeked n ≡ has q n
 
@@ -36,7 +37,7 @@ waits_more : (o : Option ℕ) (p : Guard) (q : List ℕ) → Waits p q → Waits
 waits_more None p q h = h
 waits_more (Some m) p q h = λ n. peek_added (nat_eq m n) (p.peeked n) (has q n) (h n) ∙ sym (has_append q (m ∷ []) n)
 
--- what is no more than a state, is no more than one that is equal
+-- a state below one state is below any equal state
 moved_to : (f g : State) (h : Held) → f ≡ g → IsAtLeast (held_of f) h → IsAtLeast (held_of g) h
 moved_to f g h eq i = subst (λ x. IsAtLeast (held_of x) h) eq i
 
@@ -103,7 +104,7 @@ mutual
       let rc : Rests p (touched_converted c ns) = before_assigned p l t (touched_converted c ns) r in
       (held_of b, kept_converted p c q f b ns (held_of b) h w rc x (at_least_same (held_of b)), kept_assignment p q l b g j (followed_converted p false c q f b ns h rc x) w y i)
   kept p (Store d c t) q f g ns j h w r (b, x, y) i =
-      let o = peek_behind d in
+      let o = peek_after d in
       let rd : Rests p (touched_place d ns) = before_converted p c (touched_place d ns) r in (
         held_of b,
         kept_place p d q f b ns (held_of b) h w rd x (at_least_same (held_of b)),
@@ -182,7 +183,7 @@ mutual
         kept_operations p os q b g (touched a ns) j (followed p false a (and_peeked (Some n) q) f b ns h ra x) w r y i,
       )
 
--- ---- what stands in a statement
+-- ---- parts of statements
 
 kept_value : (p : Guard) (v : Option Converted) (f g : State) (ns : List ℕ) → Fits p false f → Waits p [] → Rests p (touched_value v ns) → Derives (rule_value v f) g → KeepsValue p v (held_of f) (held_of g)
 kept_value p None f g ns h w r (u, eq) = moved_to g f (held_of g) eq (at_least_same (held_of g))
@@ -244,10 +245,10 @@ kept_declaration p n (Some c) f g ns j h new w r (b, x, (u, eq)) i = (
 
 -- ---- loops
 
--- what the rules know of a loop around, where this is known behind it
+-- the rules' facts about the enclosing loop, given the state after it
 abbrev pub exits_at : Option Loop → Held → Option Exits
 exits_at None b = None
-exits_at (Some l) b = Some (record { head = held_of l.head; behind = b })
+exits_at (Some l) b = Some (record { head = held_of l.head; following = b })
 
 kept_break : (t : Option Loop) (f b : Held) → IsAtLeast f b → KeepsBreak (exits_at t b) f
 kept_break None f b h = tt
@@ -257,9 +258,9 @@ kept_continue : (t : Option Loop) (f left : State) (b : Held) → ((g : Held) �
 kept_continue None f left b h k = tt
 kept_continue (Some l) f left b h (k, u) = h (held_of l.head) (tested left l.head k)
 
--- ---- catches
+-- ---- catch clauses
 
--- what the clauses of a `try` rely on: what holds a value where they begin
+-- the locals that the clauses of a `try` rely on: those that hold values at their start
 record Caught (p : Guard) (ts : List ℕ) (f : State) : Type 0 where
   relied : ℕ → Bool
   reliable : IsReliable p relied (held_of f)
@@ -313,7 +314,7 @@ leaves_relying : (ls : List ℕ) (p o : Guard) (d : Bool) (r : ℕ → Bool) →
 leaves_relying ls p o true r h x = x
 leaves_relying ls p o false r h x = λ n. ((x n).0, (x n).1, λ s. h n ((x n).2 s))
 
--- Behind clauses no more is known than in front of them.
+-- The state after clauses is at most that before them.
 clauses_fall : (c : Around) (start : State) (cs : Clauses) (k l : Known) → Derives (rule_clauses c start cs k) l → IsAtLeast (held_of k.now) (held_of l.now)
 clauses_fall c start NoClauses k l (u, eq) = subst (λ z. IsAtLeast (held_of k.now) (held_of z.now)) (sym eq) (at_least_same (held_of k.now))
 clauses_fall c start (Default b js) k l (m, x, (u, eq)) = subst (λ z. IsAtLeast (held_of k.now) (held_of z.now)) (sym eq) (meet_left k.now (with_each Full (locks_of js) m.now))
@@ -342,7 +343,7 @@ kept_loan p n m f g j h k1 k2 eq i =
     let lent : State = with_fullness Full (with_fullness Locked f m) n in
     (seen_kept p [] m f h k1 k2, at_least_trans (with_held true (held_of f) n) (held_of lent) j (lent_at_least f n m k1) (moved_to g lent j eq i))
 
--- items are never run, or are guarded
+-- items are unreachable or guarded
 run_or_never : (p : Guard) (e : Bool) (x : Option Exits) (js : Items) (f : State) (j : Held) → Fits p e f → (e ≡ false → KeepsItems p x js (held_of f) j) → KeepsItems p x js (held_of f) j
 run_or_never p true x js f j h k = subst (λ g. KeepsItems p x js (held_of g) j) (sym h) (never_items p x js j)
 run_or_never p false x js f j h k = k refl
@@ -414,11 +415,11 @@ mutual
       let one : ItemFits t p false o d m = followed_item p false o d c t k m ns h i w new rt x in (
         held_of m.now,
         kept_item p o d c t k m ns (held_of m.now) b h i w new rt v x (at_least_same (held_of m.now))
-            (at_least_trans (held_of m.breaks) (held_of l.breaks) b (falls_items (published.behind_item t c) js m l y) jb),
-        run_or_never (behind_item t p) one.0 (exits_at c.loop b) js m.now j one.2
-            (λ is. kept_items (behind_item t p) o d (published.behind_item t c) js m l (touched_item t ns) j b (subst (λ e. Fits (behind_item t p) e m.now) is one.2) one.3
-            (subst (λ e. Leaves (c.locks ++ locked_by t) (behind_item t p) e o d) is (leaves_append c.locks (locked_by t) p false (behind_item t p) one.0 o d w one.1))
-            new' (behind_rests t p (touched_items js (touched_item t ns)) r) v y jn jb),
+            (at_least_trans (held_of m.breaks) (held_of l.breaks) b (falls_items (published.following_item t c) js m l y) jb),
+        run_or_never (following_item t p) one.0 (exits_at c.loop b) js m.now j one.2
+            (λ is. kept_items (following_item t p) o d (published.following_item t c) js m l (touched_item t ns) j b (subst (λ e. Fits (following_item t p) e m.now) is one.2) one.3
+            (subst (λ e. Leaves (c.locks ++ locked_by t) (following_item t p) e o d) is (leaves_append c.locks (locked_by t) p false (following_item t p) one.0 o d w one.1))
+            new' (after_rests t p (touched_items js (touched_item t ns)) r) v y jn jb),
       )
 
   kept_item : (p o : Guard) (d : Bool) (c : Around) (t : Item) (k l : Known) (ns : List ℕ) (j b : Held) → Fits p false k.now → Fits o d k.breaks → Leaves c.locks p false o d

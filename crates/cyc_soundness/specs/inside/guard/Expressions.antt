@@ -1,24 +1,24 @@
--- THE FLOW RULES AS A PROOF ABOUT RUNS TAKES THEM, of expressions: what is known before one, and what may be taken to be known behind it,
--- under a guard. They are relations by recursion on the tree, and each leaf may forget: so where branches meet, both come to one state
--- that is no more than either.
+-- THE FLOW RULES IN THE FORM FOR PROOFS ABOUT RUNS, for expressions. The flow rules relate the facts before an expression to the facts
+-- after it, under a guard. The rules are relations by recursion on the tree, and each leaf may forget facts. At the join of branches, the
+-- facts of both branches are weakened to one common state.
 use Rattle.std.specs.Prelude.{true, false, Some}
 use Rattle.cyc_types.specs.TypedTrees.{Lvalue, Local, Global, Expression, Number, NullPointer, HeapRegion, Counter, Copy, Move, Peek, Load, AddressOf, AddressOfCell, NumberOfElements, FreeUnique, FreeKey, Call, Unary, Binary, Assign, Store, New, Dereference, Target}
 use Rattle.cyc_types.specs.TypedTrees.{Member, Element, Placement, OnHeap, AsUnique, ByHandle, Initial, Plain, Fields, Array, Converted, Convert, Arguments, NoArguments, MoreArguments, Operations, NoOperations, ThenCompute, ThenTest, ThenPointer, ThenPointerPeek}
-use Rattle.cyc_types.specs.flow.Expressions.{peek_of, peek_behind}
-use Rattle.cyc_guard.specs.inside.Held.{Held, IsAtLeast, with_held, Guard, peeking, IsSeen, IsUsable, IsAssignable, IsSpared}
+use Rattle.cyc_types.specs.flow.Expressions.{peek_of, peek_after}
+use Rattle.cyc_soundness.specs.inside.guard.Held.{Held, IsAtLeast, with_held, Guard, peeking, IsSeen, IsUsable, IsAssignable, IsSpared}
 
--- a variable is used, and holds its value still: globals are not tracked
-abbrev pub KeepsUse : Guard → Lvalue → (before behind : Held) → Type 0
+-- a variable is used and keeps its value; globals are not tracked
+abbrev pub KeepsUse : Guard → Lvalue → (before following : Held) → Type 0
 KeepsUse p (Local at n) f g = IsUsable p n f × IsAtLeast f g
 KeepsUse p (Global n) f g = IsAtLeast f g
 
--- a value is put into a variable
-abbrev pub KeepsAssignment : Guard → Lvalue → (before behind : Held) → Type 0
+-- a value is stored in a variable
+abbrev pub KeepsAssignment : Guard → Lvalue → (before following : Held) → Type 0
 KeepsAssignment p (Local at n) f g = IsAssignable p n f × IsAtLeast (with_held true f n) g
 KeepsAssignment p (Global n) f g = IsAtLeast f g
 
 abbrev mutual
-  pub Keeps : Guard → Expression → (before behind : Held) → Type 0
+  pub Keeps : Guard → Expression → (before following : Held) → Type 0
   Keeps p (Number n) f g = IsAtLeast f g
   Keeps p NullPointer f g = IsAtLeast f g
   Keeps p HeapRegion f g = IsAtLeast f g
@@ -36,35 +36,35 @@ abbrev mutual
   Keeps p (Unary o a) f g = Keeps p a f g
   Keeps p (Binary a os t) f g = (h : Held) × Keeps p a f h × KeepsOperations p os h g
   Keeps p (Assign l c t) f g = (h : Held) × KeepsConverted p c f h × KeepsAssignment p l h g
-  Keeps p (Store d c t) f g = (h : Held) × KeepsPlace p d f h × KeepsConverted (peeking (peek_behind d) p) c h g
+  Keeps p (Store d c t) f g = (h : Held) × KeepsPlace p d f h × KeepsConverted (peeking (peek_after d) p) c h g
   Keeps p (New w i t) f g = (h : Held) × KeepsPlacement p w f h × KeepsInitial p i h g
 
   -- a place that a pointer leads to
-  pub KeepsPlace : Guard → Dereference → (before behind : Held) → Type 0
+  pub KeepsPlace : Guard → Dereference → (before following : Held) → Type 0
   KeepsPlace p (Target k a t) f g = Keeps p a f g
   KeepsPlace p (Member k a s m t) f g = Keeps p a f g
   KeepsPlace p (Element a i t) f g = (h : Held) × Keeps p a f h × Keeps (peeking (peek_of a) p) i h g
 
-  pub KeepsPlacement : Guard → Placement → (before behind : Held) → Type 0
+  pub KeepsPlacement : Guard → Placement → (before following : Held) → Type 0
   KeepsPlacement p OnHeap f g = IsAtLeast f g
   KeepsPlacement p AsUnique f g = IsAtLeast f g
   KeepsPlacement p (ByHandle a) f g = Keeps p a f g
 
-  -- each element of an array leaves what is known in front of the first
-  pub KeepsInitial : Guard → Initial → (before behind : Held) → Type 0
+  -- each element of an array keeps the facts known before the first
+  pub KeepsInitial : Guard → Initial → (before following : Held) → Type 0
   KeepsInitial p (Plain k a) f g = Keeps p a f g
   KeepsInitial p (Fields as') f g = KeepsArguments p as' f g
   KeepsInitial p (Array at l n k a) f g = (head : Held) × Keeps p n f head × Keeps p a head head × IsAtLeast head g
 
-  pub KeepsConverted : Guard → Converted → (before behind : Held) → Type 0
+  pub KeepsConverted : Guard → Converted → (before following : Held) → Type 0
   KeepsConverted p (Convert from to a) f g = Keeps p a f g
 
-  pub KeepsArguments : Guard → Arguments → (before behind : Held) → Type 0
+  pub KeepsArguments : Guard → Arguments → (before following : Held) → Type 0
   KeepsArguments p NoArguments f g = IsAtLeast f g
   KeepsArguments p (MoreArguments c as') f g = (h : Held) × KeepsConverted p c f h × KeepsArguments p as' h g
 
-  -- behind `&&` and `||` no more is known than where their right operand is left out
-  pub KeepsOperations : Guard → Operations → (before behind : Held) → Type 0
+  -- after `&&` and `||`, only the facts that hold without the right operand are known
+  pub KeepsOperations : Guard → Operations → (before following : Held) → Type 0
   KeepsOperations p NoOperations f g = IsAtLeast f g
   KeepsOperations p (ThenCompute o a os) f g = (h : Held) × Keeps p a f h × KeepsOperations p os h g
   KeepsOperations p (ThenTest o a os) f g = (h : Held) × IsAtLeast f h × Keeps p a f h × KeepsOperations p os h g

@@ -1,32 +1,32 @@
--- The same of statements, of items and of clauses.
+-- The flow rules of statements, of items and of clauses, in the form for proofs about runs.
 use Rattle.std.specs.Prelude.{ℕ, Bool, true, false, Option, Some, None}
 use Rattle.cyc_types.specs.TypedTrees.{Local, Global, Expression, Converted, Side, VariableSide, CellSide, Statement, Block, Empty, Evaluate, Swap, If, While, Return, Break, Continue}
 use Rattle.cyc_types.specs.TypedTrees.{Throw, Try, Items, NoItems, MoreItems, Item, Execute, Declare, DeclareRegion, OpenRegion, DeclareAlias, DeclareKey, Clauses, NoClauses, Default, Case}
 use Rattle.cyc_types.specs.flow.Statements.{peeked_side}
-use Rattle.cyc_guard.specs.inside.Held.{Held, IsAtLeast, updated, with_held, and_held, Guard, peeking, relying, IsSeen, IsUsable, IsSpared, IsReliable, at_catch}
-use Rattle.cyc_guard.specs.inside.Expressions.{Keeps, KeepsPlace, KeepsConverted}
+use Rattle.cyc_soundness.specs.inside.guard.Held.{Held, IsAtLeast, updated, with_held, and_held, Guard, peeking, relying, IsSeen, IsUsable, IsSpared, IsReliable, at_catch}
+use Rattle.cyc_soundness.specs.inside.guard.Expressions.{Keeps, KeepsPlace, KeepsConverted}
 
--- the loop around: what is known at its head, and behind it
+-- the enclosing loop: the states at its head and after it
 pub record Exits : Type 0 where
   pub head : Held
-  pub behind : Held
+  pub following : Held
 
--- ---- what stands in a statement
+-- ---- parts of statements
 
-abbrev pub KeepsValue : Guard → Option Converted → (before behind : Held) → Type 0
+abbrev pub KeepsValue : Guard → Option Converted → (before following : Held) → Type 0
 KeepsValue p None f g = IsAtLeast f g
 KeepsValue p (Some c) f g = KeepsConverted p c f g
 
-abbrev pub KeepsThrown : Guard → Option Expression → (before behind : Held) → Type 0
+abbrev pub KeepsThrown : Guard → Option Expression → (before following : Held) → Type 0
 KeepsThrown p None f g = IsAtLeast f g
 KeepsThrown p (Some a) f g = Keeps p a f g
 
 -- a side of a swap, as a place
-abbrev pub KeepsSide : Guard → Side → (before behind : Held) → Type 0
+abbrev pub KeepsSide : Guard → Side → (before following : Held) → Type 0
 KeepsSide p (VariableSide l t) f g = IsAtLeast f g
 KeepsSide p (CellSide d) f g = KeepsPlace p d f g
 
--- a side that is a variable is used once both places are found
+-- a side that is a variable is used after both places were evaluated
 abbrev pub IsSwappable : Guard → Side → Held → Type 0
 IsSwappable p (VariableSide (Local at n) t) f = IsUsable p n f
 IsSwappable p (VariableSide (Global n) t) f = Unit {0}
@@ -34,7 +34,7 @@ IsSwappable p (CellSide d) f = Unit {0}
 
 abbrev pub KeepsBreak : Option Exits → Held → Type 0
 KeepsBreak None f = Unit {0}
-KeepsBreak (Some l) f = IsAtLeast f l.behind
+KeepsBreak (Some l) f = IsAtLeast f l.following
 
 abbrev pub KeepsContinue : Option Exits → Held → Type 0
 KeepsContinue None f = Unit {0}
@@ -42,15 +42,15 @@ KeepsContinue (Some l) f = IsAtLeast f l.head
 
 -- ---- items
 
-abbrev pub KeepsDeclaration : Guard → ℕ → Option Converted → (before behind : Held) → Type 0
+abbrev pub KeepsDeclaration : Guard → ℕ → Option Converted → (before following : Held) → Type 0
 KeepsDeclaration p n None f g = IsSpared p n f × IsAtLeast (with_held false f n) g
 KeepsDeclaration p n (Some c) f g = (h : Held) × KeepsConverted p c f h × IsAtLeast (with_held true h n) g
 
--- a local is lent out, and another is declared
-abbrev pub KeepsLoan : Guard → (declared lent : ℕ) → (before behind : Held) → Type 0
+-- a local is lent, and another is declared
+abbrev pub KeepsLoan : Guard → (declared lent : ℕ) → (before following : Held) → Type 0
 KeepsLoan p n m f g = IsSeen p m f × IsAtLeast (with_held true f n) g
 
--- what is lent out behind an item: what it lends out stays so to the end of the block
+-- the lent locals after an item; a local stays lent to the end of the block
 abbrev pub and_lent : Item → (ℕ → Bool) → ℕ → Bool
 and_lent (Execute s) w = w
 and_lent (Declare n t v) w = w
@@ -59,14 +59,14 @@ and_lent (OpenRegion r n at k) w = updated w k true
 and_lent (DeclareAlias r n t at m) w = updated w m true
 and_lent (DeclareKey r n) w = w
 
--- what stands around the items behind this one
-abbrev pub behind_item : Item → Guard → Guard
-behind_item j p = record p { locked = and_lent j p.locked }
+-- the guard for the items after this one
+abbrev pub following_item : Item → Guard → Guard
+following_item j p = record p { locked = and_lent j p.locked }
 
 -- ---- all forms
 
 abbrev mutual
-  pub KeepsStatement : Guard → Option Exits → Statement → (before behind : Held) → Type 0
+  pub KeepsStatement : Guard → Option Exits → Statement → (before following : Held) → Type 0
   KeepsStatement p x (Block r js) f g = KeepsItems p x js f g
   KeepsStatement p x Empty f g = IsAtLeast f g
   KeepsStatement p x (Evaluate a) f g = Keeps p a f g
@@ -74,18 +74,18 @@ abbrev mutual
       (h i : Held) × KeepsSide p l f h × KeepsSide (peeking (peeked_side l) p) r h i × IsSwappable p l i × IsSwappable (peeking (peeked_side l) p) r i × IsAtLeast i g
   KeepsStatement p x (If a s t) f g = (h : Held) × Keeps p a f h × KeepsStatement p x s h g × KeepsStatement p x t h g
   KeepsStatement p x (While at a s) f g =
-      (head exit : Held) × IsAtLeast f head × Keeps p a head exit × KeepsStatement p (Some (record { head = head; behind = g })) s exit head × IsAtLeast exit g
+      (head exit : Held) × IsAtLeast f head × Keeps p a head exit × KeepsStatement p (Some (record { head = head; following = g })) s exit head × IsAtLeast exit g
   KeepsStatement p x (Return v) f g = (h : Held) × KeepsValue p v f h
   KeepsStatement p x Break f g = KeepsBreak x f
   KeepsStatement p x Continue f g = KeepsContinue x f
   KeepsStatement p x (Throw e v) f g = (h : Held) × KeepsThrown p v f h
   KeepsStatement p x (Try s cs) f g = (r : ℕ → Bool) × IsReliable p r f × KeepsStatement (relying r p) x s f g × KeepsClauses p x cs (at_catch r f) g
 
-  pub KeepsItems : Guard → Option Exits → Items → (before behind : Held) → Type 0
+  pub KeepsItems : Guard → Option Exits → Items → (before following : Held) → Type 0
   KeepsItems p x NoItems f g = IsAtLeast f g
-  KeepsItems p x (MoreItems j js) f g = (h : Held) × KeepsItem p x j f h × KeepsItems (behind_item j p) x js h g
+  KeepsItems p x (MoreItems j js) f g = (h : Held) × KeepsItem p x j f h × KeepsItems (following_item j p) x js h g
 
-  pub KeepsItem : Guard → Option Exits → Item → (before behind : Held) → Type 0
+  pub KeepsItem : Guard → Option Exits → Item → (before following : Held) → Type 0
   KeepsItem p x (Execute s) f g = KeepsStatement p x s f g
   KeepsItem p x (Declare n t v) f g = KeepsDeclaration p n v f g
   KeepsItem p x (DeclareRegion r n) f g = IsAtLeast (with_held true f n) g
@@ -93,8 +93,8 @@ abbrev mutual
   KeepsItem p x (DeclareAlias r n t at m) f g = KeepsLoan p n m f g
   KeepsItem p x (DeclareKey r n) f g = IsAtLeast (with_held true f n) g
 
-  -- the clauses of a catch, of which each begins with this known, or with less
-  pub KeepsClauses : Guard → Option Exits → Clauses → (start behind : Held) → Type 0
+  -- the clauses of a catch, each of which begins with this state or a weaker one
+  pub KeepsClauses : Guard → Option Exits → Clauses → (start following : Held) → Type 0
   KeepsClauses p x NoClauses c g = Unit {0}
   KeepsClauses p x (Default r js) c g = KeepsItems p x js c g
   KeepsClauses p x (Case e n r js cs) c g = (start : Held) × IsAtLeast (and_held n c) start × KeepsItems p x js start g × KeepsClauses p x cs c g

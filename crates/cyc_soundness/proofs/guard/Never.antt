@@ -1,14 +1,14 @@
--- Code that is never run is guarded, whatever it does.
+-- Unreachable code is guarded, for every statement.
 use Rattle.std.proofs.Common.{ℕ, Option, Some, None}
 use Rattle.cyc_types.specs.TypedTrees.{Lvalue, Local, Global, Expression, Number, NullPointer, HeapRegion, Counter, Copy, Move, Peek, Load, AddressOf, AddressOfCell, NumberOfElements, FreeUnique, FreeKey, Call, Unary}
 use Rattle.cyc_types.specs.TypedTrees.{Binary, Assign, Store, New, Dereference, Target, Member, Element, Placement, OnHeap, AsUnique, ByHandle, Initial, Plain, Fields, Array, Converted, Convert, Arguments, NoArguments}
 use Rattle.cyc_types.specs.TypedTrees.{MoreArguments, Operations, NoOperations, ThenCompute, ThenTest, ThenPointer, ThenPointerPeek, Side, VariableSide, CellSide, Statement, Block, Empty, Evaluate, Swap, If, While}
 use Rattle.cyc_types.specs.TypedTrees.{Return, Break, Continue, Throw, Try, Items, NoItems, MoreItems, Item, Execute, Declare, DeclareRegion, OpenRegion, DeclareAlias, DeclareKey, Clauses, NoClauses, Default, Case}
-use Rattle.cyc_types.specs.flow.Expressions.{peek_of, peek_behind}
+use Rattle.cyc_types.specs.flow.Expressions.{peek_of, peek_after}
 use Rattle.cyc_types.specs.flow.Statements.{peeked_side}
-use Rattle.cyc_guard.specs.inside.Held.{Held, Never, Guard, nowhere, peeking, relying}
-use Rattle.cyc_guard.specs.inside.Expressions.{KeepsUse, KeepsAssignment, Keeps, KeepsPlace, KeepsPlacement, KeepsInitial, KeepsConverted, KeepsArguments, KeepsOperations}
-use Rattle.cyc_guard.specs.inside.Statements.{Exits, KeepsValue, KeepsThrown, KeepsSide, IsSwappable, KeepsBreak, KeepsContinue, behind_item, KeepsDeclaration, KeepsStatement, KeepsItems, KeepsItem, KeepsClauses}
+use Rattle.cyc_soundness.specs.inside.guard.Held.{Held, Never, Guard, nowhere, peeking, relying}
+use Rattle.cyc_soundness.specs.inside.guard.Expressions.{KeepsUse, KeepsAssignment, Keeps, KeepsPlace, KeepsPlacement, KeepsInitial, KeepsConverted, KeepsArguments, KeepsOperations}
+use Rattle.cyc_soundness.specs.inside.guard.Statements.{Exits, KeepsValue, KeepsThrown, KeepsSide, IsSwappable, KeepsBreak, KeepsContinue, following_item, KeepsDeclaration, KeepsStatement, KeepsItems, KeepsItem, KeepsClauses}
 
 never_use : (p : Guard) (l : Lvalue) (g : Held) → KeepsUse p l Never g
 never_use p (Local at n) g = (tt, tt)
@@ -37,7 +37,7 @@ mutual
   never p (Unary o a) g = never p a g
   never p (Binary a os t) g = (Never, never p a Never, never_operations p os g)
   never p (Assign l c t) g = (Never, never_converted p c Never, never_assignment p l g)
-  never p (Store d c t) g = (Never, never_place p d Never, never_converted (peeking (peek_behind d) p) c g)
+  never p (Store d c t) g = (Never, never_place p d Never, never_converted (peeking (peek_after d) p) c g)
   never p (New w i t) g = (Never, never_placement p w Never, never_initial p i g)
 
   pub never_place : (p : Guard) (d : Dereference) (g : Held) → KeepsPlace p d Never g
@@ -106,7 +106,7 @@ mutual
   never_statement p x (Swap l r) g =
       (Never, Never, never_side p l Never, never_side (peeking (peeked_side l) p) r Never, never_swappable p l, never_swappable (peeking (peeked_side l) p) r, tt)
   never_statement p x (If a s t) g = (Never, never p a Never, never_statement p x s g, never_statement p x t g)
-  never_statement p x (While at a s) g = (Never, Never, tt, never p a Never, never_statement p (Some (record { head = Never; behind = g })) s Never, tt)
+  never_statement p x (While at a s) g = (Never, Never, tt, never p a Never, never_statement p (Some (record { head = Never; following = g })) s Never, tt)
   never_statement p x (Return v) g = (Never, never_value p v Never)
   never_statement p x Break g = never_break x
   never_statement p x Continue g = never_continue x
@@ -115,7 +115,7 @@ mutual
 
   pub never_items : (p : Guard) (x : Option Exits) (js : Items) (g : Held) → KeepsItems p x js Never g
   never_items p x NoItems g = tt
-  never_items p x (MoreItems j js) g = (Never, never_item p x j Never, never_items (behind_item j p) x js g)
+  never_items p x (MoreItems j js) g = (Never, never_item p x j Never, never_items (following_item j p) x js g)
 
   never_item : (p : Guard) (x : Option Exits) (j : Item) (g : Held) → KeepsItem p x j Never g
   never_item p x (Execute s) g = never_statement p x s g

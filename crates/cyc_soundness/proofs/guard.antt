@@ -1,13 +1,13 @@
 -- tests on numbers, and the states of the rules
 pub mod Bools
 pub mod States
--- what a guard says of a state, and what the rules keep of it
+-- the relation of a guard to a state, and its preservation by the rules
 pub mod Fitting
 pub mod Numbers
 pub mod Followed
--- from the rules to what a proof about runs takes
+-- from the flow rules to the relations on states
 pub mod Never
 pub mod Kept
 pub mod Whole
--- numbers are fresh in what is well typed
+-- declared numbers are fresh in well-typed trees
 pub mod WellNumbered

@@ -1,4 +1,4 @@
--- The whole program.
+-- All functions of a program are guarded.
 use Rattle.std.proofs.Common.{◌≡◌, ℕ, zero, suc, ◌<◌, true, false, not, nat_lt, List, [], ◌∷◌, ◌++◌, Option, Some, None, get_or, length, refl, sym, subst, arith}
 use Rattle.cyc_words.proofs.Numbers.{lt-nat_lt, nat_lt-true}
 use Rattle.cyc_types.specs.Types.{Ty}
@@ -6,12 +6,12 @@ use Rattle.cyc_types.specs.TypedTrees.{Function}
 use Rattle.cyc_types.specs.Rules.{Derives, AllKept}
 use Rattle.cyc_types.specs.flow.States.{Vacant, Full, State, Unreached, Reached, is_vacant, is_reached}
 use Rattle.cyc_types.specs.flow.Programs.{each_is, start_of, in_function, end_demanded, rule_function, rule_functions}
-use Rattle.cyc_guard.specs.inside.Held.{Never, nowhere, no_guard}
-use Rattle.cyc_guard.specs.inside.Programs.{EndsIn, IsGuardedFunction, AreGuarded}
-use Rattle.cyc_guard.proofs.States.{is_full, held_of, at_least_same}
-use Rattle.cyc_guard.proofs.Fitting.{FitsAt, FitsEach, leaves_none}
-use Rattle.cyc_guard.proofs.Numbers.{AreFresh}
-use Rattle.cyc_guard.proofs.Kept.{kept_items}
+use Rattle.cyc_soundness.specs.inside.guard.Held.{Never, nowhere, no_guard}
+use Rattle.cyc_soundness.specs.inside.guard.Programs.{EndsIn, IsGuardedFunction, AreGuarded}
+use Rattle.cyc_soundness.proofs.guard.States.{is_full, held_of, at_least_same}
+use Rattle.cyc_soundness.proofs.guard.Fitting.{FitsAt, FitsEach, leaves_none}
+use Rattle.cyc_soundness.proofs.guard.Numbers.{AreFresh}
+use Rattle.cyc_soundness.proofs.guard.Kept.{kept_items}
 
 -- ---- the start of a function
 
@@ -33,7 +33,7 @@ full_start [] us n h = let k : not (is_vacant Vacant) ≡ true = subst (λ a. no
 full_start (t ∷ ts) us zero h = lt-nat_lt zero (suc (length ts)) (omega arith)
 full_start (t ∷ ts) us (suc n) h = let k : n < length ts = nat_lt-true n (length ts) (full_start ts us n h) in lt-nat_lt (suc n) (suc (length ts)) (omega arith)
 
--- ---- its end
+-- ---- the end of a function
 
 never_ends : (f : State) → not (is_reached f) ≡ true → held_of f ≡ Never
 never_ends Unreached h = refl

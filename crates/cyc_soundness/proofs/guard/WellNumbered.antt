@@ -1,19 +1,19 @@
--- In a well typed program numbers are fresh: what is lent out is in scope, and what is declared has the next number.
+-- In a well-typed program declared numbers are fresh: a lent local is in scope, and a declared local has the next number.
 use Rattle.std.proofs.Common.{◌≡◌, ℕ, suc, ◌+◌, ◌<◌, ◌≤◌, Bool, true, false, cond, nat_eq, List, [], ◌∷◌, Some, None, length, refl, subst, arith, inl, inr}
 use Rattle.cyc_types.specs.Types.{Ty}
 use Rattle.cyc_types.specs.Declarations.{declared_types, item_types}
 use Rattle.cyc_types.specs.TypedTrees.{Statement, Block, Empty, Evaluate, Swap, If, While, Return, Break, Continue, Throw, Try, Items, NoItems, MoreItems, Execute, Declare, DeclareRegion, OpenRegion, DeclareAlias, DeclareKey, Clauses, NoClauses, Default, Case, Function, Program}
-use Rattle.cyc_types.specs.typing.WellTyped.{LocalInScope, HasLocal, Context, behind, IsCaught, behind_clause, WellTypedStatement, WellTypedItems, WellTypedClauses, parameters_in_scope, body_context, AreWellTypedFunctions}
-use Rattle.cyc_guard.specs.inside.Held.{updated, nowhere}
-use Rattle.cyc_guard.proofs.Bools.{Told, same, other, told}
-use Rattle.cyc_guard.proofs.Numbers.{IsFresh, AreFresh, AreFreshClauses}
-use Rattle.cyc_guard.proofs.Whole.{AreAllFresh}
+use Rattle.cyc_types.specs.typing.WellTyped.{LocalInScope, HasLocal, Context, following, IsCaught, after_clause, WellTypedStatement, WellTypedItems, WellTypedClauses, parameters_in_scope, body_context, AreWellTypedFunctions}
+use Rattle.cyc_soundness.specs.inside.guard.Held.{updated, nowhere}
+use Rattle.cyc_soundness.proofs.guard.Bools.{Reflects, same, other, reflects}
+use Rattle.cyc_soundness.proofs.guard.Numbers.{IsFresh, AreFresh, AreFreshClauses}
+use Rattle.cyc_soundness.proofs.guard.Whole.{AreAllFresh}
 
--- what is lent out has a lower number than this
+-- all lent locals have numbers below this one
 abbrev pub AreBelow : (locked : ℕ → Bool) → ℕ → Type 0
 AreBelow w m = (n : ℕ) → w n ≡ true → n < m
 
--- and so have the locals in scope
+-- all locals in scope have numbers below this one
 abbrev pub InScope : List LocalInScope → ℕ → Type 0
 InScope [] m = Unit {0}
 InScope (v ∷ vs) m = (v.number < m) × InScope vs m
@@ -30,7 +30,7 @@ found_below [] m n t r h x = absurd x
 found_below (v ∷ vs) m n t r (h, k) (inl (e, y, z)) = subst (λ i. i < m) e h
 found_below (v ∷ vs) m n t r (h, k) (inr x) = found_below vs m n t r k x
 
--- the next number is not lent out
+-- the next local is not lent
 next_fresh : (w : ℕ → Bool) (m n : ℕ) → AreBelow w m → n ≡ m → w n ≡ false
 next_fresh w m n h e = go (w n) (h n)
   where
@@ -39,9 +39,9 @@ next_fresh w m n h e = go (w n) (h n)
     go false k = refl
 
 pub lent_below : (w : ℕ → Bool) (m k : ℕ) → AreBelow w m → k < m → AreBelow (updated w k true) m
-lent_below w m k h l n = go (nat_eq k n) (told k n)
+lent_below w m k h l n = go (nat_eq k n) (reflects k n)
   where
-    go : (b : Bool) → Told k n b → cond b true (w n) ≡ true → n < m
+    go : (b : Bool) → Reflects k n b → cond b true (w n) ≡ true → n < m
     go true (same e) x = omega arith
     go false (other y) x = h n x
 
@@ -63,7 +63,7 @@ mutual
   statement_fresh w c (Swap a b) h k x = tt
   statement_fresh w c (If a s t) h k (x, y, z) =
       let m = c.next_local + length (declared_types s) in
-      (statement_fresh w c s h k y, statement_fresh w (behind c s) t (below_more w c.next_local m (omega arith) h) (in_scope_more c.locals c.next_local m (omega arith) k) z)
+      (statement_fresh w c s h k y, statement_fresh w (following c s) t (below_more w c.next_local m (omega arith) h) (in_scope_more c.locals c.next_local m (omega arith) k) z)
   statement_fresh w c (While q a s) h k (x, y) = statement_fresh w _ s h k y
   statement_fresh w c (Return v) h k x = tt
   statement_fresh w c Break h k x = tt
@@ -71,13 +71,13 @@ mutual
   statement_fresh w c (Throw e v) h k x = tt
   statement_fresh w c (Try s cs) h k (x, y) =
       let m = c.next_local + length (declared_types s) in
-      (statement_fresh w c s h k x, clauses_fresh w (behind c s) cs (below_more w c.next_local m (omega arith) h) (in_scope_more c.locals c.next_local m (omega arith) k) y)
+      (statement_fresh w c s h k x, clauses_fresh w (following c s) cs (below_more w c.next_local m (omega arith) h) (in_scope_more c.locals c.next_local m (omega arith) k) y)
 
   pub items_fresh : (w : ℕ → Bool) (c : Context) (js : Items) → AreBelow w c.next_local → InScope c.locals c.next_local → WellTypedItems c js → AreFresh w js
   items_fresh w c NoItems h k x = tt
   items_fresh w c (MoreItems (Execute s) js) h k (x, y) =
       let m = c.next_local + length (declared_types s) in
-      (statement_fresh w c s h k x, items_fresh w (behind c s) js (below_more w c.next_local m (omega arith) h) (in_scope_more c.locals c.next_local m (omega arith) k) y)
+      (statement_fresh w c s h k x, items_fresh w (following c s) js (below_more w c.next_local m (omega arith) h) (in_scope_more c.locals c.next_local m (omega arith) k) y)
   items_fresh w c (MoreItems (Declare n t v) js) h k (x, i, y) = (next_fresh w c.next_local n h x.0, items_fresh w _ js (below_next_local w c h) (next_in_scope c k) y)
   items_fresh w c (MoreItems (DeclareRegion r n) js) h k (q, x, y) = (next_fresh w c.next_local n h x.0, items_fresh w _ js (below_next_local w c h) (next_in_scope c k) y)
   items_fresh w c (MoreItems (OpenRegion r n q m) js) h k (v, x, y) =
@@ -93,12 +93,12 @@ mutual
   clauses_fresh w c (Default r js) h k (x, y) = items_fresh w _ js h k y
   clauses_fresh w c (Case e None r js cs) h k (has, x, g, q, y, z) =
       let m = c.next_local + (0 + length (item_types js)) in
-      (tt, items_fresh w _ js h k y, clauses_fresh w (behind_clause c None js) cs (below_more w c.next_local m (omega arith) h) (in_scope_more c.locals c.next_local m (omega arith) k) z)
+      (tt, items_fresh w _ js h k y, clauses_fresh w (after_clause c None js) cs (below_more w c.next_local m (omega arith) h) (in_scope_more c.locals c.next_local m (omega arith) k) z)
   clauses_fresh w c (Case e (Some n) r js cs) h k (has, x, g, q, y, z) =
       let m = c.next_local + (1 + length (item_types js)) in (
         caught_fresh w c has n h g,
         items_fresh w _ js (below_next_local w c h) (next_in_scope c k) y,
-        clauses_fresh w (behind_clause c (Some n) js) cs (below_more w c.next_local m (omega arith) h) (in_scope_more c.locals c.next_local m (omega arith) k) z,
+        clauses_fresh w (after_clause c (Some n) js) cs (below_more w c.next_local m (omega arith) h) (in_scope_more c.locals c.next_local m (omega arith) k) z,
       )
 
 -- ---- functions

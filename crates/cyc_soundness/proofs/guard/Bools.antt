@@ -1,19 +1,19 @@
--- Tests on numbers, and what two of them say together.
+-- Tests on numbers, and consequences of two tests.
 use Rattle.std.proofs.Common.{◌≡◌, ℕ, Bool, true, false, cond, ◌||◌, nat_eq, List, [], ◌∷◌, ◌++◌, refl, ap, subst, ◌∙◌}
 use Rattle.std.specs.List.{list_any}
 use Rattle.std.proofs.lemmas.Bool.{or_left, or_right}
 use Rattle.std.proofs.lemmas.List.Folds.{list_any-append}
 use Rattle.cyc_words.proofs.Numbers.{nat_eq-true, nat_eq-false_turned, nat_eq-itself}
-use Rattle.cyc_guard.specs.inside.Held.{updated}
+use Rattle.cyc_soundness.specs.inside.guard.Held.{updated}
 
-pub data Told (m n : ℕ) : Bool → Type 0 where
-  same : m ≡ n → Told m n true
-  other : (n ≡ m → ⊥) → Told m n false
+pub data Reflects (m n : ℕ) : Bool → Type 0 where
+  same : m ≡ n → Reflects m n true
+  other : (n ≡ m → ⊥) → Reflects m n false
 
-pub told : (m n : ℕ) → Told m n (nat_eq m n)
-told m n = go (nat_eq m n) refl
+pub reflects : (m n : ℕ) → Reflects m n (nat_eq m n)
+reflects m n = go (nat_eq m n) refl
   where
-    go : (b : Bool) → nat_eq m n ≡ b → Told m n b
+    go : (b : Bool) → nat_eq m n ≡ b → Reflects m n b
     go true e = same (nat_eq-true m n e)
     go false e = other (nat_eq-false_turned m n e)
 

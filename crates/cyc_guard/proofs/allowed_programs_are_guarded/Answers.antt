@@ -1,6 +1,0 @@
-use Rattle.cyc_guard.proofs.Whole.{functions_guarded}
-use Rattle.cyc_guard.proofs.WellNumbered.{functions_fresh}
-use Rattle.cyc_guard.proofs.allowed_programs_are_guarded.Goals as goal
-
-pub returns : goal.returns
-returns c = λ p well allowed. functions_guarded p.functions (functions_fresh p p.functions well.functions) allowed
