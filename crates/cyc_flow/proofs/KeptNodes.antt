@@ -1,4 +1,4 @@
--- What is known behind a node of the typed tree with a list of nodes, by the items of that list.
+-- The state after a node of the typed tree that contains a list, computed from the list's items.
 use Rattle.std.proofs.Common.{◌≡◌, ℕ, List, [], ◌++◌, Option, None, Some, Result, Ok, Err, sym, ap, subst, ◌∙◌}
 use Rattle.std.specs.declared.vec.Vec.{Vec}
 use Rattle.std.specs.declared.boxed.Box.{Box}
@@ -46,16 +46,16 @@ module _ (value : Expr) {w' : Span} (f : Callee) (v : Vec ConvertedCode Heap) (o
       let P : Expression → Type 0 = λ a. Leads r w (run (rule q a s)) (touched a ns) start in
       subst P (sym e) h
 
-module _ (value : Expr) (b : Box Expr Heap) (v : Vec Operation Heap) (of_type : Ty) (is : value ≡ expr.Binary b v of_type) (first : Expr) (at : first ≡ b.value) (items : List Operation) (same : items ≡ v.items) (r : Result (Unit {0}) Stop) (w : Evaluation) (q : List ℕ) (s behind : State) (ns touches : List ℕ) (start now : State) where
-  pub kept_binary : run (rule q (view_expression first) s) ≡ Ok behind → touches ≡ touched (view_expression first) ns → now ≡ start
-      → Leads r w (run (rule_operations q (operations_of items) behind)) (touched_operations (operations_of items) touches) now → Leads r w (run (rule q (view_expression value) s)) (touched (view_expression value) ns) start
+module _ (value : Expr) (b : Box Expr Heap) (v : Vec Operation Heap) (of_type : Ty) (is : value ≡ expr.Binary b v of_type) (first : Expr) (at : first ≡ b.value) (items : List Operation) (same : items ≡ v.items) (r : Result (Unit {0}) Stop) (w : Evaluation) (q : List ℕ) (s following : State) (ns touches : List ℕ) (start now : State) where
+  pub kept_binary : run (rule q (view_expression first) s) ≡ Ok following → touches ≡ touched (view_expression first) ns → now ≡ start
+      → Leads r w (run (rule_operations q (operations_of items) following)) (touched_operations (operations_of items) touches) now → Leads r w (run (rule q (view_expression value) s)) (touched (view_expression value) ns) start
   kept_binary k d n h =
       let e : view_expression value ≡ Binary (view_expression first) (operations_of items) (view_ty of_type)
       = ap view_expression is ∙ view_typed_binary b v of_type ∙ ap (λ (os : List Operation). Binary (view_expression b.value) (operations_of os) (view_ty of_type)) (sym same) ∙ ap (λ (x : Expr). Binary (view_expression x) (operations_of items) (view_ty of_type)) (sym at) in
       let P : Expression → Type 0 = λ a. Leads r w (run (rule q a s)) (touched a ns) start in
-      let Q : List ℕ → Type 0 = λ ms. Leads r w (run (rule_operations q (operations_of items) behind)) (touched_operations (operations_of items) ms) start in
+      let Q : List ℕ → Type 0 = λ ms. Leads r w (run (rule_operations q (operations_of items) following)) (touched_operations (operations_of items) ms) start in
       let R : Checked State → Type 0 = λ o. Leads r w (and_then o (λ g. run (rule_operations q (operations_of items) g))) (touched_operations (operations_of items) (touched (view_expression first) ns)) start in
-      let S : State → Type 0 = λ f. Leads r w (run (rule_operations q (operations_of items) behind)) (touched_operations (operations_of items) touches) f in
+      let S : State → Type 0 = λ f. Leads r w (run (rule_operations q (operations_of items) following)) (touched_operations (operations_of items) touches) f in
       subst P (sym e) (subst R (sym k) (subst Q d (subst S n h)))
 
 module _ (value : InitialCode) (v : Vec ConvertedCode Heap) (is : value ≡ initial.Fields v) (items : List ConvertedCode) (same : items ≡ v.items) (r : Result (Unit {0}) Stop) (w : Evaluation) (q : List ℕ) (s : State) (ns : List ℕ) (start : State) where
@@ -74,7 +74,7 @@ module _ (statement : Stmt) (region : ℕ) (v : Vec ItemCode Heap) (is : stateme
       let P : Statement → Type 0 = λ a. GivesKnown r (run (rule_statement c a k)) (touched_statement a ns) breaks in
       subst P (sym e) h
 
--- what is known behind an expression is known behind its statement, and the breaks stay
+-- the state after an expression is the state after its statement, and the breaks are unchanged
 gives_known : (r : Result Tracked Stop) (checked : Checked State) (ns : List ℕ) (breaks : State) → Gives r checked ns → GivesKnown r (and_then checked (λ f. Ok (known f breaks))) ns breaks
 gives_known (Ok t) checked ns breaks (h, k) = (ap (λ (o : Checked State). and_then o (λ f. Ok (known f breaks))) h, k)
 gives_known (Err stops.Memory) checked ns breaks h = tt
@@ -96,7 +96,7 @@ module _ (statement : Stmt) (span : Span) (condition : Expr) (b : Box Stmt Heap)
       let P : Statement → Type 0 = λ s. GivesKnown r (run (rule_statement c s k)) (touched_statement s ns) breaks in
       subst P (sym e) h
 
--- Behind the body of a `try`, what its clauses lead to is what the whole leads to.
+-- After the body of a `try`, the result of the clauses is the result of the whole statement.
 module _
     (statement : Stmt) {span : Span} (b : Box Stmt Heap) (v : Vec Clause Heap) (d : Option Body) (is : statement ≡ stmt.Try span b v d) (body : Stmt) (at : body ≡ b.value) (items : List Clause) (same : items ≡ v.items)
     (l : Option Loop) (locks later : List ℕ) (unlocked : later ≡ locks) (f breaks before end inside start now : State) (copied : before ≡ f) (goes_on : now ≡ end)
@@ -125,24 +125,24 @@ module _
       ap (λ (s : Statement). touched_statement s ns) whole
       ∙ ap (touched_clauses (clauses_of items (default_of d))) (ap (λ (ms : List ℕ). ns ++ ms) (sym touches_all) ∙ sym adds)
 
--- Behind the clauses there is nothing more, or the items of a default.
-module _ (d : Option Body) (l : Option Loop) (locks : List ℕ) (start behind breaks : State) (whole : Checked Known) (whole_touched ns : List ℕ)
-    (run_on : whole ≡ run (rule_clauses (stands l locks) start (default_of d) (known behind breaks))) (touched_on : whole_touched ≡ touched_clauses (default_of d) ns) where
-  pub no_default : d ≡ None → (whole ≡ Ok (known behind breaks)) × (ns ≡ whole_touched)
+-- After the clauses there is nothing more, or the items of a default clause.
+module _ (d : Option Body) (l : Option Loop) (locks : List ℕ) (start following breaks : State) (whole : Checked Known) (whole_touched ns : List ℕ)
+    (run_on : whole ≡ run (rule_clauses (stands l locks) start (default_of d) (known following breaks))) (touched_on : whole_touched ≡ touched_clauses (default_of d) ns) where
+  pub no_default : d ≡ None → (whole ≡ Ok (known following breaks)) × (ns ≡ whole_touched)
   no_default is =
-      (run_on ∙ ap (λ (e : Option Body). run (rule_clauses (stands l locks) start (default_of e) (known behind breaks))) is, sym (touched_on ∙ ap (λ (e : Option Body). touched_clauses (default_of e) ns) is))
+      (run_on ∙ ap (λ (e : Option Body). run (rule_clauses (stands l locks) start (default_of e) (known following breaks))) is, sym (touched_on ∙ ap (λ (e : Option Body). touched_clauses (default_of e) ns) is))
 
   pub with_default : (b : Body) → d ≡ Some b → (items : List ItemCode) → items ≡ b.items.items → (later : List ℕ) → later ≡ locks → (r : Result Tracked Stop) (end : State)
-      → GivesKnown r (and_then (run (rule_items (stands l later) (items_of items) (known (with_caught None start) breaks))) (λ k. Ok (or_clause behind (items_of items) k))) (touched_items (items_of items) ns) end
+      → GivesKnown r (and_then (run (rule_items (stands l later) (items_of items) (known (with_caught None start) breaks))) (λ k. Ok (or_clause following (items_of items) k))) (touched_items (items_of items) ns) end
       → GivesKnown r whole whole_touched end
   with_default b is items same later unlocked r end h =
-      let run_so : whole ≡ and_then (run (rule_items (stands l later) (items_of items) (known (with_caught None start) breaks))) (λ k. Ok (or_clause behind (items_of items) k)) =
+      let run_so : whole ≡ and_then (run (rule_items (stands l later) (items_of items) (known (with_caught None start) breaks))) (λ k. Ok (or_clause following (items_of items) k)) =
       run_on
-      ∙ ap (λ (e : Option Body). run (rule_clauses (stands l locks) start (default_of e) (known behind breaks))) is
-      ∙ ap (λ (ks : List ℕ). run (rule_clauses (stands l ks) start (Default b.region (items_of b.items.items)) (known behind breaks))) (sym unlocked)
-      ∙ ap (λ (js : List ItemCode). run (rule_clauses (stands l later) start (Default b.region (items_of js)) (known behind breaks))) (sym same) in
+      ∙ ap (λ (e : Option Body). run (rule_clauses (stands l locks) start (default_of e) (known following breaks))) is
+      ∙ ap (λ (ks : List ℕ). run (rule_clauses (stands l ks) start (Default b.region (items_of b.items.items)) (known following breaks))) (sym unlocked)
+      ∙ ap (λ (js : List ItemCode). run (rule_clauses (stands l later) start (Default b.region (items_of js)) (known following breaks))) (sym same) in
       let touched_so : whole_touched ≡ touched_items (items_of items) ns =
       touched_on ∙ ap (λ (e : Option Body). touched_clauses (default_of e) ns) is ∙ ap (λ (js : List ItemCode). touched_items (items_of js) ns) (sym same) in
       let P : Checked Known → Type 0 = λ o. GivesKnown r o whole_touched end in
-      let Q : List ℕ → Type 0 = λ ms. GivesKnown r (and_then (run (rule_items (stands l later) (items_of items) (known (with_caught None start) breaks))) (λ k. Ok (or_clause behind (items_of items) k))) ms end in
+      let Q : List ℕ → Type 0 = λ ms. GivesKnown r (and_then (run (rule_items (stands l later) (items_of items) (known (with_caught None start) breaks))) (λ k. Ok (or_clause following (items_of items) k))) ms end in
       subst P (sym run_so) (subst Q (sym touched_so) h)

@@ -1,10 +1,10 @@
 -- sets of numbers
 pub mod Sets
--- what is known of each local
+-- the state of each local
 pub mod Tables
 pub mod States
--- changes that are undone
+-- undoing of changes
 pub mod Trails
--- nodes, and the lists of nodes in them
+-- nodes of typed trees, and the lists in these nodes
 pub mod Walks
 pub mod KeptNodes

@@ -1,4 +1,4 @@
--- Sets of numbers, by the bits of words.
+-- Sets of numbers, represented by the bits of words.
 use Rattle.std.proofs.Common.{◌≡◌, ◌≢◌, ℕ, zero, suc, ◌+◌, ◌/◌, ◌%◌, ◌<◌, ◌≤◌, min, max, Bool, true, false, ◌==◌, ◌||◌, List, [], ◌∷◌, ◌++◌, length, take, drop, replicate, get_or, set, refl, sym, ap, subst, ◌∙◌, arith, inl, inr}
 use Rattle.std.specs.Prelude.{bit_or}
 use Rattle.std.specs.Int.{bit_at}
@@ -25,22 +25,22 @@ or_turned true false = refl
 or_turned false true = refl
 or_turned false false = refl
 
--- words with one bit more stand for one number more
+-- words with one more bit represent one more number
 pub stand_more : (vs ws ns : List ℕ) (m : ℕ) → Stand ws ns → ((n : ℕ) → has_number vs n ≡ ((n == m) || has_number ws n)) → Stand vs (ns ++ m ∷ [])
 stand_more vs ws ns m h is n =
     is n ∙ ap (λ (b : Bool). (n == m) || b) (h n) ∙ or_turned (n == m) (is_among n ns) ∙ sym (among_both n ns (m ∷ []))
 
--- words with the bits of both stand for the numbers of both
+-- words with the bits of two sets represent the union
 pub stand_both : (us vs ws ns ms : List ℕ) → Stand vs ns → Stand ws ms → ((n : ℕ) → has_number us n ≡ (has_number vs n || has_number ws n)) → Stand us (ns ++ ms)
 stand_both us vs ws ns ms h k is n =
     is n ∙ ap (λ (b : Bool). b || has_number ws n) (h n) ∙ ap (λ (b : Bool). is_among n ns || b) (k n) ∙ sym (among_both n ns ms)
 
--- no words stand for no numbers
+-- no words represent the empty set
 pub stand_none : (ws ns : List ℕ) → ws ≡ [] → ns ≡ [] → Stand ws ns
 stand_none ws ns d e n =
     ap (λ (vs : List ℕ). has_number vs n) d ∙ ap (λ (b : ℕ). b == 1) (bit_at-zero (n % 64)) ∙ sym (ap (is_among n) e)
 
--- ---- words that change what is at their places
+-- ---- words that change the elements at their indices
 
 pub length-with_words : {X : Type 0} (f : X → ℕ → X) (xs : List X) (ws : List ℕ) → length (with_words f xs ws) ≡ length xs
 length-with_words f [] ws = refl
@@ -57,7 +57,7 @@ taken_and_rest zero xs = refl
 taken_and_rest (suc n) [] = refl
 taken_and_rest (suc n) (x ∷ xs) = ap (λ ys. x ∷ ys) (taken_and_rest n xs)
 
--- so many are changed, and the rest are as they were
+-- the first elements are changed, and the remaining elements are unchanged
 abbrev pub Changed : {X : Type 0} → (X → ℕ → X) → List X → List ℕ → ℕ → (whole : List X) → Type 0
 Changed f xs ws i whole = take i xs ++ with_words f (drop i xs) (drop i ws) ≡ whole
 
@@ -67,7 +67,7 @@ changed_all f xs whole ws i n d e k =
     let none : min (length (drop n xs)) (length (drop n ws)) ≡ 0 = omega (arith, length-drop n xs, length-drop n ws, e) in
     sym (taken_and_rest n xs) ∙ ap (λ ys. take n xs ++ ys) (sym (none_changes f (drop n xs) (drop n ws) none)) ∙ h
 
--- one more is changed
+-- one more element is changed
 changed_next : {X : Type 0} (f : X → ℕ → X) (xs whole : List X) (ws : List ℕ) (i : ℕ) (x : X) (w : ℕ) → i < length xs → i < length ws → x ≡ get_or xs i x → w ≡ get_or ws i w
     → Changed f xs ws i whole → Changed f (set xs i (f x w)) ws (suc i) whole
 changed_next f [] whole ws i x w below less read found h = absurd (omega (arith, below))
@@ -82,7 +82,7 @@ changed_more f xs whole ws i x w below less read found h =
     let P : ℕ → Type 0 = λ n. Changed f (set xs i (f x w)) ws n whole in
     subst P (let next : suc i ≡ i + 1 = omega arith in next) (changed_next f xs whole ws i x w below less read found h)
 
--- ---- the bits of both
+-- ---- the bits of a union
 
 bit_of_two_sets : (vs ws : List ℕ) (p i : ℕ) → length ws ≤ length vs → bit_at (get_or (with_words bit_or vs ws) p 0) i ≡ max (bit_at (get_or vs p 0) i) (bit_at (get_or ws p 0) i)
 bit_of_two_sets [] [] p i h = omega (arith, bit_at-zero i)
@@ -112,20 +112,20 @@ or_swapped true false = refl
 or_swapped false true = refl
 or_swapped false false = refl
 
--- ---- one bit more
+-- ---- setting one bit
 
-behind_zeros : (ws : List ℕ) (k i : ℕ) → get_or (ws ++ replicate k 0) i 0 ≡ get_or ws i 0
-behind_zeros [] zero i = refl
-behind_zeros [] (suc k) zero = refl
-behind_zeros [] (suc k) (suc i) = behind_zeros [] k i
-behind_zeros (w ∷ ws) k zero = refl
-behind_zeros (w ∷ ws) k (suc i) = behind_zeros ws k i
+after_zeros : (ws : List ℕ) (k i : ℕ) → get_or (ws ++ replicate k 0) i 0 ≡ get_or ws i 0
+after_zeros [] zero i = refl
+after_zeros [] (suc k) zero = refl
+after_zeros [] (suc k) (suc i) = after_zeros [] k i
+after_zeros (w ∷ ws) k zero = refl
+after_zeros (w ∷ ws) k (suc i) = after_zeros ws k i
 
--- words that are made as many as are wanted have the bits that they had
+-- extending words by zeros keeps their bits
 pub has_grown : (vs ws : List ℕ) (m k : ℕ) → length ws ≤ m → vs ≡ take m ws ++ replicate k 0 → (n : ℕ) → has_number vs n ≡ has_number ws n
 has_grown vs ws m k few are n =
     ap (λ (v : ℕ). has_bit v (n % 64))
-    (ap (λ (us : List ℕ). get_or us (n / 64) 0) (are ∙ ap (λ (us : List ℕ). us ++ replicate k 0) (take_all m ws few)) ∙ behind_zeros ws k (n / 64))
+    (ap (λ (us : List ℕ). get_or us (n / 64) 0) (are ∙ ap (λ (us : List ℕ). us ++ replicate k 0) (take_all m ws few)) ∙ after_zeros ws k (n / 64))
 
 module _ (vs ws : List ℕ) (m v w : ℕ) (same_bits : (n : ℕ) → has_number vs n ≡ has_number ws n) (within : m / 64 < length vs) (read : v ≡ get_or vs (m / 64) v)
     (same : has_bit w (m % 64) ≡ true) (other : (i : ℕ) → i < 64 → i ≢ m % 64 → bit_at w i ≡ bit_at v i) where
@@ -142,7 +142,7 @@ module _ (vs ws : List ℕ) (m v w : ℕ) (same_bits : (n : ℕ) → has_number 
     | inr there ↦ ap (λ (u : ℕ). has_bit u (n % 64)) (get_or-set_other vs (m / 64) (n / 64) w 0 there)
   ]
 
-  -- the bit of a number is set, and the others are as they were
+  -- setting the bit of a number keeps the other bits
   pub has_inserted : (n : ℕ) → has_number (set vs (m / 64) w) n ≡ ((n == m) || has_number ws n)
   has_inserted n = elim (eqb_tells n m) [
     | inl same_number ↦

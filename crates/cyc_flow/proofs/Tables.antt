@@ -1,4 +1,4 @@
--- What words of bits tell of locals.
+-- The meaning of the bits of words for locals.
 use Rattle.std.proofs.Common.{◌≡◌, ◌≢◌, ℕ, zero, suc, ◌+◌, ◌*◌, ◌/◌, ◌%◌, ◌<◌, ◌≤◌, min, Bool, true, false, ◌==◌, ◌&&◌, ◌||◌, if◌then◌else◌, List, [], ◌∷◌, ◌++◌, length, take, drop, replicate, get_or, set, refl, sym, ap, subst, ◌∙◌, arith, inl, inr}
 use Rattle.std.specs.Prelude.{bit_and, bit_or, bit_xor}
 use Rattle.std.specs.Int.{bit_at}
@@ -9,12 +9,12 @@ use Rattle.cyc_types.specs.flow.States.{Fullness, Vacant, Locked, Full, Reached,
 use Rattle.cyc_flow.specs.declared.table.Marks.{Marks}
 use Rattle.cyc_flow.specs.declared.table.Table.{Table}
 use Rattle.cyc_flow.specs.inside.Bits.{has_bit}
-use Rattle.cyc_flow.specs.inside.Tables.{told, marked, no_marks, marks_at, known_at, each_below, table_length, view_table, missing, Covers, met, met_each, emptied_marks}
+use Rattle.cyc_flow.specs.inside.Tables.{reported, marked, no_marks, marks_at, known_at, each_below, table_length, view_table, missing, Covers, met, met_each, emptied_marks}
 use Rattle.cyc_flow.specs.inside.Numbers.{is_among, Stand, with_words}
 use Rattle.cyc_flow.proofs.Sets.{length-with_words}
 use Rattle.cyc_words.proofs.Numbers.{eqb_itself, eqb_other}
 
--- ---- lists by their places
+-- ---- lists by index
 
 pub length-each_below : (n : ℕ) (f : ℕ → Fullness) → length (each_below n f) ≡ n
 length-each_below zero f = refl
@@ -31,7 +31,7 @@ same_each (suc n) f g each =
     ap (λ a. a ∷ each_below n (λ i. f (suc i))) (each 0 (omega arith))
     ∙ ap (λ as'. g 0 ∷ as') (same_each n (λ i. f (suc i)) (λ i. g (suc i)) (λ i below. each (suc i) (omega (arith, below))))
 
--- one of them is another
+-- changing the value at one index
 pub set_each : (n : ℕ) (f g : ℕ → Fullness) (i : ℕ) (a : Fullness) → ((j : ℕ) → j < n → j ≢ i → g j ≡ f j) → (i < n → g i ≡ a) → each_below n g ≡ set (each_below n f) i a
 set_each zero f g i a other same = refl
 set_each (suc n) f g zero a other same =
@@ -60,7 +60,7 @@ as_full_below (suc n) f g each = both (is_as_full (f 0) (g 0)) (each 0 (omega ar
     both true h k = k
     both false h k = absurd (let e : false ≡ true = h in cc)
 
--- lists of different lengths are not compared
+-- lists of different lengths do not compare
 pub unequal : (xs ys : List Fullness) → (length xs ≡ length ys → ⊥) → are_as_full xs ys ≡ false
 unequal [] [] n = absurd (n refl)
 unequal [] (y ∷ ys) n = refl
@@ -126,27 +126,27 @@ bit_of_both (suc (suc x)) y small less = absurd (omega (arith, small))
 has_both : (a b i : ℕ) → has_bit (bit_and a b) i ≡ (has_bit a i && has_bit b i)
 has_both a b i = ap (λ (n : ℕ). n == 1) (bit_at_and a b i) ∙ bit_of_both (bit_at a i) (bit_at b i) (bit_at-lt a i) (bit_at-lt b i)
 
-lower_told : (a b c d : Bool) → told (a && c) (b && d) ≡ lower (told a b) (told c d)
-lower_told false b c d = refl
-lower_told true false false d = refl
-lower_told true false true false = refl
-lower_told true false true true = refl
-lower_told true true c d = refl
+lower_reported : (a b c d : Bool) → reported (a && c) (b && d) ≡ lower (reported a b) (reported c d)
+lower_reported false b c d = refl
+lower_reported true false false d = refl
+lower_reported true false true false = refl
+lower_reported true false true true = refl
+lower_reported true true c d = refl
 
 pub marked_met : (m o : Marks) (i : ℕ) → marked (met m o) i ≡ lower (marked m i) (marked o i)
 marked_met m o i =
-    ap (λ (a : Bool). told a (has_bit (bit_and m.free o.free) i)) (has_both m.held o.held i)
-    ∙ ap (told (has_bit m.held i && has_bit o.held i)) (has_both m.free o.free i)
-    ∙ lower_told (has_bit m.held i) (has_bit m.free i) (has_bit o.held i) (has_bit o.free i)
+    ap (λ (a : Bool). reported a (has_bit (bit_and m.free o.free) i)) (has_both m.held o.held i)
+    ∙ ap (reported (has_bit m.held i && has_bit o.held i)) (has_both m.free o.free i)
+    ∙ lower_reported (has_bit m.held i) (has_bit m.free i) (has_bit o.held i) (has_bit o.free i)
 
-as_full_told : (a b c d : Bool) → (a && c) ≡ c → (b && d) ≡ d → is_as_full (told a b) (told c d) ≡ true
-as_full_told false false false d h k = refl
-as_full_told false true false d h k = refl
-as_full_told false b true d h k = absurd (let e : false ≡ true = h in cc)
-as_full_told true false false d h k = refl
-as_full_told true false true false h k = refl
-as_full_told true false true true h k = absurd (let e : false ≡ true = k in cc)
-as_full_told true true c d h k = refl
+as_full_reported : (a b c d : Bool) → (a && c) ≡ c → (b && d) ≡ d → is_as_full (reported a b) (reported c d) ≡ true
+as_full_reported false false false d h k = refl
+as_full_reported false true false d h k = refl
+as_full_reported false b true d h k = absurd (let e : false ≡ true = h in cc)
+as_full_reported true false false d h k = refl
+as_full_reported true false true false h k = refl
+as_full_reported true false true true h k = absurd (let e : false ≡ true = k in cc)
+as_full_reported true true c d h k = refl
 
 covered_bit : (x z : ℕ) → x < 2 → z < 2 → (min x z + z) % 2 ≡ 0 → ((x == 1) && (z == 1)) ≡ (z == 1)
 covered_bit zero zero small less h = refl
@@ -155,7 +155,7 @@ covered_bit zero (suc (suc z)) small less h = absurd (omega (arith, less))
 covered_bit (suc zero) z small less h = refl
 covered_bit (suc (suc x)) z small less h = absurd (omega (arith, small))
 
--- what is missing of one kind of bits
+-- the missing bits of one kind
 lacking : (a b i : ℕ) → bit_at (bit_xor (bit_and a b) b) i ≡ (min (bit_at a i) (bit_at b i) + bit_at b i) % 2
 lacking a b i = bit_at_xor (bit_and a b) b i ∙ ap (λ (x : ℕ). (x + bit_at b i) % 2) (bit_at_and a b i)
 
@@ -165,13 +165,13 @@ covered a b i h = covered_bit (bit_at a i) (bit_at b i) (bit_at-lt a i) (bit_at-
 pub covers_marked : (m o : Marks) (i : ℕ) → Covers m o → is_as_full (marked m i) (marked o i) ≡ true
 covers_marked m o i h =
     let each = bit_at_or (bit_xor (bit_and m.held o.held) o.held) (bit_xor (bit_and m.free o.free) o.free) i in
-    as_full_told (has_bit m.held i) (has_bit m.free i) (has_bit o.held i) (has_bit o.free i)
+    as_full_reported (has_bit m.held i) (has_bit m.free i) (has_bit o.held i) (has_bit o.free i)
     (covered m.held o.held i (omega (arith, each, h i)))
     (covered m.free o.free i (omega (arith, each, h i)))
 
 -- ---- tables
 
--- a local whose marks are read
+-- the fullness of a local, read from its marks
 pub known_read : (t : Table) (n : ℕ) (m : Marks) → n < table_length t → m ≡ get_or t.marks.items (n / 64) m
     → marked m (n % 64) ≡ get_or (view_table t) n Vacant
 known_read t n m below read =
@@ -181,7 +181,7 @@ known_read t n m below read =
 pub known_past : (t : Table) (n : ℕ) → table_length t ≤ n → Vacant ≡ get_or (view_table t) n Vacant
 known_past t n past = sym (get_or_past (view_table t) n Vacant (omega (arith, past, length-each_below (table_length t) (known_at t.marks.items))))
 
--- one local is marked anew
+-- changing the marks of one local
 module _ (ms : List Marks) (n : ℕ) (m o : Marks) (a : Fullness) (within : n / 64 < length ms) (read : m ≡ get_or ms (n / 64) m)
     (same : marked o (n % 64) ≡ a) (other : (i : ℕ) → i < 64 → i ≢ n % 64 → marked o i ≡ marked m i) where
   at_place : marks_at (set ms (n / 64) o) (n / 64) ≡ o
@@ -220,7 +220,7 @@ none_at (suc k) (suc i) = none_at k i
 none_known : (k n : ℕ) → known_at (replicate k no_marks) n ≡ Vacant
 none_known k n =
     ap (λ (m : Marks). marked m (n % 64)) (none_at k (n / 64))
-    ∙ ap (λ (b : ℕ). told (b == 1) (b == 1)) (bit_at-zero (n % 64))
+    ∙ ap (λ (b : ℕ). reported (b == 1) (b == 1)) (bit_at-zero (n % 64))
 
 pub new_known : (count : ℕ) (ms : List Marks) → ms ≡ replicate (count / 64 + 1) no_marks → each_below (min count (64 * length ms)) (known_at ms) ≡ replicate count Vacant
 new_known count ms are =
@@ -229,7 +229,7 @@ new_known count ms are =
     ∙ ap (λ (os : List Marks). each_below count (known_at os)) are
     ∙ each_vacant count (known_at (replicate (count / 64 + 1) no_marks)) (none_known (count / 64 + 1))
 
--- ---- where two tables meet
+-- ---- the meet of two tables
 
 length_met : (ms os : List Marks) → length (met_each ms os) ≡ min (length ms) (length os)
 length_met [] os = omega arith
@@ -257,7 +257,7 @@ none_met [] os h = refl
 none_met (m ∷ ms) [] h = refl
 none_met (m ∷ ms) (o ∷ os) h = absurd (omega (arith, h))
 
--- so many are met, the rest are as they were
+-- the first marks are the meet, and the remaining marks are unchanged
 abbrev pub Met : (ms os : List Marks) → ℕ → (whole : List Marks) → Type 0
 Met ms os i whole = take i ms ++ met_each (drop i ms) (drop i os) ≡ whole
 
@@ -271,12 +271,12 @@ met_all ms os whole i n d e k =
     let none : min (length (drop n ms)) (length (drop n os)) ≡ 0 = omega (arith, length-drop n ms, length-drop n os, e) in
     sym (append_none (take n ms) (met_each (drop n ms) (drop n os)) (none_met (drop n ms) (drop n os) none)) ∙ h
 
--- ---- where one table is as full as another
+-- ---- comparing two tables
 
 abbrev CoverEach : List Marks → List Marks → Type 0
 CoverEach ms os = (p : ℕ) → p < length ms → p < length os → Covers (marks_at ms p) (marks_at os p)
 
--- nothing is missing in so many
+-- no bit is missing in the first words
 abbrev pub LacksBelow : List Marks → List Marks → (word : ℕ) → ℕ → Type 0
 LacksBelow ms os w n = (i : ℕ) → bit_at w i ≡ 0 → (p : ℕ) → p < n → bit_at (missing (marks_at ms p) (marks_at os p)) i ≡ 0
 
@@ -289,7 +289,7 @@ lacks_more ms os w n r is h i none p under = elim (cases_eq p n) [
   | inr apart ↦ h i (omega (arith, bit_at_or w r i, none)) p (omega (arith, under, apart))
 ]
 
--- nothing is missing anywhere
+-- no bit is missing in any word
 pub lacks_none : (ms os : List Marks) (w n : ℕ) → w ≡ 0 → min (length ms) (length os) ≤ n → LacksBelow ms os w n → CoverEach ms os
 lacks_none ms os w n none past h p below less i = h i (ap (λ (v : ℕ). bit_at v i) none ∙ bit_at-zero i) p (omega (arith, below, less, past))
 
@@ -309,34 +309,34 @@ unequal_known t u apart =
 pub length_known : (t : Table) (n : ℕ) → n ≡ table_length t → length (view_table t) ≡ n
 length_known t n e = length-each_below (table_length t) (known_at t.marks.items) ∙ sym e
 
--- ---- where locals are emptied
+-- ---- emptied locals
 
--- a local holds nothing, unless it is lent out, if this is so
+-- the fullness after emptying a local, unless it is lent, if the condition holds
 abbrev emptied_if : Bool → Fullness → Fullness
 emptied_if true a = if is_locked a then a else Vacant
 emptied_if false a = a
 
-told_emptied : (x y z : ℕ) → x < 2 → y < 2 → z < 2 → told (((x + min (min x y) z) % 2) == 1) (y == 1) ≡ emptied_if (z == 1) (told (x == 1) (y == 1))
-told_emptied zero zero zero a b c = refl
-told_emptied zero zero (suc zero) a b c = refl
-told_emptied zero (suc zero) zero a b c = refl
-told_emptied zero (suc zero) (suc zero) a b c = refl
-told_emptied (suc zero) zero zero a b c = refl
-told_emptied (suc zero) zero (suc zero) a b c = refl
-told_emptied (suc zero) (suc zero) zero a b c = refl
-told_emptied (suc zero) (suc zero) (suc zero) a b c = refl
-told_emptied (suc (suc x)) y z a b c = absurd (omega (arith, a))
-told_emptied x (suc (suc y)) z a b c = absurd (omega (arith, b))
-told_emptied x y (suc (suc z)) a b c = absurd (omega (arith, c))
+reported_emptied : (x y z : ℕ) → x < 2 → y < 2 → z < 2 → reported (((x + min (min x y) z) % 2) == 1) (y == 1) ≡ emptied_if (z == 1) (reported (x == 1) (y == 1))
+reported_emptied zero zero zero a b c = refl
+reported_emptied zero zero (suc zero) a b c = refl
+reported_emptied zero (suc zero) zero a b c = refl
+reported_emptied zero (suc zero) (suc zero) a b c = refl
+reported_emptied (suc zero) zero zero a b c = refl
+reported_emptied (suc zero) zero (suc zero) a b c = refl
+reported_emptied (suc zero) (suc zero) zero a b c = refl
+reported_emptied (suc zero) (suc zero) (suc zero) a b c = refl
+reported_emptied (suc (suc x)) y z a b c = absurd (omega (arith, a))
+reported_emptied x (suc (suc y)) z a b c = absurd (omega (arith, b))
+reported_emptied x y (suc (suc z)) a b c = absurd (omega (arith, c))
 
 marked_emptied : (m : Marks) (w i : ℕ) → marked (emptied_marks m w) i ≡ emptied_if (has_bit w i) (marked m i)
 marked_emptied m w i =
     let both = bit_at_and (bit_and m.held m.free) w i ∙ ap (λ (x : ℕ). min x (bit_at w i)) (bit_at_and m.held m.free i) in
-    ap (λ (x : ℕ). told (x == 1) (has_bit m.free i)) (bit_at_xor m.held (bit_and (bit_and m.held m.free) w) i ∙ ap (λ (x : ℕ). (bit_at m.held i + x) % 2) both)
-    ∙ told_emptied (bit_at m.held i) (bit_at m.free i) (bit_at w i) (bit_at-lt m.held i) (bit_at-lt m.free i) (bit_at-lt w i)
+    ap (λ (x : ℕ). reported (x == 1) (has_bit m.free i)) (bit_at_xor m.held (bit_and (bit_and m.held m.free) w) i ∙ ap (λ (x : ℕ). (bit_at m.held i + x) % 2) both)
+    ∙ reported_emptied (bit_at m.held i) (bit_at m.free i) (bit_at w i) (bit_at-lt m.held i) (bit_at-lt m.free i) (bit_at-lt w i)
 
 none_marked : (i : ℕ) → marked no_marks i ≡ Vacant
-none_marked i = ap (λ (b : ℕ). told (b == 1) (b == 1)) (bit_at-zero i)
+none_marked i = ap (λ (b : ℕ). reported (b == 1) (b == 1)) (bit_at-zero i)
 
 still_vacant : (b : Bool) (a : Fullness) → a ≡ Vacant → a ≡ emptied_if b a
 still_vacant true a e = e ∙ ap (emptied_if true) (sym e)
@@ -387,7 +387,7 @@ emptied_twice true true Full = refl
 emptied_twice true false x = refl
 emptied_twice false b x = refl
 
--- each of these is emptied, at once
+-- emptying the locals one by one equals emptying them at once
 emptied_below : (ns : List ℕ) (c : ℕ) (f : ℕ → Fullness) → emptied ns (Reached (each_below c f)) ≡ Reached (each_below c (λ i. emptied_if (is_among i ns) (f i)))
 emptied_below [] c f = refl
 emptied_below (n ∷ ns) c f =

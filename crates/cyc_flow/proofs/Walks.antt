@@ -1,4 +1,4 @@
--- A chain of operators that the code goes through in a loop, one operator after the other.
+-- A chain of operators that the code walks in a loop, one operator after the other.
 use Rattle.std.proofs.Common.{◌≡◌, ℕ, List, ◌∷◌, Ok, Err, refl}
 use Rattle.cyc_types.specs.declared.typed.Operation.{Operation}
 use Rattle.cyc_types.specs.declared.typed.Operation.TheVariants as operation

@@ -1,5 +1,4 @@
--- The contract of `flow` rests on the definitions of `cyc_types` alone. These are what the functions inside the crate promise each
--- other.
+-- The contract of `flow` uses only the definitions of `cyc_types`. The modules below are the contracts between the functions of this crate.
 pub mod Bits
 pub mod Code
 pub mod Numbers

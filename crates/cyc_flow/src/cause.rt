@@ -1,39 +1,39 @@
-//! Where a local came to be as a broken rule finds it: a second walk, of that local alone, for what is said to a person of a refusal. No
-//! answer depends on it.
+//! The search for the place that brought a local into its state at a flow fault. It is a second walk for that local only, used only for
+//! diagnostics. No result of the check depends on it.
 use crate::cause_expressions::Walk;
 use crate::cause_state::{Found, Known};
 use cyc_types::typed::Function;
 use cyc_words::{Fault, Span};
 
-/// What a place does to a local.
+/// The effect of a program point on a local.
 #[derive(Clone, Copy)]
 pub enum Change {
-    /// It uses the local's value, which leaves the local empty.
+    /// The point uses the local's value, which leaves the local empty.
     Moved,
-    /// It gives it a value: a clause of a catch cannot tell whether it did.
+    /// The point assigns the local; a catch clause cannot know whether it did.
     Assigned,
-    /// It lends it out to the end of the block.
+    /// The point lends the local to the end of the block.
     Locked,
-    /// It looks at it, which goes on while the rest is evaluated.
+    /// The point peeks at the local, and the peek is pending while the remaining operands are evaluated.
     Peeked,
 }
 
-/// What was done to a local, and the place of its name there.
+/// A change of a local, and the place of the local's name in it.
 #[derive(Clone, Copy)]
 pub struct Cause {
     pub change: Change,
     pub span: Span,
 }
 
-/// Whether a place stands in a function.
+/// Returns true if the fault's place is in this function.
 fn has_place(function: &Function, fault: Fault) -> bool {
     let (first, last) = (function.span, function.end);
-    let is_behind = (first.line, first.column) <= (fault.line, fault.column);
-    is_behind && (fault.line, fault.column) <= (last.line, last.column)
+    let is_after = (first.line, first.column) <= (fault.line, fault.column);
+    is_after && (fault.line, fault.column) <= (last.line, last.column)
 }
 
-/// Where the local of this number came to be as the fault finds it, in the function that has the fault. A parameter holds a value from
-/// the start.
+/// Returns the change that brought the local of this number into the state in which the fault finds it, in the function with the fault. A
+/// parameter holds a value from the start.
 pub(crate) fn find_cause(functions: &[Function], fault: Fault, number: usize) -> Option<Cause> {
     let function = functions.iter().find(|f| has_place(f, fault))?;
     let start = if number < function.parameters.len() {

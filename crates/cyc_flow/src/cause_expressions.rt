@@ -1,10 +1,10 @@
-//! The walk for where one local came to be as a broken rule finds it: what is done to that local, and expressions.
+//! The walk that finds a local's change for a diagnostic: the effects on that local, and expressions.
 use crate::cause::{Cause, Change};
 use crate::cause_state::{Found, Known};
 use cyc_types::typed::{Converted, Dereference, Expr, Initial, Lvalue, Operation, Placement};
 use cyc_words::{Fault, Span};
 
-/// The loop around: the place of its keyword, and what is known at its head.
+/// The enclosing loop: the place of the loop's keyword, and the state at the loop's head.
 #[derive(Clone, Copy)]
 pub(crate) struct Around {
     pub(crate) span: Span,
@@ -14,16 +14,16 @@ pub(crate) struct Around {
 #[derive(Drop)]
 pub(crate) struct Walk {
     pub(crate) fault: Fault,
-    /// The local.
+    /// The number of the local.
     pub(crate) number: usize,
-    /// Since when a peek of it waits, if one does.
+    /// The pending peek of the local, if any.
     pub(crate) waiting: Option<Cause>,
-    /// What the body of the innermost `try` does to it.
+    /// The effect of the innermost enclosing `try`'s body on the local.
     pub(crate) touched: Option<Cause>,
-    /// Whether an item has locked it since the body of the loop around began.
+    /// True if an item has locked the local since the start of the enclosing loop's body.
     pub(crate) is_locked: bool,
     pub(crate) around: Option<Around>,
-    /// What is known at the breaks that leave the loop around, met.
+    /// The meet of the states at the breaks that leave the enclosing loop.
     pub(crate) breaks: Known,
 }
 
@@ -31,8 +31,8 @@ fn is_at(span: Span, fault: Fault) -> bool {
     span.line == fault.line && span.column == fault.column
 }
 
-/// Where a place is reached through a peek: which local is looked at, and where.
-pub(crate) fn peek_behind(place: &Dereference) -> Option<(usize, Span)> {
+/// Returns the local whose peek a place is reached through, and the place of that peek.
+pub(crate) fn peek_after(place: &Dereference) -> Option<(usize, Span)> {
     match place {
         Dereference::Target { pointer, .. } => peek_of(pointer),
         Dereference::Member { pointer, .. } => peek_of(pointer),
@@ -60,9 +60,9 @@ impl Walk {
         }
     }
 
-    // ---- what is done to the local
+    // ---- effects on the local
 
-    /// The local of this number is named at this place, where the fault may be.
+    /// Visits a name of the local at this place, which may be the place of the fault.
     fn name(&self, span: Span, number: usize, known: Known) -> Result<(), Found> {
         if number == self.number && is_at(span, self.fault) {
             return Err(Found(known.cause().or(self.waiting)));
@@ -77,7 +77,7 @@ impl Walk {
         }
     }
 
-    /// Of what the body of a `try` does, the first move is said, and else the first change.
+    /// Records an effect of a `try` body: the first move, or else the first change.
     fn touch(&mut self, cause: Cause) {
         let is_said = match self.touched {
             None => true,
@@ -117,7 +117,7 @@ impl Walk {
         }
     }
 
-    /// An item declares a local, and locks the one that is named here.
+    /// Visits an item that declares one local and locks another, named at this place.
     pub(crate) fn lock(
         &mut self,
         number: usize,
@@ -138,7 +138,7 @@ impl Walk {
         Ok(known.set(Known::Locked(cause)))
     }
 
-    /// A local is declared that has a value.
+    /// Visits the declaration of a local with a value.
     pub(crate) fn declare(&self, number: usize, known: Known) -> Known {
         if number == self.number {
             known.set(Known::Full)
@@ -147,7 +147,7 @@ impl Walk {
         }
     }
 
-    /// From here a peek of this local waits, if one does. What waited before.
+    /// Starts a pending peek of this local, if there is one. Returns the peek that was pending before this one.
     pub(crate) fn wait(&mut self, peeked: Option<(usize, Span)>) -> Option<Cause> {
         let before = self.waiting;
         match peeked {
@@ -162,7 +162,7 @@ impl Walk {
         before
     }
 
-    /// Back at the head of the loop whose keyword stands here, where the fault may be.
+    /// Returns to the head of the loop with this keyword, which may be the place of the fault.
     pub(crate) fn go_back(&self, span: Span, head: Known, end: Known) -> Result<(), Found> {
         if is_at(span, self.fault) && end.is_emptier(head) {
             return Err(Found(end.cause()));
@@ -199,19 +199,19 @@ impl Walk {
             Expr::Call { arguments, .. } => self.pass(arguments, known),
             Expr::Unary { operand, .. } => self.evaluate(operand, known),
             Expr::Binary { first, rest, .. } => {
-                let behind = self.evaluate(first, known)?;
-                self.apply_operations(peek_of(first), rest, behind)
+                let following = self.evaluate(first, known)?;
+                self.apply_operations(peek_of(first), rest, following)
             }
             Expr::Assign { target, value, .. } => {
-                let behind = self.evaluate(&value.value, known)?;
-                self.assign(*target, behind)
+                let following = self.evaluate(&value.value, known)?;
+                self.assign(*target, following)
             }
             Expr::Store { target, value, .. } => {
                 let found = self.find(target, known)?;
-                let before = self.wait(peek_behind(target));
-                let behind = self.evaluate(&value.value, found)?;
+                let before = self.wait(peek_after(target));
+                let following = self.evaluate(&value.value, found)?;
                 self.waiting = before;
-                Ok(behind)
+                Ok(following)
             }
             Expr::New {
                 placement,
@@ -232,9 +232,9 @@ impl Walk {
             Dereference::Element { pointer, index, .. } => {
                 let found = self.evaluate(pointer, known)?;
                 let before = self.wait(peek_of(pointer));
-                let behind = self.evaluate(index, found)?;
+                let following = self.evaluate(index, found)?;
                 self.waiting = before;
-                Ok(behind)
+                Ok(following)
             }
         }
     }
@@ -268,11 +268,11 @@ impl Walk {
 
     #[cycle(expression)]
     fn pass(&mut self, arguments: &[Converted], known: Known) -> Result<Known, Found> {
-        let mut behind = known;
+        let mut following = known;
         for argument in arguments {
-            behind = self.evaluate(&argument.value, behind)?;
+            following = self.evaluate(&argument.value, following)?;
         }
-        Ok(behind)
+        Ok(following)
     }
 
     #[cycle(expression)]
@@ -282,11 +282,11 @@ impl Walk {
         operations: &[Operation],
         known: Known,
     ) -> Result<Known, Found> {
-        let mut behind = known;
+        let mut following = known;
         for operation in operations {
-            behind = self.apply_operation(left, operation, behind)?;
+            following = self.apply_operation(left, operation, following)?;
         }
-        Ok(behind)
+        Ok(following)
     }
 
     #[cycle(expression)]
@@ -303,9 +303,9 @@ impl Walk {
             Operation::Test { operand, .. } => Ok(known.meet(self.evaluate(operand, known)?)),
             Operation::PointerPeek { operand, .. } => {
                 let before = self.wait(left);
-                let behind = self.evaluate(operand, known)?;
+                let following = self.evaluate(operand, known)?;
                 self.waiting = before;
-                Ok(behind)
+                Ok(following)
             }
         }
     }

@@ -1,22 +1,22 @@
-//! What is known of one local on a walk that looks for where it came to be so.
+//! The state of one local during the walk that finds its change.
 use crate::cause::Cause;
 
-/// What is known of the local, and how it came to be so.
+/// The state of the local, and the change that caused it.
 #[derive(Clone, Copy)]
 pub(crate) enum Known {
-    /// The code here is never run.
+    /// The program point is unreachable.
     Unreached,
     Full,
     Locked(Cause),
-    /// It never had a value, where no place emptied it.
+    /// The local is empty: it never had a value, or the given change emptied it.
     Vacant(Option<Cause>),
 }
 
-/// The walk is at the place of the fault, with what there is to say of it.
+/// The walk has reached the place of the fault; this is the change to report, if any.
 pub(crate) struct Found(pub(crate) Option<Cause>);
 
 impl Known {
-    /// What is known where two branches meet: the lower.
+    /// Returns the state at the join of two branches: the lower of the two.
     pub(crate) fn meet(self, other: Known) -> Known {
         match (self, other) {
             (Known::Unreached, _) => other,
@@ -43,7 +43,7 @@ impl Known {
         }
     }
 
-    /// The same but where the code is never run.
+    /// Sets the state, unless the point is unreachable.
     pub(crate) fn set(self, known: Known) -> Known {
         match self {
             Known::Unreached => Known::Unreached,
@@ -51,7 +51,7 @@ impl Known {
         }
     }
 
-    /// Where a block ends that has locked it, if one has.
+    /// Returns the state after a block that has locked the local, if it has.
     pub(crate) fn unlocked(self, is_locked: bool) -> Known {
         if is_locked {
             self.set(Known::Full)

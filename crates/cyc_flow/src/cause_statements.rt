@@ -1,5 +1,5 @@
-//! The walk for where one local came to be as a broken rule finds it: statements.
-use crate::cause_expressions::{Around, Walk, peek_behind};
+//! The walk that finds a local's change for a diagnostic: statements.
+use crate::cause_expressions::{Around, Walk, peek_after};
 use crate::cause_state::{Found, Known};
 use cyc_types::typed::{Clause, Converted, Expr, Item, Side, Stmt};
 use cyc_words::Span;
@@ -7,7 +7,7 @@ use cyc_words::Span;
 fn peeked_side(side: &Side) -> Option<(usize, Span)> {
     match side {
         Side::Variable { .. } => None,
-        Side::Cell { place } => peek_behind(place),
+        Side::Cell { place } => peek_after(place),
     }
 }
 
@@ -29,11 +29,11 @@ impl Walk {
     fn swap(&mut self, left: &Side, right: &Side, known: Known) -> Result<Known, Found> {
         let found = self.find_side(left, known)?;
         let before = self.wait(peeked_side(left));
-        let behind = self.find_side(right, found)?;
-        self.name_side(left, behind)?;
-        self.name_side(right, behind)?;
+        let following = self.find_side(right, found)?;
+        self.name_side(left, following)?;
+        self.name_side(right, following)?;
         self.waiting = before;
-        Ok(behind)
+        Ok(following)
     }
 
     fn convert(&mut self, value: &Option<Converted>, known: Known) -> Result<Known, Found> {
@@ -43,18 +43,18 @@ impl Walk {
         }
     }
 
-    /// A local is declared, with a value or without one.
+    /// Visits the declaration of a local, with or without a value.
     fn declare_local(
         &mut self,
         number: usize,
         value: &Option<Converted>,
         known: Known,
     ) -> Result<Known, Found> {
-        let behind = self.convert(value, known)?;
+        let following = self.convert(value, known)?;
         if number == self.number && value.is_none() {
-            return Ok(behind.set(Known::Vacant(None)));
+            return Ok(following.set(Known::Vacant(None)));
         }
-        Ok(self.declare(number, behind))
+        Ok(self.declare(number, following))
     }
 
     fn leave(&mut self, known: Known) {
@@ -85,9 +85,9 @@ impl Walk {
                 ..
             } => {
                 let inside = self.evaluate(condition, known)?;
-                let behind = self.check_statement(then, inside)?;
-                let behind_other = self.check_statement(otherwise, inside)?;
-                Ok(behind.meet(behind_other))
+                let following = self.check_statement(then, inside)?;
+                let after_other = self.check_statement(otherwise, inside)?;
+                Ok(following.meet(after_other))
             }
             Stmt::While {
                 span,
@@ -118,22 +118,22 @@ impl Walk {
                 default,
                 ..
             } => {
-                let (start, behind) = self.check_body(body, known)?;
-                let behind = self.check_clauses(start, clauses, behind)?;
+                let (start, following) = self.check_body(body, known)?;
+                let following = self.check_clauses(start, clauses, following)?;
                 match default {
-                    None => Ok(behind),
-                    Some(body) => Ok(behind.meet(self.check_block(&body.items, start)?)),
+                    None => Ok(following),
+                    Some(body) => Ok(following.meet(self.check_block(&body.items, start)?)),
                 }
             }
         }
     }
 
-    /// The body of a `try`: what is known where its clauses begin, and behind it.
+    /// Visits the body of a `try`. Returns the state at the start of the clauses, and the state after the body.
     #[cycle(statement)]
     fn check_body(&mut self, body: &Stmt, known: Known) -> Result<(Known, Known), Found> {
         let before = self.touched;
         self.touched = None;
-        let behind = self.check_statement(body, known)?;
+        let following = self.check_statement(body, known)?;
         let start = match (known, self.touched) {
             (Known::Full, Some(cause)) => Known::Vacant(Some(cause)),
             _ => known,
@@ -141,7 +141,7 @@ impl Walk {
         if before.is_some() {
             self.touched = before;
         }
-        Ok((start, behind))
+        Ok((start, following))
     }
 
     #[cycle(statement)]
@@ -149,9 +149,9 @@ impl Walk {
         &mut self,
         start: Known,
         clauses: &[Clause],
-        behind: Known,
+        following: Known,
     ) -> Result<Known, Found> {
-        let mut met = behind;
+        let mut met = following;
         for clause in clauses {
             let caught = match clause.number {
                 None => start,
@@ -177,9 +177,9 @@ impl Walk {
         self.is_locked = false;
         let end = self.check_statement(body, exit)?;
         self.go_back(span, head, end)?;
-        let behind = exit.meet(self.breaks);
+        let following = exit.meet(self.breaks);
         (self.around, self.breaks, self.is_locked) = outer;
-        Ok(behind)
+        Ok(following)
     }
 
     #[cycle(statement)]
@@ -193,11 +193,11 @@ impl Walk {
 
     #[cycle(statement)]
     pub(crate) fn check_items(&mut self, items: &[Item], known: Known) -> Result<Known, Found> {
-        let mut behind = known;
+        let mut following = known;
         for item in items {
-            behind = self.check_item(item, behind)?;
+            following = self.check_item(item, following)?;
         }
-        Ok(behind)
+        Ok(following)
     }
 
     #[cycle(statement)]

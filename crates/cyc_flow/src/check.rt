@@ -17,47 +17,42 @@ use crate::statements::Walk;
 use crate::stop::Stop;
 use crate::table::Table;
 use crate::touched::Touched;
-use cyc_types::TypedTree;
 use cyc_types::typed::Function;
+use cyc_types::{Flowed, TypedTree};
 use cyc_words::{Code, Fault};
 use std::alloc::{AllocError, Global};
 
-/// A typed tree that keeps the flow rules.
-#[derive(Drop)]
-pub struct Flowed {
-    pub tree: TypedTree,
-    pub ghost allowed: { ∥ IsAllowedProgram (view_program tree) ∥₁ },
-}
-
-/// Whether a typed tree keeps the flow rules: each variable holds a value where it is used, and none is used or assigned while its value
-/// is lent out or looked at; a loop leaves none emptier than it was at its head; a clause of a catch rests on none that the body of its
-/// `try` may have emptied; and no path through a function with a result reaches its end.
+/// Checks that a typed tree satisfies the flow rules. Each variable holds a value when it is used; no variable is used or assigned while
+/// its value is lent or peeked at. No loop body leaves a local emptier than at the loop's head. A catch clause relies on no local that the
+/// body of its `try` may have emptied. No path through a function with a result reaches the function's end.
 ///
-/// The first fault is the answer, by the order in which a program is run. Any copy of what is known may be refused for want of
-/// memory.
+/// Returns the first fault, in execution order. Any copy of a state may fail for lack of memory.
 pub fn flow(alloc: Global, tree: TypedTree) -> Result<Flowed, Fault>
-    // What is accepted is this tree, which keeps the rules, and what is refused has this fault.
-    ensures decides { Decides (λ (_ : Unit {0}). IsAllowedProgram (view_program tree)) (λ _ v. v.tree ≡ tree) (IsStoppedProgram (view_program tree)) (IsStoppedProgram (view_program tree)) result }
-    // No step of any run of a tree that is accepted is dead or wrong, whatever its input, if the typing rules derive it from a text.
-    ensures sound { IfOk result (λ _. (texts : List (List ℕ)) (declarations : List Declaration) → IsTypedProgram texts declarations (view_program tree) → IsSound (view_program tree)) }
+    // An accepted tree satisfies the rules and is returned; a rejected tree has this fault.
+    ensures decides { Decides (λ (_ : Unit {0}). IsAllowedProgram (view_program tree)) (λ _ v. v.tree ≡ tree) (IsStoppedProgram (view_program tree))
+        (IsStoppedProgram (view_program tree)) result }
+    // If the typing rules derive the tree from a text, no step of any run of an accepted tree is dead or wrong, for any input.
+    ensures sound { IfOk result (λ _. (texts : List (List ℕ)) (declarations : List Declaration)
+        → IsTypedProgram texts declarations (view_program tree) → IsSound (view_program tree)) }
 {
     check_functions(alloc, &tree.functions)?;
     Ok(Flowed { tree })
 }
 
-/// A fault of flow, and where the variable of which it speaks came to be as it is, if there is such a place.
+/// A flow fault, and the place that brought its variable into the faulty state, if known.
 #[derive(Clone, Copy)]
-pub struct Explained {
+pub struct Diagnosis {
     pub fault: Fault,
     pub cause: Option<Cause>,
 }
 
-/// The first fault of a typed tree that `flow` refuses, for a person: none of one that keeps the flow rules, nor where memory runs out.
-pub fn explain(alloc: Global, tree: &TypedTree) -> Option<Explained>
+/// Returns the first fault of a typed tree that `flow` rejects, for a diagnostic. Returns `None` if the tree satisfies the flow rules, or
+/// if memory runs out.
+pub fn diagnose(alloc: Global, tree: &TypedTree) -> Option<Diagnosis>
     ensures { IfSome result (λ e. run (rule_program (view_program tree.now)) ≡ Err e.fault) }
 {
     match check_functions(alloc, &tree.functions) {
-        Err(Stop::Refused { fault, number }) => Some(Explained {
+        Err(Stop::Refused { fault, number }) => Some(Diagnosis {
             fault,
             cause: find_cause(&tree.functions, fault, number),
         }),
@@ -87,7 +82,7 @@ fn check_function(alloc: Global, function: &Function) -> Result<(), Stop>
     check_end(function, &end.state)
 }
 
-/// At the start of a function its parameters are full.
+/// Returns the state at the start of a function: its parameters are full.
 fn start_of(alloc: Global, function: &Function) -> Result<State, AllocError>
     ensures { IfOk result (λ s. view_state s ≡ start_of (view_function function.now)) }
 {
@@ -97,7 +92,7 @@ fn start_of(alloc: Global, function: &Function) -> Result<State, AllocError>
     Ok(State::Reached(locals))
 }
 
-/// The end of a function with a result is never reached.
+/// Checks that the end of a function with a result is unreachable.
 fn check_end(function: &Function, state: &State) -> Result<(), Stop>
     ensures { Ends result (settled None (end_demanded (view_function function.now).result (view_function function.now).end (view_state state.now))) }
 {

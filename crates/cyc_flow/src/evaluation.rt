@@ -1,4 +1,4 @@
-//! An expression that is gone through. What it changes is noted, so that `&&` and `||` look at nothing else.
+//! A walk through an expression. The search is a second walk for one local, used only for diagnostics.
 ghost use Rattle.std.specs.Prelude.{◌≡◌, ◌++◌, [], IfOk};
 ghost use Rattle.cyc_types.specs.flow.States.{meet, with_fullness};
 ghost use Rattle.cyc_types.specs.flow.Touched.{and_local};
@@ -9,16 +9,16 @@ use crate::state::{Change, Fullness, State};
 use crate::touched::Touched;
 use std::alloc::{AllocError, Global};
 
-/// What is known at a place of an expression, and which locals were touched before it.
+/// The state at a program point in an expression, and the locals touched before it.
 #[derive(Drop)]
 pub(crate) struct Evaluation {
     pub(crate) state: State,
     pub(crate) touched: Touched,
-    /// What was changed since the expression began, or else the operand of the innermost `&&` or `||` around, in order.
+    /// The changes since the start of the expression, or of the innermost enclosing operand of `&&` or `||`, in order.
     pub(crate) trail: Vec<Change>,
 }
 
-/// What is known now of each local that was changed.
+/// Returns the present state of each changed local.
 #[tactic(auto, using(std::proofs::lemmas::List::drop_more, crate::proofs::Trails::noted_now))]
 fn changed(alloc: Global, state: &State, trail: &[Change]) -> Result<Vec<Change>, AllocError>
     ensures { IfOk result (λ v. Notes v.items (view_state state.now) trail.now) }
@@ -33,7 +33,7 @@ fn changed(alloc: Global, state: &State, trail: &[Change]) -> Result<Vec<Change>
     Ok(changed)
 }
 
-/// Whether each local that was changed may hold nothing now.
+/// Returns true if each changed local may be empty now.
 #[tactic(auto, using(std::proofs::lemmas::List::drop_more))]
 fn are_emptied(state: &State, trail: &[Change]) -> bool
     ensures { result ≡ are_emptied trail.now (view_state state.now) }
@@ -68,8 +68,7 @@ impl Evaluation {
         }
     }
 
-    /// Of one local this is known now. Where it was known before, nothing is noted: what `&&` and `||` go through is as long as what they
-    /// change.
+    /// Sets the state of one local. If the state does not change, nothing is recorded, so `&&` and `||` visit only real changes.
     pub(crate) fn set(&mut self, number: usize, fullness: Fullness) -> Result<(), AllocError>
         ensures state { IfOk result (λ _. view_state self.new.state ≡ with_fullness (view_fullness fullness) (view_state self.old.state) number) }
         ensures touched { IfOk result (λ _. self.new.touched.numbers.list ≡ self.old.touched.numbers.list) }
@@ -84,7 +83,7 @@ impl Evaluation {
         Ok(())
     }
 
-    /// A local is consumed or assigned.
+    /// Records that a local is consumed or assigned.
     pub(crate) fn touch(&mut self, number: usize) -> Result<(), AllocError>
         ensures state { IfOk result (λ _. view_state self.new.state ≡ view_state self.old.state) }
         ensures touched { IfOk result (λ _. self.new.touched.numbers.list ≡ and_local number self.old.touched.numbers.list) }
@@ -94,7 +93,7 @@ impl Evaluation {
         Ok(())
     }
 
-    /// Back to what was known at the start.
+    /// Restores the state at the start.
     fn undo(&mut self)
         ensures state { view_state self.new.state ≡ begun self.old }
         ensures touched { self.new.touched.numbers.list ≡ self.old.touched.numbers.list }
@@ -105,7 +104,7 @@ impl Evaluation {
         }
     }
 
-    /// Each of these locals is no fuller than that.
+    /// Lowers each of these locals to its recorded state.
     #[tactic(auto, using(std::proofs::lemmas::List::drop_more))]
     fn lower(&mut self, changes: &[Change]) -> Result<(), AllocError>
         ensures state { IfOk result (λ _. view_state self.new.state ≡ lowered changes.now (view_state self.old.state)) }
@@ -119,8 +118,8 @@ impl Evaluation {
         Ok(())
     }
 
-    /// What is known now meets what was known at the start. Where an operand has only consumed, that is what is known now: operators in each
-    /// other go through the same changes, so that little is done with each.
+    /// Replaces the state by its meet with the state at the start. If an operand has only consumed locals, the result is the present state;
+    /// this keeps nested operators cheap, since they would visit those changes again.
     #[tactic(auto, using(crate::proofs::Trails::meet_undone, crate::proofs::Trails::meet_emptied))]
     pub(crate) fn meet_start(&mut self, alloc: Global) -> Result<(), AllocError>
         ensures state { IfOk result (λ _. view_state self.new.state ≡ meet (begun self.old) (view_state self.old.state)) }
@@ -135,7 +134,7 @@ impl Evaluation {
         self.lower(&changed)
     }
 
-    /// Behind an operand of `&&` or `||`, before which this was changed.
+    /// Ends an operand of `&&` or `||`, and restores the changes recorded before it.
     #[tactic(auto, using(crate::proofs::Trails::undone_append))]
     pub(crate) fn resume(&mut self, outer: Vec<Change>) -> Result<(), AllocError>
         ensures state { IfOk result (λ _. view_state self.new.state ≡ view_state self.old.state) }

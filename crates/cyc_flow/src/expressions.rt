@@ -1,14 +1,16 @@
-//! What is known behind an expression, where it keeps the flow rules. Each method changes what is known before into
-//! what is known behind, and takes the locals of which a peek waits. What is known is changed in its place, since
-//! expressions nest deepest: a frame holds none.
+//! The state after an expression that satisfies the flow rules. Each method changes the state before into the state after, and takes the
+//! locals with a pending peek. The state is changed in place: expressions nest deepest, so no stack frame holds a state.
 ghost use Rattle.std.specs.Prelude.{◌≡◌, ◌++◌, IfOk, Some, Ok, option_map};
 ghost use Rattle.cyc_syntax.specs.inside.TreeView.{place_of_span};
 ghost use Rattle.cyc_types.specs.Rules.{run, fault_at};
 ghost use Rattle.cyc_types.specs.TypeView.{view_value_type};
-ghost use Rattle.cyc_types.specs.TypedTreeView.{view_lvalue, view_expression, view_dereference, view_placement, view_initial, view_converted, arguments_of, operations_of};
+ghost use Rattle.cyc_types.specs.TypedTreeView.{view_lvalue, view_expression, view_dereference, view_placement, view_initial, view_converted};
+ghost use Rattle.cyc_types.specs.TypedTreeView.{arguments_of, operations_of};
 ghost use Rattle.cyc_types.specs.flow.States.{Vacant, Full, with_fullness};
-ghost use Rattle.cyc_types.specs.flow.Touched.{and_local, and_assigned, touched, touched_place, touched_placement, touched_initial, touched_converted, touched_arguments, touched_operations};
-ghost use Rattle.cyc_types.specs.flow.Expressions.{and_peeked, peek_of, peek_behind, looked, moved, used, stored, rule, rule_place, rule_placement, rule_initial, rule_converted, rule_arguments, rule_operations};
+ghost use Rattle.cyc_types.specs.flow.Touched.{and_local, and_assigned, touched, touched_place, touched_placement, touched_initial};
+ghost use Rattle.cyc_types.specs.flow.Touched.{touched_converted, touched_arguments, touched_operations};
+ghost use Rattle.cyc_types.specs.flow.Expressions.{and_peeked, peek_of, peek_after, looked, moved, used, stored, rule, rule_place, rule_placement};
+ghost use Rattle.cyc_types.specs.flow.Expressions.{rule_initial, rule_converted, rule_arguments, rule_operations};
 ghost use Rattle.cyc_flow.specs.declared.stop.Stop.TheVariants.{Refused};
 ghost use Rattle.cyc_flow.specs.inside.Code.{view_fullness, view_state, begun, Leads};
 ghost use Rattle.cyc_flow.specs.inside.Steps.{rule_operation, touched_operation};
@@ -25,14 +27,14 @@ use cyc_words::{Code, Span};
 use std::alloc::{AllocError, Global};
 use std::mem;
 
-/// What is known at a place, and which locals were consumed, assigned or locked before it: unique pointers and keys.
+/// The state at a program point, and the locals (unique pointers and keys) that were consumed, assigned or locked before it.
 #[derive(Drop)]
 pub(crate) struct Tracked {
     pub(crate) state: State,
     pub(crate) touched: Touched,
 }
 
-/// The local that an operand is a peek of.
+/// Returns the local that an operand peeks at, if any.
 fn peek_of(operand: &Expr) -> Option<usize>
     ensures { result ≡ peek_of (view_expression operand.now) }
 {
@@ -42,9 +44,9 @@ fn peek_of(operand: &Expr) -> Option<usize>
     }
 }
 
-/// The local that a place is reached through by a peek.
-pub(crate) fn peek_behind(place: &Dereference) -> Option<usize>
-    ensures { result ≡ peek_behind (view_dereference place.now) }
+/// Returns the local whose peek a place is reached through, if any.
+pub(crate) fn peek_after(place: &Dereference) -> Option<usize>
+    ensures { result ≡ peek_after (view_dereference place.now) }
 {
     match place {
         Dereference::Target { pointer, .. } => peek_of(pointer),
@@ -53,7 +55,7 @@ pub(crate) fn peek_behind(place: &Dereference) -> Option<usize>
     }
 }
 
-/// The locals of which a peek waits, and this one, if it is one.
+/// Returns the pending peeks, extended by this local if there is one.
 pub(crate) fn and_peeked(
     alloc: Global,
     waiting: &[usize],
@@ -69,7 +71,7 @@ pub(crate) fn and_peeked(
 }
 
 impl Tracked {
-    /// The same but for one local, of which this is known.
+    /// Returns the given state except for one local, which gets this fullness.
     pub(crate) fn with_fullness(mut self, number: usize, fullness: Fullness) -> Tracked
         ensures state { view_state result.state ≡ with_fullness (view_fullness fullness) (view_state self.state) number }
         ensures touched { result.touched.numbers.list ≡ self.touched.numbers.list }
@@ -78,7 +80,7 @@ impl Tracked {
         self
     }
 
-    /// A local is consumed, assigned or locked.
+    /// Records that a local is consumed, assigned or locked.
     pub(crate) fn touch(&mut self, number: usize) -> Result<(), AllocError>
         ensures state { IfOk result (λ _. view_state self.new.state ≡ view_state self.old.state) }
         ensures touched { IfOk result (λ _. self.new.touched.numbers.list ≡ and_local number self.old.touched.numbers.list) }
@@ -87,8 +89,8 @@ impl Tracked {
         Ok(())
     }
 
-    /// Behind the body of a `try`, before which these were touched.
-    pub(crate) fn behind_body(self, touched: Touched) -> Tracked
+    /// Returns the state after the body of a `try`, before which these locals were touched.
+    pub(crate) fn after_body(self, touched: Touched) -> Tracked
         ensures state { view_state result.state ≡ view_state self.state }
         ensures touched { result.touched.numbers.list ≡ touched.numbers.list ++ self.touched.numbers.list }
     {
@@ -100,7 +102,7 @@ impl Tracked {
 }
 
 impl Evaluation {
-    /// A peek of a local.
+    /// Checks a peek of a local.
     fn look(&self, span: Span, number: usize) -> Result<(), Stop>
         ensures { Leads result self.now (run (looked (place_of_span span) number (view_state self.now.state))) self.now.touched.numbers.list (begun self.now) }
     {
@@ -109,9 +111,10 @@ impl Evaluation {
         settled.end()
     }
 
-    /// A use of a variable that leaves its value there.
+    /// Checks a use of a variable that keeps its value.
     fn use_variable(&self, waiting: &[usize], variable: Lvalue) -> Result<(), Stop>
-        ensures { Leads result self.now (run (used waiting.now (view_lvalue variable) (view_state self.now.state))) self.now.touched.numbers.list (begun self.now) }
+        ensures { Leads result self.now (run (used waiting.now (view_lvalue variable) (view_state self.now.state))) self.now.touched.numbers.list
+            (begun self.now) }
     {
         let Lvalue::Local { span, number } = variable else {
             return Ok(());
@@ -121,9 +124,10 @@ impl Evaluation {
         settled.end()
     }
 
-    /// A use of a local's value, which leaves it empty.
+    /// Checks a use of a local's value that leaves the local empty.
     fn consume(&mut self, waiting: &[usize], span: Span, number: usize) -> Result<(), Stop>
-        ensures { Leads result self.new (run (moved waiting.now (place_of_span span) number (view_state self.old.state))) (and_local number self.old.touched.numbers.list) (begun self.old) }
+        ensures { Leads result self.new (run (moved waiting.now (place_of_span span) number (view_state self.old.state)))
+            (and_local number self.old.touched.numbers.list) (begun self.old) }
     {
         let mut settled = Settled::new();
         settled.use_local(waiting, &self.state, span, number);
@@ -133,14 +137,15 @@ impl Evaluation {
         Ok(())
     }
 
-    /// An assignment to a variable, whose value has this type.
+    /// Checks an assignment to a variable, whose value has this type.
     fn assign(
         &mut self,
         waiting: &[usize],
         variable: Lvalue,
         result_type: &ValueType,
     ) -> Result<(), Stop>
-        ensures { Leads result self.new (run (stored waiting.now (view_lvalue variable) (view_state self.old.state))) (and_assigned (view_lvalue variable) (view_value_type result_type.now) self.old.touched.numbers.list) (begun self.old) }
+        ensures { Leads result self.new (run (stored waiting.now (view_lvalue variable) (view_state self.old.state)))
+            (and_assigned (view_lvalue variable) (view_value_type result_type.now) self.old.touched.numbers.list) (begun self.old) }
     {
         let Lvalue::Local { span, number } = variable else {
             return Ok(());
@@ -155,7 +160,7 @@ impl Evaluation {
         Ok(())
     }
 
-    /// Goes through an expression.
+    /// Checks an expression.
     #[cycle(expression)]
     pub(crate) fn evaluate(
         &mut self,
@@ -163,7 +168,8 @@ impl Evaluation {
         waiting: &[usize],
         value: &Expr,
     ) -> Result<(), Stop>
-        ensures { Leads result self.new (run (rule waiting.now (view_expression value.now) (view_state self.old.state))) (touched (view_expression value.now) self.old.touched.numbers.list) (begun self.old) }
+        ensures { Leads result self.new (run (rule waiting.now (view_expression value.now) (view_state self.old.state)))
+            (touched (view_expression value.now) self.old.touched.numbers.list) (begun self.old) }
     {
         match value {
             Expr::Number { .. } | Expr::NullPointer | Expr::HeapRegion | Expr::Counter { .. } => {
@@ -194,7 +200,7 @@ impl Evaluation {
             }
             Expr::Store { target, value, .. } => {
                 self.find(alloc, waiting, target)?;
-                let waiting = and_peeked(alloc, waiting, peek_behind(target))?;
+                let waiting = and_peeked(alloc, waiting, peek_after(target))?;
                 self.convert(alloc, &waiting, value)
             }
             Expr::New {
@@ -208,7 +214,7 @@ impl Evaluation {
         }
     }
 
-    /// Goes through a place that a pointer leads to.
+    /// Checks a place that a pointer leads to.
     #[cycle(expression)]
     pub(crate) fn find(
         &mut self,
@@ -216,7 +222,8 @@ impl Evaluation {
         waiting: &[usize],
         place: &Dereference,
     ) -> Result<(), Stop>
-        ensures { Leads result self.new (run (rule_place waiting.now (view_dereference place.now) (view_state self.old.state))) (touched_place (view_dereference place.now) self.old.touched.numbers.list) (begun self.old) }
+        ensures { Leads result self.new (run (rule_place waiting.now (view_dereference place.now) (view_state self.old.state)))
+            (touched_place (view_dereference place.now) self.old.touched.numbers.list) (begun self.old) }
     {
         match place {
             Dereference::Target { pointer, .. } => self.evaluate(alloc, waiting, pointer),
@@ -229,10 +236,11 @@ impl Evaluation {
         }
     }
 
-    /// Goes through the handle of the region that an object is made in, if it has one.
+    /// Checks the handle of the region in which an object is allocated, if there is one.
     #[cycle(expression)]
     fn place(&mut self, alloc: Global, waiting: &[usize], placement: &Placement) -> Result<(), Stop>
-        ensures { Leads result self.new (run (rule_placement waiting.now (view_placement placement.now) (view_state self.old.state))) (touched_placement (view_placement placement.now) self.old.touched.numbers.list) (begun self.old) }
+        ensures { Leads result self.new (run (rule_placement waiting.now (view_placement placement.now) (view_state self.old.state)))
+            (touched_placement (view_placement placement.now) self.old.touched.numbers.list) (begun self.old) }
     {
         match placement {
             Placement::OnHeap => Ok(()),
@@ -241,8 +249,7 @@ impl Evaluation {
         }
     }
 
-    /// Goes through what a new object holds. An array may have no elements, and its last one leaves what is known at
-    /// the first.
+    /// Checks the initial contents of a new object. An array may have no elements, and its last element must keep the state at the first.
     #[cycle(expression)]
     fn initialise(
         &mut self,
@@ -250,7 +257,8 @@ impl Evaluation {
         waiting: &[usize],
         initial: &Initial,
     ) -> Result<(), Stop>
-        ensures { Leads result self.new (run (rule_initial waiting.now (view_initial initial.now) (view_state self.old.state))) (touched_initial (view_initial initial.now) self.old.touched.numbers.list) (begun self.old) }
+        ensures { Leads result self.new (run (rule_initial waiting.now (view_initial initial.now) (view_state self.old.state)))
+            (touched_initial (view_initial initial.now) self.old.touched.numbers.list) (begun self.old) }
     {
         match initial {
             Initial::Plain { value, .. } => self.evaluate(alloc, waiting, value),
@@ -273,7 +281,7 @@ impl Evaluation {
         }
     }
 
-    /// Goes through an expression whose value is converted.
+    /// Checks an expression whose value is converted.
     #[cycle(expression)]
     pub(crate) fn convert(
         &mut self,
@@ -281,12 +289,13 @@ impl Evaluation {
         waiting: &[usize],
         converted: &Converted,
     ) -> Result<(), Stop>
-        ensures { Leads result self.new (run (rule_converted waiting.now (view_converted converted.now) (view_state self.old.state))) (touched_converted (view_converted converted.now) self.old.touched.numbers.list) (begun self.old) }
+        ensures { Leads result self.new (run (rule_converted waiting.now (view_converted converted.now) (view_state self.old.state)))
+            (touched_converted (view_converted converted.now) self.old.touched.numbers.list) (begun self.old) }
     {
         self.evaluate(alloc, waiting, &converted.value)
     }
 
-    /// Goes through the arguments of a call, or the fields of a struct.
+    /// Checks the arguments of a call, or the fields of a struct.
     #[cycle(expression)]
     #[tactic(auto, using(std::proofs::lemmas::List::drop_more))]
     fn pass(
@@ -295,7 +304,8 @@ impl Evaluation {
         waiting: &[usize],
         arguments: &[Converted],
     ) -> Result<(), Stop>
-        ensures { Leads result self.new (run (rule_arguments waiting.now (arguments_of arguments.now) (view_state self.old.state))) (touched_arguments (arguments_of arguments.now) self.old.touched.numbers.list) (begun self.old) }
+        ensures { Leads result self.new (run (rule_arguments waiting.now (arguments_of arguments.now) (view_state self.old.state)))
+            (touched_arguments (arguments_of arguments.now) self.old.touched.numbers.list) (begun self.old) }
     {
         for argument in arguments {
             self.convert(alloc, waiting, argument)?;
@@ -303,7 +313,7 @@ impl Evaluation {
         Ok(())
     }
 
-    /// Goes through one operator of a chain and its operand, which `&&` and `||` may leave out.
+    /// Checks one operator of a chain with its operand, which `&&` and `||` may skip.
     #[cycle(expression)]
     fn apply_operation(
         &mut self,
@@ -311,7 +321,8 @@ impl Evaluation {
         waiting: &[usize],
         operation: &Operation,
     ) -> Result<(), Stop>
-        ensures { Leads result self.new (run (rule_operation waiting.now operation.now (view_state self.old.state))) (touched_operation operation.now self.old.touched.numbers.list) (begun self.old) }
+        ensures { Leads result self.new (run (rule_operation waiting.now operation.now (view_state self.old.state)))
+            (touched_operation operation.now self.old.touched.numbers.list) (begun self.old) }
     {
         match operation {
             Operation::Compute { operand, .. } => self.evaluate(alloc, waiting, operand),
@@ -334,7 +345,7 @@ impl Evaluation {
         }
     }
 
-    /// Goes through the rest of a chain.
+    /// Checks the rest of a chain.
     #[cycle(expression)]
     #[tactic(auto, using(std::proofs::lemmas::List::drop_more, crate::proofs::Walks::operation_run, crate::proofs::Walks::operation_touched))]
     fn apply_operations(
@@ -343,7 +354,8 @@ impl Evaluation {
         waiting: &[usize],
         operations: &[Operation],
     ) -> Result<(), Stop>
-        ensures { Leads result self.new (run (rule_operations waiting.now (operations_of operations.now) (view_state self.old.state))) (touched_operations (operations_of operations.now) self.old.touched.numbers.list) (begun self.old) }
+        ensures { Leads result self.new (run (rule_operations waiting.now (operations_of operations.now) (view_state self.old.state)))
+            (touched_operations (operations_of operations.now) self.old.touched.numbers.list) (begun self.old) }
     {
         for operation in operations {
             self.apply_operation(alloc, waiting, operation)?;

@@ -1,8 +1,8 @@
-//! The flow check: whether a typed tree keeps the flow rules, by what is known of each local at each place.
+//! The flow check: whether a typed tree satisfies the flow rules, by the state of each local at each program point.
 #![tactic(auto)]
 
 pub use cause::{Cause, Change};
-pub use check::{Explained, Flowed, explain, flow};
+pub use check::{Diagnosis, diagnose, flow};
 
 mod cause;
 mod cause_expressions;

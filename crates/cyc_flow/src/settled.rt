@@ -1,4 +1,5 @@
-//! What a construct asks, one demand after the other: of those that are broken the lowest code counts, and at one code the first.
+//! The demands of a construct, checked in order. Of several broken demands, the one with the lowest code is reported, and the first if
+//! several have that code.
 ghost use Rattle.std.specs.Prelude.{◌≡◌, None};
 ghost use Rattle.cyc_syntax.specs.inside.TreeView.{place_of_span};
 ghost use Rattle.cyc_types.specs.Rules.{demand, noted, settled};
@@ -11,9 +12,9 @@ use cyc_words::{Code, Fault, Span};
 
 #[derive(Clone, Copy)]
 pub(crate) struct Settled {
-    /// The fault so far.
+    /// The fault so far, if any.
     known: Option<Fault>,
-    /// The local of which it speaks, if it speaks of one. No rule depends on it.
+    /// The local that the fault concerns, if any. No rule depends on this local.
     number: usize,
 }
 
@@ -46,7 +47,7 @@ impl Settled {
         self.number = number;
     }
 
-    /// That the local which is named here holds a value that is not lent out.
+    /// Demands that the local named here holds a value that is not lent.
     pub(crate) fn look(&mut self, state: &State, span: Span, number: usize)
         ensures { self.new.known ≡ settled self.old.known (full_demanded (place_of_span span) number (view_state state.now)) }
     {
@@ -55,7 +56,7 @@ impl Settled {
         self.demand(Code::LockedVariable, span, number, !fullness.is_locked());
     }
 
-    /// The same, and that no peek of it waits.
+    /// Demands that the local named here holds a value that is not lent, and that no peek of it is pending.
     pub(crate) fn use_local(&mut self, waiting: &[usize], state: &State, span: Span, number: usize)
         ensures { self.new.known ≡ settled self.old.known (use_demanded waiting.now (place_of_span span) number (view_state state.now)) }
     {
@@ -68,7 +69,7 @@ impl Settled {
         );
     }
 
-    /// That the local which is assigned here is not lent out, and that no peek of it waits.
+    /// Demands that the assigned local is not lent, and that no peek of it is pending.
     pub(crate) fn store_local(
         &mut self,
         waiting: &[usize],
@@ -87,7 +88,7 @@ impl Settled {
         );
     }
 
-    /// That nothing is emptier here than at the head of the loop whose keyword stands there.
+    /// Demands that no local is emptier here than at the head of the loop with this keyword.
     pub(crate) fn go_on(&mut self, state: &State, head: &State, span: Span)
         ensures { self.new.known ≡ settled self.old.known (head_demanded (place_of_span span) (view_state state.now) (view_state head.now)) }
     {
@@ -96,7 +97,7 @@ impl Settled {
         self.demand(Code::LoopEmptiesVariable, span, number, kept);
     }
 
-    /// Whether all demands were kept.
+    /// Checks that all demands were satisfied.
     pub(crate) fn end(&self) -> Result<(), Stop>
         ensures { Ends result self.now.known }
     {
@@ -110,7 +111,7 @@ impl Settled {
     }
 }
 
-/// Back at the head of a loop, whose keyword stands there, nothing may be emptier than it was.
+/// Checks that no local is emptier here than at the head of the loop with this keyword.
 pub(crate) fn check_head(state: &State, head: &State, span: Span) -> Result<(), Stop>
     ensures { Ends result (settled None (head_demanded (place_of_span span) (view_state state.now) (view_state head.now))) }
 {

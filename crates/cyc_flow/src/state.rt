@@ -1,6 +1,7 @@
-//! What is known of each local at a place of a function.
+//! The state of each local at a program point of a function.
 ghost use Rattle.std.specs.Prelude.{◌≡◌, IfOk};
-ghost use Rattle.cyc_types.specs.flow.States.{Full, meet, is_at_least, fullness, with_fullness, with_each, emptied, lower, is_as_full, is_vacant, is_locked, is_reached};
+ghost use Rattle.cyc_types.specs.flow.States.{Full, meet, is_at_least, fullness, with_fullness, with_each, emptied, lower, is_as_full, is_vacant};
+ghost use Rattle.cyc_types.specs.flow.States.{is_locked, is_reached};
 ghost use Rattle.cyc_types.specs.flow.Expressions.{is_free};
 ghost use Rattle.cyc_flow.specs.inside.Code.{view_fullness, view_state};
 
@@ -8,14 +9,14 @@ use crate::table::Table;
 use crate::touched::Touched;
 use std::alloc::{AllocError, Global};
 
-/// What is known of a local, in rising order.
+/// The state of a local, in rising order.
 #[derive(Clone, Copy, PartialEq, Eq)]
 pub(crate) enum Fullness {
-    /// It may hold nothing.
+    /// The local may be empty.
     Vacant,
-    /// It holds a value that is lent out.
+    /// The local holds a value that is lent.
     Locked,
-    /// It holds a value.
+    /// The local holds a value.
     Full,
 }
 
@@ -49,7 +50,7 @@ impl Fullness {
     }
 }
 
-/// What was known of a local before a change.
+/// The state of a local before a change.
 #[derive(Clone, Copy)]
 pub(crate) struct Change {
     pub(crate) number: usize,
@@ -58,14 +59,14 @@ pub(crate) struct Change {
 
 #[derive(Drop)]
 pub(crate) enum State {
-    /// The code here is never run.
+    /// The program point is unreachable.
     Unreached,
-    /// What is known of each local, by its number.
+    /// The state of each local, by its number.
     Reached(Table),
 }
 
 impl State {
-    /// In code that is never run each local counts as full.
+    /// Returns the fullness of a local; in unreachable code each local counts as full.
     pub(crate) fn fullness(&self, number: usize) -> Fullness
         ensures { view_fullness result ≡ fullness (view_state self.now) number }
     {
@@ -75,7 +76,7 @@ impl State {
         }
     }
 
-    /// Of one local this is known now. Of code that is never run nothing is kept.
+    /// Sets the fullness of one local. At unreachable code no state is kept, so nothing is set.
     pub(crate) fn set(&mut self, number: usize, fullness: Fullness)
         ensures { view_state self.new ≡ with_fullness (view_fullness fullness) (view_state self.old) number }
     {
@@ -84,7 +85,7 @@ impl State {
         }
     }
 
-    /// Each of these locals holds a value.
+    /// Returns the state in which each of these locals is full.
     #[tactic(auto, using(crate::proofs::States::each_unreached))]
     pub(crate) fn filled(self, numbers: &[usize]) -> State
         ensures { view_state result ≡ with_each Full numbers.now (view_state self) }
@@ -98,7 +99,7 @@ impl State {
         }
     }
 
-    /// Each of these locals may hold nothing, unless it is lent out.
+    /// Returns the state in which each of these locals is empty, unless it is lent.
     #[tactic(auto, using(crate::proofs::States::emptied_unreached))]
     pub(crate) fn emptied(self, touched: &Touched) -> State
         ensures { view_state result ≡ emptied touched.now.numbers.list (view_state self) }
@@ -115,7 +116,7 @@ impl State {
         matches!(self, State::Reached(_))
     }
 
-    /// Whether no peek of a local waits. In code that is never run it does not matter.
+    /// Returns true if no peek of the local is pending. In unreachable code the function always returns true.
     pub(crate) fn is_free(&self, waiting: &[usize], number: usize) -> bool
         ensures { result ≡ is_free waiting.now number (view_state self.now) }
     {
@@ -125,7 +126,7 @@ impl State {
         }
     }
 
-    /// Whether nothing is emptier here than there.
+    /// Returns true if no local is emptier in this state than in the other.
     pub(crate) fn is_at_least(&self, other: &State) -> bool
         ensures { result ≡ is_at_least (view_state self.now) (view_state other.now) }
     {
@@ -136,8 +137,7 @@ impl State {
         }
     }
 
-    /// The first local that is emptier here than there, or 0 where none is: only what is said to a person depends on
-    /// it.
+    /// Returns the first local that is emptier in this state than in the other, or 0 if there is none; only diagnostics use it.
     pub(crate) fn first_emptier(&self, other: &State) -> usize {
         let (State::Reached(here), State::Reached(there)) = (self, other) else {
             return 0;
@@ -160,7 +160,7 @@ impl State {
     }
 }
 
-/// What is known where two branches meet.
+/// Returns the state at the join of two branches.
 pub(crate) fn meet(one: State, other: State) -> State
     ensures { view_state result ≡ meet (view_state one) (view_state other) }
 {

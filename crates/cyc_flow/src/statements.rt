@@ -1,19 +1,22 @@
-//! What is known behind a statement, where it keeps the flow rules. Each method takes what is known before.
+//! The state after a statement that satisfies the flow rules. Each method takes the state before.
 ghost use Rattle.std.specs.Prelude.{◌≡◌, ◌++◌, [], IfOk, None, Ok, option_map};
 ghost use Rattle.cyc_syntax.specs.inside.TreeView.{place_of_span};
 ghost use Rattle.cyc_types.specs.Rules.{and_then, settled, run};
 ghost use Rattle.cyc_types.specs.TypedTreeView.{view_expression, view_converted, view_side, view_statement, view_item, items_of, default_of, clauses_of};
 ghost use Rattle.cyc_types.specs.TypedTrees.{While, Try};
 ghost use Rattle.cyc_types.specs.flow.States.{Unreached, Full, meet, with_each};
-ghost use Rattle.cyc_types.specs.flow.Touched.{and_local, touched, touched_value, touched_thrown, touched_converted, touched_declaration, touched_side, touched_statement, touched_item, touched_items, touched_clauses};
+ghost use Rattle.cyc_types.specs.flow.Touched.{and_local, touched, touched_value, touched_thrown, touched_converted, touched_declaration};
+ghost use Rattle.cyc_types.specs.flow.Touched.{touched_side, touched_statement, touched_item, touched_items, touched_clauses};
 ghost use Rattle.cyc_types.specs.flow.Expressions.{rule, rule_converted};
-ghost use Rattle.cyc_types.specs.flow.Statements.{rule_value, rule_thrown, rule_side, peeked_side, side_demanded, rule_swapped, continue_demanded, locked_by, locks_of, rule_declared, rule_locked, caught, with_caught, or_clause, at_end, rule_statement, rule_item, rule_items, rule_clauses};
+ghost use Rattle.cyc_types.specs.flow.Statements.{rule_value, rule_thrown, rule_side, peeked_side, side_demanded, rule_swapped, continue_demanded};
+ghost use Rattle.cyc_types.specs.flow.Statements.{locked_by, locks_of, rule_declared, rule_locked, caught, with_caught, or_clause, at_end};
+ghost use Rattle.cyc_types.specs.flow.Statements.{rule_statement, rule_item, rule_items, rule_clauses};
 ghost use Rattle.cyc_flow.specs.inside.Code.{view_state, Ends, Gives, GivesKnown, GivesClauses, known};
 ghost use Rattle.cyc_types.specs.flow.Programs.{in_function};
 ghost use Rattle.cyc_flow.specs.inside.Steps.{stands, view_loop};
 
 use crate::evaluation::Evaluation;
-use crate::expressions::{Tracked, and_peeked, peek_behind};
+use crate::expressions::{Tracked, and_peeked, peek_after};
 use crate::settled::{Settled, check_head};
 use crate::state::{Fullness, State, meet};
 use crate::stop::Stop;
@@ -23,29 +26,32 @@ use cyc_words::Span;
 use std::alloc::Global;
 use std::mem;
 
-// ---- what stands in a statement
+// ---- parts of statements
 
-/// Behind an expression that stands in no other.
+/// Checks an expression that is part of no other expression.
 fn evaluate(alloc: Global, value: &Expr, tracked: Tracked) -> Result<Tracked, Stop>
-    ensures { Gives result (run (rule [] (view_expression value.now) (view_state tracked.state))) (touched (view_expression value.now) tracked.touched.numbers.list) }
+    ensures { Gives result (run (rule [] (view_expression value.now) (view_state tracked.state)))
+        (touched (view_expression value.now) tracked.touched.numbers.list) }
 {
     let mut evaluation = Evaluation::new(alloc, tracked);
     evaluation.evaluate(alloc, &[], value)?;
     Ok(evaluation.end())
 }
 
-/// The same of one whose value is converted.
+/// Checks an expression without pending peeks, whose value is converted.
 fn convert(alloc: Global, value: &Converted, tracked: Tracked) -> Result<Tracked, Stop>
-    ensures { Gives result (run (rule_converted [] (view_converted value.now) (view_state tracked.state))) (touched_converted (view_converted value.now) tracked.touched.numbers.list) }
+    ensures { Gives result (run (rule_converted [] (view_converted value.now) (view_state tracked.state)))
+        (touched_converted (view_converted value.now) tracked.touched.numbers.list) }
 {
     let mut evaluation = Evaluation::new(alloc, tracked);
     evaluation.convert(alloc, &[], value)?;
     Ok(evaluation.end())
 }
 
-/// Behind the value that is returned, if one is.
+/// Checks the returned value, if there is one.
 fn return_value(alloc: Global, value: &Option<Converted>, tracked: Tracked) -> Result<Tracked, Stop>
-    ensures { Gives result (run (rule_value (option_map view_converted value.now) (view_state tracked.state))) (touched_value (option_map view_converted value.now) tracked.touched.numbers.list) }
+    ensures { Gives result (run (rule_value (option_map view_converted value.now) (view_state tracked.state)))
+        (touched_value (option_map view_converted value.now) tracked.touched.numbers.list) }
 {
     match value {
         None => Ok(tracked),
@@ -53,9 +59,10 @@ fn return_value(alloc: Global, value: &Option<Converted>, tracked: Tracked) -> R
     }
 }
 
-/// Behind the int that is thrown, if one is.
+/// Checks the int of a thrown exception, if there is one.
 fn throw_value(alloc: Global, value: &Option<Expr>, tracked: Tracked) -> Result<Tracked, Stop>
-    ensures { Gives result (run (rule_thrown (option_map view_expression value.now) (view_state tracked.state))) (touched_thrown (option_map view_expression value.now) tracked.touched.numbers.list) }
+    ensures { Gives result (run (rule_thrown (option_map view_expression value.now) (view_state tracked.state)))
+        (touched_thrown (option_map view_expression value.now) tracked.touched.numbers.list) }
 {
     match value {
         None => Ok(tracked),
@@ -63,29 +70,30 @@ fn throw_value(alloc: Global, value: &Option<Expr>, tracked: Tracked) -> Result<
     }
 }
 
-/// Behind the declaration of a local: it holds its initial value, or nothing.
+/// Checks the declaration of a local, which holds its initial value or is empty.
 fn declare(
     alloc: Global,
     number: usize,
     value: &Option<Converted>,
     tracked: Tracked,
 ) -> Result<Tracked, Stop>
-    ensures { Gives result (run (rule_declared number (option_map view_converted value.now) (view_state tracked.state))) (touched_declaration number (option_map view_converted value.now) tracked.touched.numbers.list) }
+    ensures { Gives result (run (rule_declared number (option_map view_converted value.now) (view_state tracked.state)))
+        (touched_declaration number (option_map view_converted value.now) tracked.touched.numbers.list) }
 {
     match value {
         None => {
-            let mut behind = tracked.with_fullness(number, Fullness::Vacant);
-            behind.touch(number)?;
-            Ok(behind)
+            let mut following = tracked.with_fullness(number, Fullness::Vacant);
+            following.touch(number)?;
+            Ok(following)
         }
         Some(value) => {
-            let behind = convert(alloc, value, tracked)?;
-            Ok(behind.with_fullness(number, Fullness::Full))
+            let following = convert(alloc, value, tracked)?;
+            Ok(following.with_fullness(number, Fullness::Full))
         }
     }
 }
 
-/// Behind a statement that is left for good.
+/// Returns the state after a statement that never ends.
 fn left(tracked: Tracked) -> Tracked
     ensures state { view_state result.state ≡ Unreached }
     ensures touched { result.touched.numbers.list ≡ tracked.touched.numbers.list }
@@ -98,24 +106,25 @@ fn left(tracked: Tracked) -> Tracked
 
 // ---- swaps
 
-/// The local that the left side of a swap is reached through by a peek.
+/// Returns the local whose peek the left side of a swap is reached through, if any.
 fn peeked_side(side: &Side) -> Option<usize>
     ensures { result ≡ peeked_side (view_side side.now) }
 {
     match side {
         Side::Variable { .. } => None,
-        Side::Cell { place } => peek_behind(place),
+        Side::Cell { place } => peek_after(place),
     }
 }
 
-/// Behind a side of a swap, as a place.
+/// Checks a side of a swap, as a place.
 fn find_side(
     alloc: Global,
     waiting: &[usize],
     side: &Side,
     tracked: Tracked,
 ) -> Result<Tracked, Stop>
-    ensures { Gives result (run (rule_side waiting.now (view_side side.now) (view_state tracked.state))) (touched_side (view_side side.now) tracked.touched.numbers.list) }
+    ensures { Gives result (run (rule_side waiting.now (view_side side.now) (view_state tracked.state)))
+        (touched_side (view_side side.now) tracked.touched.numbers.list) }
 {
     match side {
         Side::Variable { .. } => Ok(tracked),
@@ -127,7 +136,7 @@ fn find_side(
     }
 }
 
-/// A side that is a variable is used once both places are found.
+/// Checks the use of a side that is a variable, after both places were evaluated.
 fn use_side(asked: &mut Settled, waiting: &[usize], side: &Side, state: &State)
     ensures { asked.new.known ≡ settled asked.old.known (side_demanded waiting.now (view_side side.now) (view_state state.now)) }
 {
@@ -138,10 +147,11 @@ fn use_side(asked: &mut Settled, waiting: &[usize], side: &Side, state: &State)
     }
 }
 
-/// Behind a swap.
+/// Checks a swap.
 #[tactic(auto, using(cyc_types::proofs::RuleLaws::settled_append))]
 fn swap(alloc: Global, left: &Side, right: &Side, tracked: Tracked) -> Result<Tracked, Stop>
-    ensures { Gives result (run (rule_swapped (view_side left.now) (view_side right.now) (view_state tracked.state))) (touched_side (view_side right.now) (touched_side (view_side left.now) tracked.touched.numbers.list)) }
+    ensures { Gives result (run (rule_swapped (view_side left.now) (view_side right.now) (view_state tracked.state)))
+        (touched_side (view_side right.now) (touched_side (view_side left.now) tracked.touched.numbers.list)) }
 {
     let tracked = find_side(alloc, &[], left, tracked)?;
     let waiting = and_peeked(alloc, &[], peeked_side(left))?;
@@ -155,20 +165,20 @@ fn swap(alloc: Global, left: &Side, right: &Side, tracked: Tracked) -> Result<Tr
 
 // ---- statements
 
-/// A loop that is gone through: the place of its `while`, and what is known at its head.
+/// The enclosing loop: the place of the loop's `while`, and the state at the loop's head.
 #[derive(Drop)]
 pub(crate) struct Loop {
     span: Span,
     head: State,
 }
 
-/// Goes through the statements of a function.
+/// The walk through the statements of a function.
 #[derive(Drop)]
 pub(crate) struct Walk {
     alloc: Global,
-    /// The locals that items have locked since the body of the loop around began, in order.
+    /// The locals that items have locked since the start of the enclosing loop's body, in order.
     locks: Vec<usize>,
-    /// What is known at the breaks so far that leave the loop around, met.
+    /// The meet of the states at the breaks so far that leave the enclosing loop.
     breaks: State,
 }
 
@@ -184,7 +194,7 @@ impl Walk {
         }
     }
 
-    /// Behind a `break`, where the loop around is left.
+    /// Checks a `break`, which leaves the enclosing loop.
     fn break_loop(&mut self, tracked: Tracked) -> Tracked
         ensures state { view_state result.state ≡ Unreached }
         ensures touched { result.touched.numbers.list ≡ tracked.touched.numbers.list }
@@ -200,9 +210,10 @@ impl Walk {
         }
     }
 
-    /// Whether a `continue` may go back to the head of the loop around.
+    /// Checks that a `continue` may return to the head of the enclosing loop.
     fn check_continue(&self, around: Option<&Loop>, state: State) -> Result<(), Stop>
-        ensures { Ends result (settled None (continue_demanded (option_map (λ l. view_loop l.now) around.entry) (with_each Full self.now.locks.items (view_state state)))) }
+        ensures { Ends result (settled None (continue_demanded (option_map (λ l. view_loop l.now) around.entry)
+            (with_each Full self.now.locks.items (view_state state)))) }
     {
         let Some(around) = around else {
             return Ok(());
@@ -211,7 +222,7 @@ impl Walk {
         check_head(&at_exit, &around.head, around.span)
     }
 
-    /// Behind an item that declares one local, and locks the one which is named here to the end of the block.
+    /// Checks an item that declares one local and locks another, named here, to the end of the block.
     fn lock(
         &mut self,
         number: usize,
@@ -219,7 +230,8 @@ impl Walk {
         locked: usize,
         tracked: Tracked,
     ) -> Result<Tracked, Stop>
-        ensures gives { Gives result (run (rule_locked number (place_of_span span) locked (view_state tracked.state))) (and_local locked tracked.touched.numbers.list) }
+        ensures gives { Gives result (run (rule_locked number (place_of_span span) locked (view_state tracked.state)))
+            (and_local locked tracked.touched.numbers.list) }
         ensures breaks { IfOk result (λ _. view_state self.new.breaks ≡ view_state self.old.breaks) }
         ensures locks { IfOk result (λ _. self.new.locks.items ≡ and_local locked self.old.locks.items) }
     {
@@ -227,13 +239,13 @@ impl Walk {
         settled.look(&tracked.state, span, locked);
         settled.end()?;
         let lent = tracked.with_fullness(locked, Fullness::Locked);
-        let mut behind = lent.with_fullness(number, Fullness::Full);
-        behind.touch(locked)?;
+        let mut following = lent.with_fullness(number, Fullness::Full);
+        following.touch(locked)?;
         self.locks.push(locked)?;
-        Ok(behind)
+        Ok(following)
     }
 
-    /// Behind a statement in this loop, if one is around it.
+    /// Checks a statement, given the enclosing loop, if any.
     #[cycle(statement)]
     fn check_statement(
         &mut self,
@@ -241,7 +253,9 @@ impl Walk {
         statement: &Stmt,
         tracked: Tracked,
     ) -> Result<Tracked, Stop>
-        ensures known { GivesKnown result (run (rule_statement (stands (option_map (λ l. view_loop l.now) around.entry) self.old.locks.items) (view_statement statement.now) (known (view_state tracked.state) (view_state self.old.breaks)))) (touched_statement (view_statement statement.now) tracked.touched.numbers.list) (view_state self.new.breaks) }
+        ensures known { GivesKnown result (run (rule_statement (stands (option_map (λ l. view_loop l.now) around.entry) self.old.locks.items)
+            (view_statement statement.now) (known (view_state tracked.state) (view_state self.old.breaks))))
+            (touched_statement (view_statement statement.now) tracked.touched.numbers.list) (view_state self.new.breaks) }
         ensures locks { IfOk result (λ _. self.new.locks.items ≡ self.old.locks.items) }
     {
         match statement {
@@ -257,15 +271,15 @@ impl Walk {
             } => {
                 let inside = evaluate(self.alloc, condition, tracked)?;
                 let other = inside.state.copy(self.alloc)?;
-                let behind = self.check_statement(around, then, inside)?;
+                let following = self.check_statement(around, then, inside)?;
                 let inside_other = Tracked {
                     state: other,
-                    touched: behind.touched,
+                    touched: following.touched,
                 };
-                let behind_other = self.check_statement(around, otherwise, inside_other)?;
+                let after_other = self.check_statement(around, otherwise, inside_other)?;
                 Ok(Tracked {
-                    state: meet(behind.state, behind_other.state),
-                    touched: behind_other.touched,
+                    state: meet(following.state, after_other.state),
+                    touched: after_other.touched,
                 })
             }
             Stmt::While {
@@ -296,17 +310,17 @@ impl Walk {
                 };
                 let end = self.check_statement(around, body, inside)?;
                 let start = before.emptied(&end.touched);
-                let behind = end.behind_body(tracked.touched);
-                let behind = self.check_clauses(around, &start, clauses, behind)?;
+                let following = end.after_body(tracked.touched);
+                let following = self.check_clauses(around, &start, clauses, following)?;
                 match default {
-                    None => Ok(behind),
-                    Some(body) => self.check_clause(around, &start, None, &body.items, behind),
+                    None => Ok(following),
+                    Some(body) => self.check_clause(around, &start, None, &body.items, following),
                 }
             }
         }
     }
 
-    /// Behind a loop, whose `while` stands here.
+    /// Checks a loop with its `while` at this place.
     #[cycle(statement)]
     fn check_loop(
         &mut self,
@@ -315,7 +329,11 @@ impl Walk {
         span: Span,
         tracked: Tracked,
     ) -> Result<Tracked, Stop>
-        ensures known { GivesKnown result (run (rule_statement in_function (While (place_of_span span) (view_expression condition.now) (view_statement body.now)) (known (view_state tracked.state) (view_state self.old.breaks)))) (touched_statement (view_statement body.now) (touched (view_expression condition.now) tracked.touched.numbers.list)) (view_state self.new.breaks) }
+        ensures known { GivesKnown result (run (rule_statement in_function
+            (While (place_of_span span) (view_expression condition.now) (view_statement body.now))
+            (known (view_state tracked.state) (view_state self.old.breaks))))
+            (touched_statement (view_statement body.now) (touched (view_expression condition.now) tracked.touched.numbers.list))
+            (view_state self.new.breaks) }
         ensures locks { IfOk result (λ _. self.new.locks.items ≡ self.old.locks.items) }
     {
         let head = tracked.state.copy(self.alloc)?;
@@ -328,14 +346,14 @@ impl Walk {
         let breaks = mem::replace(&mut self.breaks, outer);
         self.locks = locks;
         check_head(&end.state, &around.head, span)?;
-        // The condition has just been evaluated, or a break has left the loop.
+        // Control leaves a loop either after its condition was evaluated or by a break.
         Ok(Tracked {
             state: meet(exit, breaks),
             touched: end.touched,
         })
     }
 
-    /// Behind the clauses of a catch, of which each begins with this known, and in front of those that follow.
+    /// Checks the clauses of a catch, each of which begins with the given state.
     #[cycle(statement)]
     fn check_clauses(
         &mut self,
@@ -344,17 +362,19 @@ impl Walk {
         clauses: &[Clause],
         tracked: Tracked,
     ) -> Result<Tracked, Stop>
-        ensures known { GivesClauses (stands (option_map (λ l. view_loop l.now) around.entry) self.old.locks.items) (view_state start.now) result (clauses_of clauses.now) (known (view_state tracked.state) (view_state self.old.breaks)) tracked.touched.numbers.list (view_state self.new.breaks) }
+        ensures known { GivesClauses (stands (option_map (λ l. view_loop l.now) around.entry) self.old.locks.items) (view_state start.now) result
+            (clauses_of clauses.now) (known (view_state tracked.state) (view_state self.old.breaks)) tracked.touched.numbers.list
+            (view_state self.new.breaks) }
         ensures locks { IfOk result (λ _. self.new.locks.items ≡ self.old.locks.items) }
     {
-        let mut behind = tracked;
+        let mut following = tracked;
         for clause in clauses {
-            behind = self.check_clause(around, start, clause.number, &clause.items, behind)?;
+            following = self.check_clause(around, start, clause.number, &clause.items, following)?;
         }
-        Ok(behind)
+        Ok(following)
     }
 
-    /// Behind a clause that begins with this known, and that puts the int into a local, if it has one.
+    /// Checks a clause that begins with this state; its int, if it has one, is stored in a local.
     #[cycle(statement)]
     fn check_clause(
         &mut self,
@@ -364,7 +384,10 @@ impl Walk {
         items: &[Item],
         before: Tracked,
     ) -> Result<Tracked, Stop>
-        ensures known { GivesKnown result (and_then (run (rule_items (stands (option_map (λ l. view_loop l.now) around.entry) self.old.locks.items) (items_of items.now) (known (with_caught number (view_state start.now)) (view_state self.old.breaks)))) (λ k. Ok (or_clause (view_state before.state) (items_of items.now) k))) (touched_items (items_of items.now) before.touched.numbers.list) (view_state self.new.breaks) }
+        ensures known { GivesKnown result (and_then (run (rule_items (stands (option_map (λ l. view_loop l.now) around.entry) self.old.locks.items)
+            (items_of items.now) (known (with_caught number (view_state start.now)) (view_state self.old.breaks))))
+            (λ k. Ok (or_clause (view_state before.state) (items_of items.now) k))) (touched_items (items_of items.now) before.touched.numbers.list)
+            (view_state self.new.breaks) }
         ensures locks { IfOk result (λ _. self.new.locks.items ≡ self.old.locks.items) }
     {
         let mut caught = start.copy(self.alloc)?;
@@ -382,7 +405,7 @@ impl Walk {
         })
     }
 
-    /// Behind a block, at whose end what its items have locked is full again.
+    /// Checks a block. At its end, the locals that its items have locked are full again.
     #[cycle(statement)]
     fn check_block(
         &mut self,
@@ -390,7 +413,9 @@ impl Walk {
         items: &[Item],
         tracked: Tracked,
     ) -> Result<Tracked, Stop>
-        ensures known { GivesKnown result (and_then (run (rule_items (stands (option_map (λ l. view_loop l.now) around.entry) self.old.locks.items) (items_of items.now) (known (view_state tracked.state) (view_state self.old.breaks)))) (λ k. Ok (at_end (items_of items.now) k))) (touched_items (items_of items.now) tracked.touched.numbers.list) (view_state self.new.breaks) }
+        ensures known { GivesKnown result (and_then (run (rule_items (stands (option_map (λ l. view_loop l.now) around.entry) self.old.locks.items)
+            (items_of items.now) (known (view_state tracked.state) (view_state self.old.breaks)))) (λ k. Ok (at_end (items_of items.now) k)))
+            (touched_items (items_of items.now) tracked.touched.numbers.list) (view_state self.new.breaks) }
         ensures locks { IfOk result (λ _. self.new.locks.items ≡ self.old.locks.items) }
     {
         let mark = self.locks.len();
@@ -403,7 +428,7 @@ impl Walk {
         })
     }
 
-    /// Behind the items of a block, which stay locked what they lock.
+    /// Checks the items of a block; the locals that they lock stay locked.
     #[cycle(statement)]
     #[tactic(auto, using(std::proofs::lemmas::List::drop_more, std::proofs::lemmas::List::append_assoc))]
     pub(crate) fn check_items(
@@ -412,17 +437,19 @@ impl Walk {
         items: &[Item],
         tracked: Tracked,
     ) -> Result<Tracked, Stop>
-        ensures known { GivesKnown result (run (rule_items (stands (option_map (λ l. view_loop l.now) around.entry) self.old.locks.items) (items_of items.now) (known (view_state tracked.state) (view_state self.old.breaks)))) (touched_items (items_of items.now) tracked.touched.numbers.list) (view_state self.new.breaks) }
+        ensures known { GivesKnown result (run (rule_items (stands (option_map (λ l. view_loop l.now) around.entry) self.old.locks.items)
+            (items_of items.now) (known (view_state tracked.state) (view_state self.old.breaks))))
+            (touched_items (items_of items.now) tracked.touched.numbers.list) (view_state self.new.breaks) }
         ensures locks { IfOk result (λ _. self.new.locks.items ≡ self.old.locks.items ++ locks_of (items_of items.now)) }
     {
-        let mut behind = tracked;
+        let mut following = tracked;
         for item in items {
-            behind = self.check_item(around, item, behind)?;
+            following = self.check_item(around, item, following)?;
         }
-        Ok(behind)
+        Ok(following)
     }
 
-    /// Behind an item of a block.
+    /// Checks an item of a block.
     #[cycle(statement)]
     fn check_item(
         &mut self,
@@ -430,7 +457,9 @@ impl Walk {
         item: &Item,
         tracked: Tracked,
     ) -> Result<Tracked, Stop>
-        ensures known { GivesKnown result (run (rule_item (stands (option_map (λ l. view_loop l.now) around.entry) self.old.locks.items) (view_item item.now) (known (view_state tracked.state) (view_state self.old.breaks)))) (touched_item (view_item item.now) tracked.touched.numbers.list) (view_state self.new.breaks) }
+        ensures known { GivesKnown result (run (rule_item (stands (option_map (λ l. view_loop l.now) around.entry) self.old.locks.items)
+            (view_item item.now) (known (view_state tracked.state) (view_state self.old.breaks))))
+            (touched_item (view_item item.now) tracked.touched.numbers.list) (view_state self.new.breaks) }
         ensures locks { IfOk result (λ _. self.new.locks.items ≡ self.old.locks.items ++ locked_by (view_item item.now)) }
     {
         match item {

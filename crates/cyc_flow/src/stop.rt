@@ -1,4 +1,4 @@
-//! Why a check stops.
+//! The reasons why a check stops.
 ghost use Rattle.std.specs.Prelude.{◌≡◌};
 ghost use Rattle.cyc_flow.specs.declared.stop.Stop.TheVariants.{Memory, Refused};
 ghost use Rattle.cyc_flow.specs.inside.Code.{fault_of};
@@ -8,9 +8,9 @@ use std::alloc::{AllocError, AllocFailed};
 
 #[derive(Clone, Copy)]
 pub(crate) enum Stop {
-    /// An allocation was refused.
+    /// An allocation failed.
     Memory,
-    /// With the number of the local of which the rule speaks, if it speaks of one.
+    /// A broken rule, with the number of the local that it concerns, if any.
     Refused { fault: Fault, number: usize },
 }
 

@@ -1,4 +1,4 @@
-//! What is known of each local of a function, in bits of words: where two branches meet, 64 locals are met at once.
+//! The state of each local of a function, as bits of words: a join of two branches processes 64 locals at once.
 ghost use Rattle.std.specs.Prelude.{◌≡◌, ◌≢◌, ◌<◌, ◌≤◌, ◌++◌, IfOk, ℕ, List, true, length, replicate, drop, get_or, slice_set};
 ghost use Rattle.std.specs.Int.{bit_at};
 ghost use Rattle.cyc_types.specs.flow.States.{Vacant, Full, Reached, lower_each, are_as_full, with_each, emptied};
@@ -10,15 +10,15 @@ ghost use Rattle.cyc_flow.specs.inside.Tables.{marked, marks_at, table_length, v
 use crate::state::Fullness;
 use std::alloc::{AllocError, Global};
 
-/// What is known of 64 locals: of each a bit that it holds a value, and a bit that this is not lent out. Of a local that holds none the
-/// second does not count.
+/// The states of 64 locals. For each, one bit states that it holds a value, and another that the value is not lent. The bit for lending is
+/// meaningless for an empty local.
 #[derive(Clone, Copy)]
 struct Marks {
     held: u64,
     free: u64,
 }
 
-/// A word with one of its bits set or cleared.
+/// Returns the word with one bit set or cleared.
 pub(crate) fn with_bit(word: u64, place: usize, value: bool) -> u64
     requires { place < 64 }
     ensures same { has_bit result place ≡ value }
@@ -65,14 +65,14 @@ impl Marks {
         }
     }
 
-    /// The bits that are missing here and not there.
+    /// Returns the bits that are set in the other marks but not in these.
     fn missing(self, other: Marks) -> u64
         ensures { result ≡ missing self other }
     {
         (self.held & other.held ^ other.held) | (self.free & other.free ^ other.free)
     }
 
-    /// Each local that has a bit in this word may hold nothing, unless it is lent out.
+    /// Empties each local with a set bit in this word, unless it is lent.
     fn emptied(self, word: u64) -> Marks
         ensures { result ≡ emptied_marks self word }
     {
@@ -83,17 +83,17 @@ impl Marks {
     }
 }
 
-/// What is known of each local, by its number.
+/// The state of each local, by its number.
 #[derive(Drop)]
 pub(crate) struct Table {
-    /// How many locals there are, if there are marks of all of them.
+    /// The number of locals, if every local has marks.
     count: usize,
     /// The marks of the first 64 locals, of the next 64, and so on.
     marks: Vec<Marks>,
 }
 
 impl Table {
-    /// Each of so many locals may hold nothing.
+    /// Returns a table in which each of this many locals is empty.
     pub(crate) fn new(alloc: Global, count: usize) -> Result<Table, AllocError>
         ensures { IfOk result (λ t. view_table t ≡ replicate count Vacant) }
     {
@@ -104,7 +104,7 @@ impl Table {
         })
     }
 
-    /// How many locals there are.
+    /// Returns the number of locals.
     pub(crate) fn len(&self) -> usize
         ensures { result ≡ table_length self.now }
     {
@@ -115,7 +115,7 @@ impl Table {
         }
     }
 
-    /// A local that is not there may hold nothing.
+    /// Returns the fullness of a local; a local outside the table is empty.
     pub(crate) fn fullness(&self, number: usize) -> Fullness
         ensures { view_fullness result ≡ get_or (view_table self.now) number Vacant }
     {
@@ -126,7 +126,7 @@ impl Table {
         }
     }
 
-    /// Of one local this is known now.
+    /// Sets the fullness of one local.
     pub(crate) fn set(&mut self, number: usize, fullness: Fullness)
         ensures { view_table self.new ≡ slice_set (view_table self.old) number (view_fullness fullness) }
     {
@@ -136,7 +136,7 @@ impl Table {
         }
     }
 
-    /// Each of these locals holds a value now.
+    /// Marks each of these locals as full.
     #[tactic(auto, using(std::proofs::lemmas::List::drop_more))]
     pub(crate) fn fill_each(&mut self, numbers: &[usize])
         ensures { Reached (view_table self.new) ≡ with_each Full numbers.now (Reached (view_table self.old)) }
@@ -146,7 +146,7 @@ impl Table {
         }
     }
 
-    /// So many of the first locals hold a value now.
+    /// Marks this many of the first locals as full.
     pub(crate) fn fill(&mut self, count: usize)
         requires { count ≤ table_length self.old }
         ensures { view_table self.new ≡ replicate count Full ++ drop count (view_table self.old) }
@@ -165,7 +165,7 @@ impl Table {
         })
     }
 
-    /// Of each local what is known in both tables, as far as both go.
+    /// Returns the meet of two tables, up to the shorter length.
     pub(crate) fn lower(mut self, other: &Table) -> Table
         ensures { view_table result ≡ lower_each (view_table self) (view_table other.now) }
     {
@@ -174,7 +174,7 @@ impl Table {
         self
     }
 
-    /// Each local that has a bit in these words may hold nothing, unless it is lent out.
+    /// Empties each local with a set bit in these words, unless it is lent.
     pub(crate) fn emptied(mut self, words: &[u64]) -> Table
         ensures { (ns : List ℕ) → Stand words.now ns → Reached (view_table result) ≡ emptied ns (Reached (view_table self)) }
     {
@@ -182,8 +182,8 @@ impl Table {
         self
     }
 
-    /// Whether nothing is emptier here than there. Where a bit is missing here, each local is compared by itself, which is once at most: it is a
-    /// fault then.
+    /// Returns true if no local is emptier in this table than in the other. If a bit is missing, the locals are compared one by one; this
+    /// happens at most once, since it is then a fault.
     pub(crate) fn is_as_full(&self, other: &Table) -> bool
         ensures { result ≡ are_as_full (view_table self.now) (view_table other.now) }
     {
@@ -193,7 +193,7 @@ impl Table {
         cover_each(&self.marks, &other.marks) || self.are_as_full(other)
     }
 
-    /// The same, local by local.
+    /// Compares the two tables local by local.
     fn are_as_full(&self, other: &Table) -> bool
         requires { table_length self.now ≡ table_length other.now }
         ensures { result ≡ are_as_full (view_table self.now) (view_table other.now) }
@@ -207,7 +207,7 @@ impl Table {
     }
 }
 
-/// The bits that both have, as far as both go.
+/// Returns the bits that are set in both, up to the shorter length.
 fn meet_each(mut one: Vec<Marks>, other: &[Marks]) -> Vec<Marks>
     ensures { result.items ≡ met_each one.items other.now }
 {
@@ -219,7 +219,7 @@ fn meet_each(mut one: Vec<Marks>, other: &[Marks]) -> Vec<Marks>
     one
 }
 
-/// Each local that has a bit in these words may hold nothing, unless it is lent out.
+/// Empties each local with a set bit in these words, unless it is lent.
 #[tactic(auto, using(crate::proofs::Sets::changed_more))]
 fn empty_each(mut marks: Vec<Marks>, words: &[u64]) -> Vec<Marks>
     ensures { result.items ≡ with_words emptied_marks marks.items words.now }
@@ -231,7 +231,7 @@ fn empty_each(mut marks: Vec<Marks>, words: &[u64]) -> Vec<Marks>
     marks
 }
 
-/// Whether no bit is missing here that is there. All are looked at, since a loop with one end goes through several at once.
+/// Returns true if no bit of the other is missing here. All words are compared without an early exit, so that the loop can be vectorized.
 #[tactic(auto, using(crate::proofs::Tables::lacks_none))]
 fn cover_each(one: &[Marks], other: &[Marks]) -> bool
     ensures { result ≡ true → (p : ℕ) → p < length one.now → p < length other.now → Covers (marks_at one.now p) (marks_at other.now p) }

@@ -1,4 +1,4 @@
-//! Which locals were touched, as a set: however often a local was, it is gone through once, and 64 at a time.
+//! The touched locals, as a set: each local is visited once, and 64 at a time.
 ghost use Rattle.std.specs.Prelude.{◌≡◌, ◌==◌, ◌||◌, ℕ, [], ◌++◌, IfOk, bit_or};
 ghost use Rattle.cyc_types.specs.flow.Touched.{and_local};
 ghost use Rattle.cyc_flow.specs.inside.Numbers.{has_number, with_words, Stand};
@@ -8,16 +8,16 @@ use crate::table::with_bit;
 use std::alloc::{AllocError, Global};
 use std::mem;
 
-/// The locals that were consumed, assigned or locked: unique pointers and keys.
+/// The locals (unique pointers and keys) that were consumed, assigned or locked.
 #[derive(Drop)]
 pub(crate) struct Touched {
-    /// A bit of each local, of 64 in a word. What is not there was not touched.
+    /// One bit for each local, 64 in a word. A local beyond the words was not touched.
     words: Vec<u64>,
     pub(crate) numbers: Numbers,
     ghost stand: { Stand words.items numbers.list },
 }
 
-/// This number is one of them now.
+/// Adds this number to the set.
 fn insert(words: &mut Vec<u64>, number: usize) -> Result<(), AllocError>
     ensures { IfOk result (λ _. (n : ℕ) → has_number words.new.items n ≡ ((n == number) || has_number words.old.items n)) }
 {
@@ -29,7 +29,7 @@ fn insert(words: &mut Vec<u64>, number: usize) -> Result<(), AllocError>
     Ok(())
 }
 
-/// The bits that either has, as far as the first goes.
+/// Returns the bits that are set in either, up to the length of the first.
 #[tactic(auto, using(crate::proofs::Sets::changed_more))]
 fn either_each(mut one: Vec<u64>, other: &[u64]) -> Vec<u64>
     ensures { result.items ≡ with_words bit_or one.items other.now }
@@ -41,7 +41,7 @@ fn either_each(mut one: Vec<u64>, other: &[u64]) -> Vec<u64>
     one
 }
 
-/// The numbers of both.
+/// Returns the union of two sets.
 fn united(one: Vec<u64>, other: Vec<u64>) -> Vec<u64>
     ensures { (n : ℕ) → has_number result.items n ≡ (has_number one.items n || has_number other.items n) }
 {
@@ -63,14 +63,14 @@ impl Touched {
         }
     }
 
-    /// A bit of each, of 64 locals in a word.
+    /// Returns the words of the set, with 64 locals in each.
     pub(crate) fn words(&self) -> &[u64]
         ensures { Stand result.now self.now.numbers.list }
     {
         &self.words
     }
 
-    /// One more.
+    /// Adds one more number.
     pub(crate) fn add(&mut self, number: usize) -> Result<(), AllocError>
         ensures { IfOk result (λ _. self.new.numbers.list ≡ and_local number self.old.numbers.list) }
     {
@@ -84,7 +84,7 @@ impl Touched {
         Ok(())
     }
 
-    /// All of these, and behind them all of those.
+    /// Returns the union; its number list is the first followed by the second.
     pub(crate) fn joined(self, more: Touched) -> Touched
         ensures { result.numbers.list ≡ self.numbers.list ++ more.numbers.list }
     {

@@ -1,4 +1,4 @@
--- Whether a word has a bit.
+-- True if the word has the bit of this number set.
 use Rattle.std.specs.Prelude.{ℕ, Bool, ◌==◌}
 use Rattle.std.specs.Int.{bit_at}
 

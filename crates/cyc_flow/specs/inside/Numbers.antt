@@ -1,4 +1,4 @@
--- Which numbers are among some, by the bits of words.
+-- Sets of numbers, represented by the bits of words.
 use Rattle.std.specs.Prelude.{◌≡◌, ℕ, ◌/◌, ◌%◌, Bool, false, ◌==◌, ◌||◌, List, [], ◌∷◌, get_or}
 use Rattle.cyc_flow.specs.inside.Bits.{has_bit}
 
@@ -9,11 +9,11 @@ is_among n (m ∷ ms) = (n == m) || is_among n ms
 abbrev pub has_number : (words : List ℕ) → (n : ℕ) → Bool
 has_number ws n = has_bit (get_or ws (n / 64) 0) (n % 64)
 
--- these words have a bit of each of these numbers, and no other
+-- these words have exactly the bits of these numbers
 abbrev pub Stand : List ℕ → List ℕ → Type 0
 Stand ws ns = (n : ℕ) → has_number ws n ≡ is_among n ns
 
--- each of these is changed by the word at its place, if there is one
+-- each element of the list, changed by the word at its index if there is one
 abbrev pub with_words : {X : Type 0} (change : X → ℕ → X) → List X → (words : List ℕ) → List X
 with_words f [] ws = []
 with_words f (x ∷ xs) [] = x ∷ xs

@@ -2,6 +2,7 @@ use Rattle.std.proofs.Common.{◌≡◌, ◌⊎◌, List, map, Ok, Err, inl, inr
 use Rattle.std.proofs.lemmas.Result.{err_from_is_err_and}
 use Rattle.cyc_words.specs.Fault.{memory_fault}
 use Rattle.cyc_words.proofs.Decisions.{decides}
+use Rattle.cyc_types.specs.declared.flowed.Flowed.{Flowed}
 use Rattle.cyc_types.specs.declared.typed.Function.{Function}
 use Rattle.cyc_types.specs.declared.typed.TypedTree.{TypedTree}
 use Rattle.cyc_types.specs.TypedTreeView.{view_function, view_program}
@@ -9,13 +10,12 @@ use Rattle.cyc_types.specs.Rules.{run}
 use Rattle.cyc_types.specs.flow.Programs.{rule_functions, rule_program, IsAllowedProgram, IsStoppedProgram}
 use Rattle.cyc_types.proofs.RuleLaws.{answers_tree, answers_fault, is_decided}
 use Rattle.cyc_soundness.proofs.FormedLemmas.{typed_sound}
-use Rattle.cyc_flow.specs.declared.check.Flowed.{Flowed}
 use Rattle.cyc_flow.specs.declared.stop.Stop.{Stop}
 use Rattle.cyc_flow.specs.declared.stop.Stop.TheVariants as stops
 use Rattle.cyc_flow.specs.inside.Code.{fault_of, Stops}
 use Rattle.cyc_flow.proofs.check.flow.Goals as goal
 
--- what is said of the functions is said of the program
+-- the flow check's result for the functions is its result for the program
 allows : (t : TypedTree) (fs : List Function) → fs ≡ t.functions.items → run (rule_functions (map view_function fs)) ≡ Ok tt → IsAllowedProgram (view_program t)
 allows t fs same h = answers_tree (rule_program (view_program t)) tt (ap (λ (gs : List Function). run (rule_functions (map view_function gs))) (sym same) ∙ h)
 
