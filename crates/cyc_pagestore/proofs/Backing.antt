@@ -1,4 +1,5 @@
--- What a pool and its spots say of a table is kept where a page is taken, and where all pages are numbered anew: lemmas over functions of the page.
+-- A pool and its spots represent a table. The representation is kept when a page is taken and when all pages are renumbered; the lemmas
+-- concern functions of the page.
 use Rattle.std.proofs.Common.{◌≡◌, ℕ, ◌<◌, true, false, List, [], ◌∷◌, length, refl, sym, ap, subst, ◌∙◌, inl, inr}
 use Rattle.std.specs.Prelude.{◌==◌, if◌then◌else◌}
 use Rattle.std.specs.List.{AllByRecursion}
@@ -18,7 +19,7 @@ use Rattle.cyc_pagestore.specs.inside.Live.{reach_by}
 use Rattle.cyc_pagestore.specs.inside.Table.{IsRoot, Backing, reach_of, IsRegion, Backs}
 use Rattle.cyc_pagestore.proofs.Rows.{removed-out, removed-in, removed-apart, fronted-apart, relinked-other, relinked-row, relinked-chain}
 
--- a function with another value at one place
+-- A function with the value at one argument replaced.
 abbrev pub with_at : {A : Type 0} → (ℕ → A) → (at : ℕ) → A → ℕ → A
 with_at f at v = λ (other : ℕ). if other == at then v else f other
 
@@ -39,9 +40,9 @@ rest-no_root r is (inr (inr dynamic)) = clash (sym is ∙ dynamic) where
   clash : Rest ≡ Dynamic → ⊥
   clash e = cc
 
--- ---- a region that nothing touches
+-- ---- an unchanged region
 
--- one row links on as another does
+-- One row has the same links as another.
 pub record LinksAs (new old : Row) : Type 0 where
   pub next : new.next ≡ old.next
   pub newest : new.newest ≡ old.newest
@@ -165,7 +166,7 @@ module _ (b : Backing) (next : ℕ) (rows : List Row) (first : ℕ) (order : Lis
       next-first : (row_at linked_rows page).next ≡ head_or_none (removed order page)
       next-first = head-is (removed order page) (row_at linked_rows page).next fronted.1
 
--- ---- all pages may be numbered anew
+-- ---- all pages may be renumbered
 module _ (b : Backing) (next : ℕ) (row : ℕ → Row) (first : ℕ) (order : List ℕ) (is : Backs b next row first order) (serial fill : ℕ → ℕ) (s : ℕ)
     (reach : (p : ℕ) → p < b.pages → reach_by serial b.owner fill p ≡ reach_of b p) (newer : (p : ℕ) → p < b.pages → serial p < s)
     (one : (p q : ℕ) → p < b.pages → q < b.pages → serial p ≡ serial q → b.owner p ≡ b.owner q)

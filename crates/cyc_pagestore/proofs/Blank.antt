@@ -1,4 +1,4 @@
--- A new pool keeps a table with all pages free.
+-- A new pool represents a table whose pages are all free.
 use Rattle.std.proofs.Common.{◌≡◌, ℕ, zero, suc, ◌+◌, ◌*◌, ◌<◌, ◌≤◌, true, false, List, [], length, replicate, refl, sym, ap, subst, ◌∙◌, inl, inr, arith}
 use Rattle.std.specs.List.{AllByRecursion}
 use Rattle.std.proofs.lemmas.Bool.{cases_eq}
@@ -19,7 +19,7 @@ use Rattle.cyc_pagestore.proofs.Rows.{relinked-length, relinked-row, relinked-ch
 use Rattle.cyc_pagestore.proofs.Reaching.{reach-empty}
 use Rattle.cyc_pagestore.proofs.Backing.{rest-no_root}
 
--- ---- numbers one after another
+-- ---- consecutive numbers
 
 pub numbers-out : (first count p : ℕ) → IsOneOf (numbers_from first count) p → (first ≤ p) × (p < first + count)
 numbers-out first zero p inside = absurd inside
@@ -33,7 +33,7 @@ numbers-in first (suc count) p low high = elim (cases_eq p first) [
   | inr other ↦ inr (numbers-in (suc first) count p (omega (arith, low, other)) (omega (arith, high)))
 ]
 
--- ---- all of it
+-- ---- the whole pool
 
 module _ (n : ℕ) (few : n ≤ 65536) where
   abbrev p : PoolState

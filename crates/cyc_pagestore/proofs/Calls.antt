@@ -1,4 +1,4 @@
--- What the calls of a table of pages over a pool owe.
+-- The proof obligations of the calls of a page table over a pool.
 use Rattle.std.proofs.Common.{◌≡◌, ℕ, ◌+◌, ◌*◌, ◌^◌, ◌<◌, ◌≤◌, Bool, true, false, List, [], ◌∷◌, ◌++◌, length, set, replicate, refl, sym, ap, subst, ◌∙◌, inl, inr, arith}
 use Rattle.std.specs.Prelude.{◌⊎◌, slice_index, slice_index_or}
 use Rattle.std.proofs.lemmas.Bool.{true≢false}
@@ -75,7 +75,7 @@ module _ (p : PoolState) (pages : ℕ) (spots : List Spot) (next : ℕ) (l : Lin
     alone1 : chain_at p1.chains page ≡ page ∷ []
     alone1 = taken-alone p pages spots next l is page there free
 
-    -- ---- it is cut into slots
+    -- ---- the page is split into slots
     module _ (class : ℕ) (q : PoolState) (made : q ≡ record p1 { fills = set p1.fills page 0 }) (m : Links) (noted : m ≡ after l1 (Cut page class)) where
       pub cut-keeps : IsBacked q pages (set spots page (record { role = Slots class; newest = NONE })) next m
       cut-keeps = subst (λ (u : PoolState × Links). IsBacked u.0 pages (set spots page (record { role = Slots class; newest = NONE })) next u.1) (λ j. (sym made j, sym noted j))
@@ -84,7 +84,7 @@ module _ (p : PoolState) (pages : ℕ) (spots : List Spot) (next : ℕ) (l : Lin
       pub cut-gives : Cuts x (view_of q m) page class
       cut-gives = subst (λ (t : TableState). Cuts t (view_of q m) page class) view (record { middle = view_of p1 l1; takes = taking; is = λ j. view_of (made j) (noted j) })
 
-    -- ---- it is added to a region
+    -- ---- the page is added to a region
     module _ (root words : ℕ) (below : root < p.pages) (role : IsRoot (spot_at spots root).role) where
       pub add-apart : root ≡ page → ⊥
       add-apart e = root-apart p1 pages spots next l1 is1 page there rest1 taken1 alone1 root below role words e
@@ -108,7 +108,7 @@ module _ (p : PoolState) (pages : ℕ) (spots : List Spot) (next : ℕ) (l : Lin
         pub add-gives : Adds x (view_of q m) root page words
         add-gives = subst (λ (t : TableState). Adds t (view_of q m) root page words) view (record { middle = view_of p1 l1; takes = taking; is = λ j. view_of (made j) (noted j) })
 
-    -- ---- a region begins in it
+    -- ---- a region begins in the page
     module _ (role : Role) (is_root : IsRoot role) (r : PoolState) (s : ℕ) (ready : Readies p1 r s) where
       is2 : IsBacked r pages spots s l1
       is2 = ready-backed p1 pages spots next l1 is1 r s ready
@@ -129,7 +129,7 @@ module _ (p : PoolState) (pages : ℕ) (spots : List Spot) (next : ℕ) (l : Lin
           is = (λ j. view_of (made j) (noted j)) ∙ (λ j. view_of (ready.same j) (after l1 (Began page role)));
         })
 
-  -- ---- the newest page of a region is filled so far
+  -- ---- the fill mark of a region's newest page is set
   module _ (root : ℕ) (there : root < x.most) (role : IsRoot (row_of x root).role) (s : Spot) (read : s ≡ slice_index_or spots root s) where
     spot-is : spot_at spots root ≡ s
     spot-is = spot-read spots root s (in-spots root there) read
@@ -150,7 +150,7 @@ module _ (p : PoolState) (pages : ℕ) (spots : List Spot) (next : ℕ) (l : Lin
       fill-gives = subst (λ n. Fills x (view_of q m) n filled) (sym newest-row)
           (subst (λ (t : TableState). Fills t (view_of q m) s.newest filled) view (λ j. view_of (made j) (noted j)))
 
-  -- ---- a page that is free
+  -- ---- a free page
   free-idle : (page : ℕ) → page < p.pages → IsFree p.free page → ((row_at l.rows page).role ≡ Rest) × ((row_at l.rows page).filled ≡ 0)
   free-idle page there free = (
     is.backs.role page there ∙ is.backs.unused page (page-inside p pages spots next l is page there free),
@@ -226,7 +226,7 @@ module _ (p : PoolState) (pages : ℕ) (spots : List Spot) (next : ℕ) (l : Lin
       pub close-gives : Closes x (view_of q m) root
       close-gives = subst (λ (t : TableState). Closes t (view_of q m) root) view ((λ j. view_of (made j) (noted j)) ∙ (λ j. view_of (ready.same j) (after l (Closed root))))
 
--- ---- serials are left out
+-- ---- serials are skipped
 pub later_backed : (p : PoolState) (pages : ℕ) (spots : List Spot) (next : ℕ) (l : Links) → IsBacked p pages spots next l → (later : ℕ) → next < later → later < 2 ^ 64 → IsBacked p pages spots later l
 later_backed p pages spots next l is later more few = record {
   counted = is.counted;

@@ -1,4 +1,4 @@
--- The pages in use are counted, call by call.
+-- The pages in use are counted correctly by each call.
 use Rattle.std.proofs.Common.{◌≡◌, ℕ, suc, ◌+◌, ◌-◌, ◌<◌, ◌≤◌, List, [], ◌∷◌, ◌++◌, length, length-append, length-set, set, replicate, None, Some, refl, sym, ap, subst, ◌∙◌, inl, inr, arith}
 use Rattle.std.specs.Prelude.{slice_index}
 use Rattle.std.proofs.lemmas.Bool.{cases_eq}
@@ -26,7 +26,7 @@ use Rattle.cyc_pagestore.specs.inside.Usage.{Counts, IsUsage}
 use Rattle.cyc_pagestore.proofs.Taking.{stored-few}
 use Rattle.cyc_pagestore.proofs.Storing.{root-inside}
 
--- no handle stands before the last region that it is the handle of
+-- No earlier region has the same handle as the last one.
 fresh-last : (rs : List Home) (r : Home) → AreDistinct handle_of (rs ++ r ∷ []) → lookup handle_of rs r.handle ≡ None
 fresh-last [] r distinct = refl
 fresh-last (q ∷ rs) r distinct =
@@ -36,7 +36,7 @@ fresh-last (q ∷ rs) r distinct =
       | inr other ↦ lookup-there handle_of q rs r.handle other ∙ rest
     ]
 
--- the counts of a new store
+-- The counts of a new store are right.
 pub usage-new : (n m : ℕ) → m ≡ n → 1 ≤ n → (c : Blocks) → c ≡ no_blocks → IsUsage (record { regions = set (replicate n 0) 0 1; pages = 1 }) m c
 usage-new n m is some c noted = subst (λ (b : Blocks). IsUsage (record { regions = set (replicate n 0) 0 1; pages = 1 }) m b) (sym noted) (record {
   all = length-set (replicate n 0) 0 1 ∙ (length-replicate n 0 ∙ sym is);
@@ -49,7 +49,7 @@ usage-new n m is some c noted = subst (λ (b : Blocks). IsUsage (record { region
   ];
 })
 
--- What is stored, and the counts of it.
+-- The tables of a store, with its counts.
 module _ (x : TableState) (lexicals : List ℕ) (classes : List ClassSlots) (b : Blocks) (s : IsStored x lexicals classes b) (counts : Counts) (u : IsUsage counts x.most b) where
   abbrev held : StoreState
   held = store_of s.table.most s.table.words.items b
@@ -57,7 +57,7 @@ module _ (x : TableState) (lexicals : List ℕ) (classes : List ClassSlots) (b :
   pub taken-there : (m : TableState) (page : ℕ) → Takes x m page → page < length counts.regions
   taken-there m page takes = subst (λ n. page < n) (s.whole ∙ sym u.all) (one-all (λ q. q < length x.rows) takes.order page takes.within takes.inside)
 
-  -- the regions and the pages of the classes are the same
+  -- The counts stay right if the regions and the pages of the classes are unchanged.
   pub usage-same : (most : ℕ) → most ≡ x.most → (c : Blocks) → c.regions ≡ b.regions → c.classes ≡ b.classes → IsUsage counts most c
   usage-same most is c regions cells = record {
     all = u.all ∙ sym is;
@@ -103,7 +103,7 @@ module _ (x : TableState) (lexicals : List ℕ) (classes : List ClassSlots) (b :
           ];
     }
 
-  -- ---- a page is cut into slots
+  -- ---- a page is split into slots
   module _ (y : TableState) (left : List ℕ) (cells : List ClassSlots) (c : Blocks) (t : IsStored y left cells c) (class : ℕ) (bound : class ≤ greatest_class) (same : y.most ≡ x.most)
       (noted : c ≡ after b (Stocked class)) where
     more : demand (plain_store c) ≡ suc (demand (plain_store b))
@@ -136,7 +136,7 @@ module _ (x : TableState) (lexicals : List ℕ) (classes : List ClassSlots) (b :
     chain : HasChain s.kept.layout.pages r
     chain = s.kept.laid.paged.chains h r named
 
-    -- the pages of the region are among those in use
+    -- The pages of the region are among those in use.
     closed-demand : counts.pages ≡ demand (plain_store (record b { regions = without handle_of b.regions h })) + slice_index counts.regions root
     closed-demand =
         let paged = s.kept.laid.paged in
@@ -166,13 +166,13 @@ module _ (x : TableState) (lexicals : List ℕ) (classes : List ClassSlots) (b :
         rest : (p e n : ℕ) → p ≡ e + n → p - n ≡ e
         rest p e n is = omega (arith, is)
 
-    -- ---- a block is made in it
+    -- ---- a block is allocated in a region
     mark-is : (row_of x first).filled ≡ (mark_of r).filled
     mark-is = ap (λ rs. (row_at rs (row_at rs root).newest).filled) (sym s.reads.rows)
         ∙ (ap (λ p. (row_at s.table.rows.items p).filled) (newest-is s.table lexicals classes b s.kept root r named) ∙ filled-is s.table lexicals classes b s.kept root r named)
 
     module _ (made : Block) (c : Blocks) (noted : c ≡ blocks_of (made_in (plain_store b) h made)) where
-      -- what is found after it
+      -- The region of the handle after the allocation is the one with the new block.
       found-here : (q : Home) → lookup handle_of c.regions h ≡ Some q → q ≡ with_block made r
       found-here q found = same_from_some (sym found ∙ (ap (λ (d : Blocks). lookup handle_of d.regions h) noted ∙ lookup-changed_same handle_of (with_block made) (λ z. refl) b.regions h r named))
 
@@ -184,8 +184,8 @@ module _ (x : TableState) (lexicals : List ℕ) (classes : List ClassSlots) (b :
       own-pages : (q : Home) (m : Mark) → q ≡ with_block made r → next_mark (mark_of r) made.size ≡ m → region_pages (sizes_of q.blocks) ≡ m.pages
       own-pages q m is next = ap (λ (z : Home). region_pages (sizes_of z.blocks)) is ∙ (pages-mark (with_block made r) ∙ ap (λ (k : Mark). k.pages) (mark-made r made ∙ next))
 
-      pub usage-behind : (most : ℕ) → most ≡ x.most → (row_of x first).filled + made.size ≤ 1024 → IsUsage counts most c
-      usage-behind most is fits =
+      pub usage-following : (most : ℕ) → most ≡ x.most → (row_of x first).filled + made.size ≤ 1024 → IsUsage counts most c
+      usage-following most is fits =
           let room : (mark_of r).filled + made.size ≤ 1024 = subst (λ k. k + made.size ≤ 1024) mark-is fits in
           record {
             all = u.all ∙ sym is;

@@ -1,5 +1,5 @@
--- A store on a table of pages over a pool stays one where a page is cut into slots, and where a unique block is made in a slot
--- or freed.
+-- A page may be split into slots, and a unique block may be allocated in a slot or freed. Splitting a page, allocating a unique block in a
+-- slot and freeing one each keep the invariant of a store on a page table over a pool.
 use Rattle.std.proofs.Common.{◌≡◌, ℕ, ◌+◌, ◌*◌, ◌/◌, ◌^◌, ◌<◌, ◌≤◌, Bool, true, false, List, ◌∷◌, length, length-set, set, Some, sym, ap, subst, ◌∙◌}
 use Rattle.std.specs.Prelude.{slice_index_or}
 use Rattle.cyc_words.specs.Demand.{greatest_class, class_of}
@@ -31,7 +31,7 @@ module _ (x : TableState) (lexicals : List ℕ) (classes : List ClassSlots) (b :
   abbrev held : StoreState
   held = store_of x.most x.words b
 
-  -- as many words and marks as the pages have
+  -- The numbers of words and marks are those of the pages.
   pub words-all : length x.words ≡ 1024 * x.most
   words-all = words-count x lexicals classes b s ∙ ap (λ n. 1024 * n) s.whole
 
@@ -61,7 +61,7 @@ module _ (x : TableState) (lexicals : List ℕ) (classes : List ClassSlots) (b :
     pub has-none : slots.dead ≡ NONE → slots.left ≡ 0 → HasSlot held class → ⊥
     has-none none left has = slot-none t lexicals classes b s.kept class bound none left (from-held has)
 
-    -- ---- a page is cut into slots
+    -- ---- a page is split into slots
     module _ (none : HasSlot held class → ⊥) where
       pub cut-spent : IsFull x → IsSpent held
       cut-spent full = subst IsSpent (stored-held x lexicals classes b s)
@@ -104,7 +104,7 @@ module _ (x : TableState) (lexicals : List ℕ) (classes : List ClassSlots) (b :
             (stock-stocks before lexicals classes b (v-kept x lexicals classes b s page m cuts.takes) class bound none
             (u x lexicals classes b s page m cuts.takes) page (draws x lexicals classes b s page m cuts.takes) (room x lexicals classes b s page m cuts.takes) c noted)
 
-    -- ---- a block is made in a slot
+    -- ---- a block is allocated in a slot
 
     pub next-dead : (slots.dead ≡ NONE → ⊥) → slots.dead < 1024 * x.most
     next-dead some = subst (λ n. slots.dead < n) (ap length s.reads.words ∙ words-all) (dead-there t lexicals classes b s.kept class bound some)
@@ -145,7 +145,7 @@ module _ (x : TableState) (lexicals : List ℕ) (classes : List ClassSlots) (b :
               (λ j. store_of ((s.reads.most ∙ sym (ap (λ (z : TableState). z.most) marks.same)) j) ((s.reads.words ∙ sym (ap (λ (z : TableState). z.words) marks.same)) j) c)
               (fill-fills t lexicals classes b s.kept class bound (from-held has) next also address size at many c noted))
 
-  -- ---- a unique block is asked for
+  -- ---- a unique block is requested
 
   module _ (n : ℕ) (least : 1 ≤ n) (most : n ≤ MOST_BLOCK_WORDS) (class : ℕ) (is : class ≡ class_of n) where
     pub asked-bound : class ≤ greatest_class

@@ -1,5 +1,4 @@
--- What is found in a store on a table of pages over a pool: the region that a handle names, the block that begins at an
--- address, and the word there.
+-- Lookups in a store on a page table over a pool: the region of a handle, the block that begins at an address, and the word at an address.
 use Rattle.std.proofs.Common.{◌≡◌, ◌≢◌, ℕ, ◌+◌, ◌*◌, ◌/◌, ◌%◌, ◌^◌, ◌-◌, ◌<◌, ◌≤◌, Bool, true, false, List, length, length-set, set, None, Some, sym, ap, subst, ◌∙◌, inl, inr, lit<, arith}
 use Rattle.std.specs.Prelude.{◌⊎◌, Option, is_some, slice_index, slice_index_or}
 use Rattle.std.proofs.Math.Nat.{mod-lt}
@@ -29,11 +28,11 @@ use Rattle.cyc_pagestore.proofs.Taking.{same-size}
 use Rattle.cyc_pagestore.proofs.Storing.{rows-all, row-read, stored-held, live-marked}
 use Rattle.cyc_pagestore.proofs.Cutting.{words-all}
 
--- the region of a handle that names one
+-- A valid handle has a region.
 pub region-of : (v w : Stored) (h : ℕ) → v ≡ w → is_some (lookup handle_of w.blocks.regions h) ≡ true → (r : Home) × (lookup handle_of v.blocks.regions h ≡ Some r)
 region-of v w h same some = some_there (lookup handle_of v.blocks.regions h) (subst (λ (u : Stored). is_some (lookup handle_of u.blocks.regions h) ≡ true) (sym same) some)
 
--- what a page is used for that has slots
+-- A page with slots is not a further page of a region.
 rest-apart : (sort : Option Sort) (class : ℕ) → role_of sort (Some UNIQUE) class ≡ role.Rest → ⊥
 rest-apart None class e = cc
 rest-apart (Some Heap) class e = cc
@@ -51,11 +50,11 @@ module _ (x : TableState) (lexicals : List ℕ) (classes : List ClassSlots) (b :
   past-rows : (page : ℕ) → x.most ≤ page → length t.rows.items ≤ page
   past-rows page past = subst (λ n. n ≤ page) (sym (rows-all x lexicals classes b s)) past
 
-  -- a layout in pages
+  -- The blocks of the store are within pages, in ascending order.
   pub stored-ordered : IsOrdered (store_of x.most x.words b)
   stored-ordered = subst IsOrdered (stored-held x lexicals classes b s) (record { few = s.kept.tied.most; layout = s.kept.layout; laid = s.kept.laid })
 
-  -- ---- the region that a handle names
+  -- ---- the region of a handle
 
   pub even-unnamed : (h : ℕ) → h % 2 ≡ 0 → lookup handle_of b.regions h ≡ None
   even-unnamed = even-none t lexicals classes b s.kept
@@ -124,7 +123,7 @@ module _ (x : TableState) (lexicals : List ℕ) (classes : List ClassSlots) (b :
   words-past address which = subst (λ (d : StoreState). word_at d address ≡ None) (stored-held x lexicals classes b s)
       (load-none t lexicals classes b s.kept address (1024 * x.most) (sym (ap length s.reads.words ∙ words-all x lexicals classes b s)) which)
 
-  -- a page that is used for nothing has no word of a live block
+  -- A page that is not in use contains no word of a live block.
   idle-dead : (word : ℕ) → word < length x.words → (row_of x (word / 1024)).role ≡ role.Rest → (row_of x (word / 1024)).filled ≡ 0
       → false ≡ is_some (holder (homes (store_of x.most x.words b)) (STORE_BASE + 4 * word))
   idle-dead word inside rest none = live-marked x lexicals classes b s word inside false (omega (arith, none)) (sym unmarked)
@@ -141,7 +140,7 @@ module _ (x : TableState) (lexicals : List ℕ) (classes : List ClassSlots) (b :
           (subst (λ n. slice_index_or t.live.items n false ≡ false) {x = 1024 * (word / 1024) + word % 1024} {y = word} (omega arith)
           (s.kept.tied.unmarked (word / 1024) (word % 1024) no-block (mod-lt word (lit< tt))))
 
-  -- no address from that of a word on, behind which no page is in use, is one of a live block's word
+  -- If no page from a word on is in use, no later address belongs to a live block.
   pub words-unmade : (made address : ℕ) → IsIdlePast x made → (address < STORE_BASE) ⊎ (address % 4 ≢ 0) ⊎ (STORE_BASE + 4 * made ≤ address)
       → word_at (store_of x.most x.words b) address ≡ None
   words-unmade made address idle which = elim which [
@@ -151,13 +150,13 @@ module _ (x : TableState) (lexicals : List ℕ) (classes : List ClassSlots) (b :
       | inr between ↦ words-past address (inr (inl between))
       | inl whole ↦ elim (cases_lt address (STORE_BASE + 4 * (1024 * x.most))) [
         | inr beyond ↦ words-past address (inr (inr beyond))
-        | inl below ↦ behind ((address - STORE_BASE) / 4) (omega (arith, whole, past)) (omega (arith, whole, past, below)) (omega (arith, whole, past))
+        | inl below ↦ following ((address - STORE_BASE) / 4) (omega (arith, whole, past)) (omega (arith, whole, past, below)) (omega (arith, whole, past))
       ]
     ]
   ]
     where
-      behind : (word : ℕ) → address ≡ 536870912 + 4 * word → word < 1024 * x.most → made ≤ word → word_at (store_of x.most x.words b) address ≡ None
-      behind word at there past = elim (idle (word / 1024) (omega (arith, there))) [
+      following : (word : ℕ) → address ≡ 536870912 + 4 * word → word < 1024 * x.most → made ≤ word → word_at (store_of x.most x.words b) address ≡ None
+      following word at there past = elim (idle (word / 1024) (omega (arith, there))) [
         | inl (rest, none) ↦ load-dead (store_of x.most x.words b) address word at (idle-dead word (subst (λ n. word < n) (sym (words-all x lexicals classes b s)) there) rest none)
         | inr low ↦ absurd (omega (arith, low, past))
       ]

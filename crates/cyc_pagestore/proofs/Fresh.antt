@@ -1,4 +1,4 @@
--- A page that was taken, and is no region's yet, is cut into slots, or a region begins in it.
+-- A taken page that belongs to no region yet is split into slots, or a region begins in it.
 use Rattle.std.proofs.Common.{◌≡◌, ℕ, ◌+◌, ◌<◌, false, List, [], ◌∷◌, refl, sym, ap, subst, ◌∙◌, inl, inr, arith}
 use Rattle.std.proofs.lemmas.Bool.{cases_eq}
 use Rattle.cyc_words.proofs.Booleans.{never_true_and_false}
@@ -13,15 +13,15 @@ use Rattle.cyc_pagestore.specs.inside.Table.{IsRoot, Backing, reach_of, IsRegion
 use Rattle.cyc_pagestore.proofs.Reaching.{reach-stale, reach-empty, reach-same}
 use Rattle.cyc_pagestore.proofs.Backing.{with_at, at-same, at-other, rest-no_root, as-row, region-stays}
 
--- ---- what is written at one page that no region has
+-- ---- writes to a page that no region contains
 
--- a page that was taken, and is no region's: its words are not live, and no page that it owns has live ones
+-- A taken page that belongs to no region: its words are not live, and no page that it owns has live words.
 module _ (b : Backing) (next : ℕ) (row : ℕ → Row) (first : ℕ) (order : List ℕ) (is : Backs b next row first order) (page : ℕ) (there : page < b.pages)
     (rest : b.role page ≡ Rest) (taken : b.free page ≡ false) (alone : b.chain page ≡ page ∷ []) where
   pub away-order : IsOneOf order page → ⊥
   away-order which = never_true_and_false (is.free page which).1 taken
 
-  -- it owns no page with live words
+  -- A page that was just taken owns no page with live words.
   pub owns-none : (p : ℕ) → p < b.pages → b.owner p ≡ page → reach_of b p ≡ 0
   owns-none p below owner = elim (is.held p below) [
     | inl none ↦ none
@@ -36,13 +36,13 @@ module _ (b : Backing) (next : ℕ) (row : ℕ → Row) (first : ℕ) (order : L
       (all-from (λ p. (with_at row page new p).next ≡ (row p).next) order
       (λ p which. ap (λ (r : Row). r.next) (at-other row page new p (λ e. away-order (subst (IsOneOf order) e which))))) is.linked
 
-  -- no region has it, since it is the head of its own chain
+  -- No region contains the page, since it is the head of its own chain.
   pub member-away : (r : ℕ) (old : IsRegion b row r) → (r ≡ page → ⊥) → (p : ℕ) → IsOneOf old.chain p → p ≡ page → ⊥
   member-away r old away p which e =
       let empty : b.chain page ≡ [] = ap b.chain (sym e) ∙ (old.members p which).inner (λ same. away (sym same ∙ e)) in
       let clash : page ∷ [] ≡ [] = sym alone ∙ empty in cc
 
-  -- ---- it is cut into slots
+  -- ---- the page is split into slots
   module _ (new : Row) (role : Role) (filled : new.filled ≡ 0) (plays : new.role ≡ role) (last : new.newest ≡ NONE) (other_role : IsRoot role → ⊥) where
     abbrev cut : Backing
     cut = record b { fill = with_at b.fill page 0; role = with_at b.role page role; newest = with_at b.newest page NONE }
@@ -96,7 +96,7 @@ module _ (b : Backing) (next : ℕ) (row : ℕ → Row) (first : ℕ) (order : L
           record { owner = refl; serial = refl; free = refl; role = at-other b.role page role p apart; chain = refl; rows = as-row (at-other row page new p apart) });
     }
 
-  -- ---- a region begins in it
+  -- ---- a region begins in the page
   module _ (new : Row) (role : Role) (filled : new.filled ≡ 0) (plays : new.role ≡ role) (last : new.newest ≡ page) (link : new.next ≡ NONE) (count : new.count ≡ 1) (is_root : IsRoot role)
       (s : ℕ) (above : (p : ℕ) → p < b.pages → b.serial p < s) where
     abbrev begun : Backing

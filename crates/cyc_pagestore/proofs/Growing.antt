@@ -1,4 +1,4 @@
--- The newest page of a region is filled, and a page is added to the region.
+-- The newest page of a region is filled further, and a page is added to the region.
 use Rattle.std.proofs.Common.{◌≡◌, ◌≢◌, ℕ, suc, ◌+◌, ◌<◌, false, List, [], ◌∷◌, ◌++◌, length, refl, sym, ap, subst, ◌∙◌, inl, inr, arith}
 use Rattle.std.specs.Prelude.{◌⊎◌}
 use Rattle.std.proofs.lemmas.Bool.{cases_eq}
@@ -54,7 +54,7 @@ module _ (b : Backing) (next : ℕ) (row : ℕ → Row) (first : ℕ) (order : L
   pub newest-member : IsMember b root newest
   newest-member = subst (IsMember b root) newest-is (region.members (row root).newest newest-one)
 
-  -- ---- it is filled so far
+  -- ---- the fill mark of the newest page is set
   module _ (v : ℕ) where
     abbrev filled : Backing
     filled = record b { fill = with_at b.fill newest v }
@@ -68,7 +68,7 @@ module _ (b : Backing) (next : ℕ) (row : ℕ → Row) (first : ℕ) (order : L
     filled-new : reach_of filled newest ≡ v
     filled-new = reach-by_serial b.serial b.owner filled.fill newest (newest-member.serial ∙ ap b.serial (sym newest-member.owner)) ∙ at-same b.fill newest v newest refl
 
-    -- the row of that page says the same but for its fill mark
+    -- The row of that page is unchanged except for its fill mark.
     part : {A : Type 0} (of : Row → A) → of new_row ≡ of (row newest) → (p : ℕ) → of (with_at row newest new_row p) ≡ of (row p)
     part of e p = elim (cases_eq p newest) [
       | inl same ↦ ap of (at-same row newest new_row p same) ∙ e ∙ ap (λ q. of (row q)) (sym same)
@@ -114,7 +114,7 @@ module _ (b : Backing) (next : ℕ) (row : ℕ → Row) (first : ℕ) (order : L
           });
     }
 
-  -- ---- a page is added to it
+  -- ---- a page is added to the region
   module _ (page : ℕ) (in_pool : page < b.pages) (rest : b.role page ≡ Rest) (taken : b.free page ≡ false) (alone : b.chain page ≡ page ∷ []) (words : ℕ) where
     abbrev added : Backing
     added = record b {

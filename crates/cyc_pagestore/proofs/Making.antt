@@ -1,4 +1,5 @@
--- A store on a table of pages over a pool stays one where a block is made in a region, and answers as the relation says.
+-- The allocation of a block in a region keeps the invariant of a store on a page table over a pool. The result satisfies the store
+-- relation.
 use Rattle.std.proofs.Common.{◌≡◌, ℕ, ◌+◌, ◌*◌, ◌<◌, ◌≤◌, List, ◌∷◌, length, length-set, set, Some, sym, ap, subst, ◌∙◌}
 use Rattle.std.specs.Prelude.{slice_index_or}
 use Rattle.std.proofs.lemmas.List.{get_or_default}
@@ -12,7 +13,7 @@ use Rattle.cyc_store.specs.declared.row.PageTable.{PageTable}
 use Rattle.cyc_store.specs.declared.row.Row.{Row}
 use Rattle.cyc_store.specs.declared.row.ClassSlots.{ClassSlots}
 use Rattle.cyc_store.specs.declared.row.TheConstants.{NONE}
-use Rattle.cyc_store.proofs.KeptMaking.{first-there, first-small, last-few, behind-serves, behind-kept, after-full, after-serves, after-kept}
+use Rattle.cyc_store.proofs.KeptMaking.{first-there, first-small, last-few, following-serves, following-kept, after-full, after-serves, after-kept}
 use Rattle.cyc_store.proofs.TieMaking.{next_row, longer_row}
 use Rattle.cyc_pagestore.specs.inside.Links.{relinked, removed, added_rows}
 use Rattle.cyc_pagestore.specs.inside.Table.{TableState, row_of, IsFull, Adds, Fills}
@@ -51,24 +52,24 @@ module _ (x : TableState) (lexicals : List ℕ) (classes : List ClassSlots) (b :
   last-filled = last-few t lexicals classes b s.kept root r named first read last last-read
 
   module _ (n : ℕ) (least : 1 ≤ n) (most : n ≤ MOST_BLOCK_WORDS) where
-    -- ---- behind what is filled
+    -- ---- a block that fits the newest page
     module _ (fits : last.filled + n ≤ 1024) (y : TableState) (fills : Fills x y first.newest (last.filled + n)) (address : ℕ)
         (place : address ≡ 536870912 + 4 * (1024 * first.newest + last.filled)) (c : Blocks)
         (noted : c ≡ blocks_of (made_in (plain_store b) h (record { address = address; size = n }))) where
       rows-many : length y.rows ≡ length x.rows
       rows-many = ap (λ (z : TableState). length z.rows) fills ∙ length-set x.rows first.newest _
 
-      pub behind-most : y.most ≡ x.most
-      behind-most = ap (λ (z : TableState). z.most) fills
+      pub following-most : y.most ≡ x.most
+      following-most = ap (λ (z : TableState). z.most) fills
 
-      pub behind-stored : IsStored y lexicals classes c
-      behind-stored =
+      pub following-stored : IsStored y lexicals classes c
+      following-stored =
           let w = same-size x lexicals classes b s y (ap (λ (z : TableState). length z.words) fills) (ap (λ (z : TableState). length z.live) fills) rows-many in
           record {
             table = w.0;
             reads = w.1;
-            whole = rows-many ∙ s.whole ∙ sym behind-most;
-            kept = behind-kept t lexicals classes b s.kept root r named first read last last-read n least most fits address place c noted w.0 (record {
+            whole = rows-many ∙ s.whole ∙ sym following-most;
+            kept = following-kept t lexicals classes b s.kept root r named first read last last-read n least most fits address place c noted w.0 (record {
               most = ap (λ (z : TableState). z.most) fills ∙ sym s.reads.most;
               words = ap (λ (z : TableState). z.words) fills ∙ sym s.reads.words;
               live = ap (λ (z : TableState). z.live) fills ∙ sym s.reads.live;
@@ -77,10 +78,10 @@ module _ (x : TableState) (lexicals : List ℕ) (classes : List ClassSlots) (b :
             });
           }
 
-      pub behind-served : Serves (store_of x.most x.words b) (Allocate h n) (Allocated address) (store_of y.most y.words c)
-      behind-served = subst (λ (d : StoreState). Serves d (Allocate h n) (Allocated address) (store_of y.most y.words c)) (stored-held x lexicals classes b s)
+      pub following-served : Serves (store_of x.most x.words b) (Allocate h n) (Allocated address) (store_of y.most y.words c)
+      following-served = subst (λ (d : StoreState). Serves d (Allocate h n) (Allocated address) (store_of y.most y.words c)) (stored-held x lexicals classes b s)
           (subst (Serves (store_of t.most t.words.items b) (Allocate h n) (Allocated address)) (λ j. store_of (same-most j) (same-words j) c)
-          (behind-serves t lexicals classes b s.kept root r named first read last last-read n least most fits address place c noted))
+          (following-serves t lexicals classes b s.kept root r named first read last last-read n least most fits address place c noted))
         where
           same-most : t.most ≡ y.most
           same-most = s.reads.most ∙ sym (ap (λ (z : TableState). z.most) fills)
@@ -88,7 +89,7 @@ module _ (x : TableState) (lexicals : List ℕ) (classes : List ClassSlots) (b :
           same-words : t.words.items ≡ y.words
           same-words = s.reads.words ∙ sym (ap (λ (z : TableState). z.words) fills)
 
-    -- ---- in a page that is taken
+    -- ---- a block in a newly taken page
     module _ (past : 1024 < last.filled + n) where
       pub after-spent : IsFull x → Serves (store_of x.most x.words b) (Allocate h n) (Refused Full) (store_of x.most x.words b)
       after-spent full = subst (λ (d : StoreState). Serves d (Allocate h n) (Refused Full) d) (stored-held x lexicals classes b s)
@@ -105,7 +106,7 @@ module _ (x : TableState) (lexicals : List ℕ) (classes : List ClassSlots) (b :
         abbrev front : List ℕ
         front = page ∷ removed adds.takes.order page
 
-        -- what is read of the region after its free pages were linked anew
+        -- The row of the region after its free pages are relinked.
         abbrev its : Row
         its = row_at (relinked x.rows front) root
 
@@ -119,18 +120,18 @@ module _ (x : TableState) (lexicals : List ℕ) (classes : List ClassSlots) (b :
         its-newest : its.newest ≡ first.newest
         its-newest = ap (λ (q : Row). q.newest) (relinked-is root).1
 
-        abbrev behind : Row
-        behind = row_at (relinked x.rows front) its.newest
+        abbrev following : Row
+        following = row_at (relinked x.rows front) its.newest
 
-        behind-read : behind ≡ slice_index_or before.rows.items its.newest behind
-        behind-read = get_or_default (relinked x.rows front) its.newest (free_row NONE) behind
+        following-read : following ≡ slice_index_or before.rows.items its.newest following
+        following-read = get_or_default (relinked x.rows front) its.newest (free_row NONE) following
             (subst (λ k. its.newest < k) (sym (relinked-length x.rows front ∙ s.whole)) (subst (λ p. p < x.most) (sym its-newest) newest-inside))
 
-        behind-filled : behind.filled ≡ last.filled
-        behind-filled = ap (λ (q : Row). q.filled) (relinked-is its.newest).1 ∙ ap (λ p. (row_of x p).filled) its-newest
+        following-filled : following.filled ≡ last.filled
+        following-filled = ap (λ (q : Row). q.filled) (relinked-is its.newest).1 ∙ ap (λ p. (row_of x p).filled) its-newest
 
-        behind-past : 1024 < behind.filled + n
-        behind-past = subst (λ k. 1024 < k + n) (sym behind-filled) past
+        following-past : 1024 < following.filled + n
+        following-past = subst (λ k. 1024 < k + n) (sym following-filled) past
 
         middle-rows : m.rows ≡ relinked x.rows front
         middle-rows = ap (λ (z : TableState). z.rows) adds.takes.is
@@ -153,7 +154,7 @@ module _ (x : TableState) (lexicals : List ℕ) (classes : List ClassSlots) (b :
               table = w.0;
               reads = w.1;
               whole = rows-added ∙ s.whole ∙ sym after-most;
-              kept = after-kept before lexicals classes b (v-kept x lexicals classes b s page m adds.takes) root r named its its-read behind behind-read n least most behind-past
+              kept = after-kept before lexicals classes b (v-kept x lexicals classes b s page m adds.takes) root r named its its-read following following-read n least most following-past
                   (u x lexicals classes b s page m adds.takes) page (draws x lexicals classes b s page m adds.takes) (room x lexicals classes b s page m adds.takes) address place c noted w.0
                   (ap (λ (z : TableState). z.most) adds.is) (ap (λ (z : TableState). z.words) adds.is) (ap (λ (z : TableState). z.live) adds.is) (ap (λ (z : TableState). z.free) adds.is)
                   (rows-are ∙ ap (λ rs. set (set m.rows page (next_row n (row_at rs root).newest)) root (longer_row (row_at rs root) page)) middle-rows);
@@ -161,5 +162,5 @@ module _ (x : TableState) (lexicals : List ℕ) (classes : List ClassSlots) (b :
 
         pub after-served : Serves (store_of x.most x.words b) (Allocate h n) (Allocated address) (store_of y.most y.words c)
         after-served = subst (Serves (store_of x.most x.words b) (Allocate h n) (Allocated address)) (λ j. store_of (sym adds.is j).most (sym adds.is j).words c)
-            (after-serves before lexicals classes b (v-kept x lexicals classes b s page m adds.takes) root r named its its-read behind behind-read n least most behind-past
+            (after-serves before lexicals classes b (v-kept x lexicals classes b s page m adds.takes) root r named its its-read following following-read n least most following-past
             (u x lexicals classes b s page m adds.takes) page (draws x lexicals classes b s page m adds.takes) (room x lexicals classes b s page m adds.takes) address place c noted)

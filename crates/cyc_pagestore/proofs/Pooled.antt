@@ -1,4 +1,4 @@
--- A pool and its spots keep a table through each of the table's calls, as lists.
+-- A pool and its spots represent a table through each of the table's calls, as lists.
 use Rattle.std.proofs.Common.{◌≡◌, ℕ, ◌+◌, ◌*◌, ◌-◌, ◌^◌, ◌<◌, Bool, true, false, List, [], ◌∷◌, ◌++◌, length, set, length-set, refl, sym, ap, subst, ◌∙◌, inl, inr, arith, get_or-set_same, get_or-set_other}
 use Rattle.std.specs.Prelude.{◌⊎◌, slice_index, slice_index_or}
 use Rattle.std.proofs.lemmas.Bool.{cases_eq}
@@ -23,7 +23,7 @@ use Rattle.cyc_pagestore.proofs.Fresh.{root-away, cut-backs, begun-backs}
 use Rattle.cyc_pagestore.proofs.Growing.{added-backs, filled-backs, newest-member}
 use Rattle.cyc_pagestore.proofs.Closing.{gives, closed-backs}
 
--- rows where one is another
+-- Replacing a row in the list replaces it in the function from page numbers to rows.
 rows-set : (rows : List Row) (page : ℕ) (r : Row) → page < length rows → ◌≡◌ {A = ℕ → Row} (λ p. row_at (set rows page r) p) (with_at (λ (p : ℕ). row_at rows p) page r)
 rows-set rows page r there = read-set rows page r (free_row NONE) there
 
@@ -34,7 +34,7 @@ spots-set of spots page x there = fun_ext (λ q. elim (cases_eq q page) [
   | inr other ↦ ap of (get_or-set_other spots page q x no_spot other) ∙ sym (at-other (λ n. of (spot_at spots n)) page (of x) q other)
 ])
 
--- what pages have filled, after the fill mark of one was written
+-- The filled words of pages after one fill mark is written.
 fill-set : (fills : List ℕ) (page mark filled : ℕ) → page < length fills → mark - 1024 * page ≡ filled
     → ◌≡◌ {A = ℕ → ℕ} (λ q. filled_by (set fills page mark) q) (with_at (λ (q : ℕ). filled_by fills q) page filled)
 fill-set fills page mark filled there is = fun_ext (λ q. elim (cases_eq q page) [
@@ -42,7 +42,7 @@ fill-set fills page mark filled there is = fun_ext (λ q. elim (cases_eq q page)
   | inr other ↦ ap (λ n. n - 1024 * q) (get_or-set_other fills page q mark 0 other) ∙ sym (at-other (λ (n : ℕ). filled_by fills n) page filled q other)
 ])
 
--- to write what is there changes nothing
+-- Writing the present value changes nothing.
 with_itself_at : {A : Type 0} (f : ℕ → A) (at : ℕ) → f ≡ with_at f at (f at)
 with_itself_at f at = fun_ext (λ q. elim (cases_eq q at) [
   | inl same ↦ ap f same ∙ sym (at-same f at (f at) q same)
@@ -75,7 +75,7 @@ freed-out free (x ∷ xs) p there which = elim (cases_eq p x) [
   ])
 ]
 
--- ---- the calls
+-- ---- calls of the table
 
 module _ (p : PoolState) (pages : ℕ) (spots : List Spot) (next : ℕ) (l : Links) (is : IsBacked p pages spots next l) where
   abbrev b : Backing
@@ -93,7 +93,7 @@ module _ (p : PoolState) (pages : ℕ) (spots : List Spot) (next : ℕ) (l : Lin
   pub serials_one : AreOne p
   serials_one = is.backs.one
 
-  -- where no page is free, none is linked
+  -- If no page is free, none is linked.
   pub none-first : ((page : ℕ) → IsFree p.free page → ⊥) → l.free ≡ NONE
   none-first never = at l.order is.backs.linked is.backs.free
     where
@@ -139,7 +139,7 @@ module _ (p : PoolState) (pages : ℕ) (spots : List Spot) (next : ℕ) (l : Lin
     pub taken-rest : (spot_at spots page).role ≡ Rest
     taken-rest = is.backs.unused page page-inside
 
-  -- ---- a serial is drawn
+  -- ---- a new serial
   module _ (q : PoolState) (s : ℕ) (ready : Readies p q s) where
     abbrev p-ready : PoolState
     p-ready = record p { fills = q.fills; serials = q.serials }
@@ -172,9 +172,9 @@ module _ (p : PoolState) (pages : ℕ) (spots : List Spot) (next : ℕ) (l : Lin
           ready.kept;
     })
 
-  -- ---- a page that was taken
+  -- ---- a taken page
   module _ (page : ℕ) (there : page < p.pages) (rest : (spot_at spots page).role ≡ Rest) (taken : slice_index_or p.free page false ≡ false) (alone : chain_at p.chains page ≡ page ∷ []) where
-    -- a region begins in it
+    -- A region begins in the page.
     module _ (role : Role) (is_root : IsRoot role) (few : next < 2 ^ 64 - 1) where
       abbrev p-begun : PoolState
       p-begun = record p { owners = set p.owners page page; fills = set p.fills page 0; serials = set p.serials page next }
@@ -221,7 +221,7 @@ module _ (p : PoolState) (pages : ℕ) (spots : List Spot) (next : ℕ) (l : Lin
           begun = subst (λ (u : Backing × (ℕ → Row)). Backs u.0 (next + 1) u.1 l.free l.order) (λ j. (sym begun-backing j, sym (rows-set l.rows page (first_of role page) (in_rows page there)) j))
               (begun-backs b next (λ (q : ℕ). row_at l.rows q) l.free l.order is.backs page there rest taken alone (first_of role page) role refl refl refl refl refl is_root next is.backs.newer)
 
-    -- it is cut into slots
+    -- The page is split into slots.
     module _ (class : ℕ) where
       abbrev p-cut : PoolState
       p-cut = record p { fills = set p.fills page 0 }
@@ -256,7 +256,7 @@ module _ (p : PoolState) (pages : ℕ) (spots : List Spot) (next : ℕ) (l : Lin
           no-root (inr (inl e)) = cc
           no-root (inr (inr e)) = cc
 
-    -- it is added to a region
+    -- The page is added to a region.
     module _ (root : ℕ) (below : root < p.pages) (is_root : IsRoot (spot_at spots root).role) (words : ℕ) where
       abbrev p-added : PoolState
       p-added = record p {
@@ -331,7 +331,7 @@ module _ (p : PoolState) (pages : ℕ) (spots : List Spot) (next : ℕ) (l : Lin
     pub root-head : IsHead p.chains root
     root-head = let region = is.backs.root root there is_root in (region.rest, region.head)
 
-    -- it is filled so far
+    -- The fill mark of its newest page is set.
     module _ (v : ℕ) where
       abbrev p-filled : PoolState
       p-filled = record p { fills = set p.fills newest (1024 * newest + v) }
@@ -355,7 +355,7 @@ module _ (p : PoolState) (pages : ℕ) (spots : List Spot) (next : ℕ) (l : Lin
             (filled-backs b next (λ (q : ℕ). row_at l.rows q) l.free l.order is.backs root there is_root v);
       }
 
-    -- it is closed
+    -- The region is closed.
     module _ (few : next < 2 ^ 64 - 1) where
       abbrev p-closed : PoolState
       p-closed = record p {

@@ -1,4 +1,4 @@
--- How far a page's words are live by serials, after a field of one page was written.
+-- The live words of a page, by serials, after a field of one page is written.
 use Rattle.std.proofs.Common.{◌≡◌, ℕ, ap, ◌∙◌, inl, inr}
 use Rattle.std.specs.Prelude.{◌==◌, if◌then◌else◌}
 use Rattle.std.proofs.lemmas.Bool.{cases_eq, cond-true, cond-false, eq-eqb, ne_eqb}
@@ -16,7 +16,7 @@ reach-empty serial owner fill page none = elim (cases_eq (serial page) (serial (
   | inr ne ↦ reach-stale serial owner fill page ne
 ]
 
--- where the serials of a page and of its owner, the owner and the fill mark are the same
+-- The live words are unchanged if the fill mark, the owner, and the serials of the page and of its owner are.
 pub reach-same : (serial owner fill serial' owner' fill' : ℕ → ℕ) (page : ℕ) → owner' page ≡ owner page → serial' page ≡ serial page → serial' (owner page) ≡ serial (owner page) → fill' page ≡ fill page
     → reach_by serial' owner' fill' page ≡ reach_by serial owner fill page
 reach-same serial owner fill serial' owner' fill' page o s t f = λ j. if s j == (ap serial' o ∙ t) j then f j else 0

@@ -1,4 +1,4 @@
--- Lists of pages, and rows that are linked along one.
+-- Lists of pages, and rows that are linked along them.
 use Rattle.std.proofs.Common.{◌≡◌, ◌≢◌, ℕ, ◌<◌, List, [], ◌∷◌, length, length-set, refl, sym, ap, subst, ◌∙◌, inl, inr, get_or-set_same, get_or-set_other}
 use Rattle.std.specs.Prelude.{◌⊎◌}
 use Rattle.std.specs.List.{AllByRecursion}
@@ -14,7 +14,7 @@ use Rattle.cyc_store.proofs.TieLemmas.{chain-also}
 use Rattle.cyc_store.proofs.TieClosing.{one-all, all-from}
 use Rattle.cyc_pagestore.specs.inside.Links.{head_or_none, relinked, removed, moved}
 
--- ---- elements
+-- ---- elements of lists
 
 pub away-from : (xs : List ℕ) (p : ℕ) → (IsOneOf xs p → ⊥) → AllByRecursion (λ x. p ≢ x) xs
 away-from xs p never = all-from (λ x. p ≢ x) xs (λ x inside e. never (subst (IsOneOf xs) (sym e) inside))
@@ -32,7 +32,7 @@ one-or-not (x ∷ xs) p = elim (cases_eq p x) [
   ]
 ]
 
--- ---- without one page
+-- ---- a list without one page
 
 pub removed-out : (xs : List ℕ) (page p : ℕ) → IsOneOf (removed xs page) p → IsOneOf xs p × (p ≡ page → ⊥)
 removed-out [] page p inside = absurd inside
@@ -61,7 +61,7 @@ removed-apart (x ∷ xs) page apart = elim (cases_eq x page) [
       (all-from (λ y. x ≢ y) (removed xs page) (λ y inside. one-all (λ z. x ≢ z) xs y apart.0 (removed-out xs page y inside).0), removed-apart xs page apart.1)
 ]
 
--- the page before all others
+-- The list with one page moved to its front.
 pub fronted-apart : (xs : List ℕ) (page : ℕ) → IsDistinct xs → IsDistinct (page ∷ removed xs page)
 fronted-apart xs page apart = (all-from (λ y. page ≢ y) (removed xs page) (λ y inside e. (removed-out xs page y inside).1 (sym e)), removed-apart xs page apart)
 
@@ -89,7 +89,7 @@ moved-apart (x ∷ xs) ys first second clash = moved-apart xs (x ∷ ys) first.1
       | inr later ↦ clash p (inr before) later
     ])
 
--- ---- rows that are linked along a list
+-- ---- rows linked along a list
 
 module _ (rows : List Row) where
   pub relinked-length : (xs : List ℕ) → length (relinked rows xs) ≡ length rows
@@ -108,7 +108,7 @@ module _ (rows : List Row) where
   later-is : (x : ℕ) (xs : List ℕ) (p : ℕ) → (p ≡ x → ⊥) → row_at (relinked rows (x ∷ xs)) p ≡ row_at (relinked rows xs) p
   later-is x xs p other = get_or-set_other (relinked rows xs) x p (record (row_at rows x) { next = head_or_none xs }) (free_row NONE) other
 
-  -- a row's link alone is another
+  -- Only the link of a row is replaced.
   pub relinked-row : (xs : List ℕ) (p : ℕ) → AllByRecursion (λ x. x < length rows) xs → (next : ℕ) × (row_at (relinked rows xs) p ≡ record (row_at rows p) { next = next })
   relinked-row [] p within = ((row_at rows p).next, refl)
   relinked-row (x ∷ xs) p within = elim (cases_eq p x) [

@@ -1,5 +1,5 @@
--- A store on a table of pages over a pool stays one, and answers as the relation says, call by call: by a table in memory that
--- reads the same.
+-- Each call keeps the invariant of a store on a page table over a pool, and its result satisfies the store relation. The proofs use a table
+-- in memory whose reads equal those of the pool.
 use Rattle.std.proofs.Common.{◌≡◌, ℕ, zero, suc, ◌+◌, ◌*◌, ◌/◌, ◌%◌, ◌<◌, ◌≤◌, Bool, true, List, [], ◌∷◌, ◌++◌, length, length-set, set, Some, refl, sym, ap, subst, ◌∙◌, inl, inr, arith}
 use Rattle.std.specs.Prelude.{Option, is_some, slice_index_or}
 use Rattle.std.proofs.lemmas.List.{get_or_default}
@@ -30,14 +30,14 @@ given_rows-length : (rows : List Row) (page count free : ℕ) → length (given_
 given_rows-length rows page zero free = refl
 given_rows-length rows page (suc count) free = given_rows-length (set rows page (free_row free)) (row_at rows page).next count page ∙ length-set rows page (free_row free)
 
--- the role of a region's first page
+-- The role of a region's first page.
 sort-root : (sort : Sort) → IsRoot (role_of_sort sort)
 sort-root Heap = inl refl
 sort-root Lexical = inr (inl refl)
 sort-root Dynamic = inr (inr refl)
 sort-root Uniques = inl refl
 
--- no more lexical regions are open than there are pages
+-- The number of open lexical regions is at most the number of pages.
 lexicals-few : (x : TableState) (lexicals : List ℕ) (classes : List ClassSlots) (b : Blocks) → IsStored x lexicals classes b → length lexicals ≤ x.most
 lexicals-few x lexicals classes b s =
     let k = s.kept in
@@ -54,11 +54,11 @@ module _ (x : TableState) (lexicals : List ℕ) (classes : List ClassSlots) (b :
   pub stored-held : store_of t.most t.words.items b ≡ store_of x.most x.words b
   stored-held = λ j. store_of (s.reads.most j) (s.reads.words j) b
 
-  -- a row for each page
+  -- The table has a row for each page.
   pub rows-all : length t.rows.items ≡ x.most
   rows-all = ap length s.reads.rows ∙ s.whole
 
-  -- the row of a page that is there
+  -- Reading the row of an existing page does not use the default.
   pub row-read : (page : ℕ) → page < x.most → row_of x page ≡ slice_index_or t.rows.items page (row_of x page)
   row-read page there =
       get_or_default x.rows page (free_row NONE) (row_of x page) (subst (λ n. page < n) (sym s.whole) there)
@@ -143,7 +143,7 @@ module _ (x : TableState) (lexicals : List ℕ) (classes : List ClassSlots) (b :
         (lexical-serves (before y page role.Lexical opens) lexicals classes b (v-kept x lexicals classes b s page opens.middle opens.takes) (taken y page role.Lexical opens) page
         (draws x lexicals classes b s page opens.middle opens.takes) (room x lexicals classes b s page opens.middle opens.takes) c noted mark counted)
 
-    -- each lexical region has a page, so the one that is opened is at most the last that there is room for
+    -- Each lexical region has a page, so there is room for one more in the list.
     pub lexical-room : length lexicals < x.most
     lexical-room =
         let now = lexical-stored (lexicals ++ handle_of_page page ∷ []) refl in

@@ -1,5 +1,5 @@
--- A table in memory that reads as a table over a pool does: one is found for each that the pool comes to, and where a free
--- page is taken, one in which that page is the first of the free ones.
+-- For each state of a pool, some table in memory has equal reads. If a free page is taken, some such table has that page as its first free
+-- page.
 use Rattle.std.proofs.Common.{◌≡◌, ℕ, suc, ◌+◌, ◌-◌, ◌*◌, ◌^◌, ◌<◌, ◌≤◌, false, List, [], ◌∷◌, ◌++◌, length, refl, sym, ap, subst, ◌∙◌, inl, inr, arith}
 use Rattle.std.specs.Prelude.{Some, slice_index, slice_index_or}
 use Rattle.std.specs.Global.{Vec}
@@ -28,9 +28,9 @@ use Rattle.cyc_pagestore.specs.inside.Table.{TableState, Takes}
 use Rattle.cyc_pagestore.specs.inside.Stored.{Reads, IsStored}
 use Rattle.cyc_pagestore.proofs.Rows.{removed-out, fronted-apart, relinked-length, relinked-other, relinked-row, relinked-chain}
 
--- ---- a table in memory that reads so
+-- ---- a table in memory whose reads equal those of the pool
 
--- another `Vec`, with these items
+-- A `Vec` like the given one, but with these items.
 abbrev pub with_items : {X Y : Type 0} → Vec X → (items : List Y) → length items < 2 ^ 63 → Vec Y
 with_items v items small = record { ptr = v.ptr; len = length items; cap = length items; alloc = v.alloc; items = items; ok = (refl, le (length items)); small = small }
   where
@@ -45,7 +45,7 @@ made t y words live rows = (
 
 -- ---- chains
 
--- a chain is the only one from its first element on
+-- A chain is determined by its first element and the links.
 pub chain-one : (next : ℕ → ℕ) (first : ℕ) (xs ys : List ℕ) → AllByRecursion (λ x. x < NONE) xs → AllByRecursion (λ y. y < NONE) ys → IsChain next first xs → IsChain next first ys → xs ≡ ys
 chain-one next first [] [] few also a b = refl
 chain-one next first [] (y ∷ ys) few also a b = absurd (let lt = also.0 in let e = sym b.0 ∙ a in omega (arith, lt, e))
@@ -81,7 +81,7 @@ module _ (x : TableState) (lexicals : List ℕ) (classes : List ClassSlots) (b :
   pub live-count : length x.live ≡ 1024 * length x.rows
   live-count = ap length (sym s.reads.live) ∙ s.kept.whole.live ∙ ap (λ rs. PAGE_WORDS * length rs) s.reads.rows
 
-  -- a table with as many words, marks and rows is read from one in memory
+  -- A table with the same numbers of words, marks and rows has the same reads as some table in memory.
   abbrev pub same-size : (y : TableState) → length y.words ≡ length x.words → length y.live ≡ length x.live → length y.rows ≡ length x.rows → (v : PageTable) × Reads v y
   same-size y words live rows =
       made s.table y
@@ -89,7 +89,7 @@ module _ (x : TableState) (lexicals : List ℕ) (classes : List ClassSlots) (b :
       (let few = stored-few in let count = live-count in omega (arith, few, count, live))
       (let few = stored-few in omega (arith, few, rows))
 
--- ---- the free pages are linked anew
+-- ---- the free pages are relinked
 
 module _ (x : TableState) (lexicals : List ℕ) (classes : List ClassSlots) (b : Blocks) (s : IsStored x lexicals classes b) (page : ℕ) (m : TableState) (takes : Takes x m page) where
   abbrev pub t : PageTable
@@ -253,7 +253,7 @@ module _ (x : TableState) (lexicals : List ℕ) (classes : List ClassSlots) (b :
         tied;
   }
 
-  -- ---- and after it was taken
+  -- ---- the table after the page was taken
   abbrev pub taken_table : (u : PageTable) × Reads u m
   taken_table = same-size x lexicals classes b s m (ap (λ (y : TableState). length y.words) takes.is) (ap (λ (y : TableState). length y.live) takes.is) (ap (λ (y : TableState). length y.rows) takes.is ∙ relinked-length x.rows front)
 

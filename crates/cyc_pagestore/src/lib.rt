@@ -1,7 +1,7 @@
-//! A store on a pool of pages, which takes no memory after it was made.
+//! A store on a pool of pages, which allocates nothing after it is made.
 //!
-//! A table of pages over the pool (`table`) says of each page what a table in memory says; the store above it (`paged`)
-//! is made of the table's calls, and its proofs are those of a store on such a table.
+//! A page table over the pool (`table`) has the same meaning as a table in memory. The store above it (`paged`) uses only the table's
+//! calls, and its proofs are those of a store on such a table.
 #![tactic(auto)]
 
 mod links;

@@ -1,6 +1,7 @@
 //! A store on a pool of pages.
 
-ghost use Rattle.std.specs.Prelude.{◌≡◌, ◌≢◌, ◌+◌, ◌*◌, ◌%◌, ◌^◌, ◌<◌, ◌≤◌, ◌⊎◌, IfErr, IfOk, IsTrue, MatchOption, OnErr, OnOk, true, false, None, Some, Err, length, is_some};
+ghost use Rattle.std.specs.Prelude.{◌≡◌, ◌≢◌, ◌+◌, ◌*◌, ◌%◌, ◌^◌, ◌<◌, ◌≤◌, ◌⊎◌, IfErr, IfOk, IsTrue, MatchOption, OnErr, OnOk, true, false, None};
+ghost use Rattle.std.specs.Prelude.{Some, Err, length, is_some};
 ghost use Rattle.cyc_words.specs.Demand.{class_of};
 ghost use Rattle.cyc_store.specs.Answers.{Responds, allocated};
 ghost use Rattle.cyc_store.specs.Ledger.{Unwinds, held_of, memory_of};
@@ -20,8 +21,8 @@ use cyc_store::{
 use std::alloc::{AllocError, Global};
 use std::marker::Model;
 
-/// A store on a pool of pages. All of its memory is taken when it is made, and a region of any size is closed in the same
-/// time.
+/// A store on a pool of pages. All of the store's memory is allocated when the store is made, and a region of any size is closed in
+/// constant time.
 #[derive(Drop)]
 pub struct PageStore {
     table: PoolTable,
@@ -43,8 +44,8 @@ impl Model for PageStore {
     ghost invariant = { λ s. IsPagedStore s.table s.lexicals s.classes s.ledger.blocks s.usage };
 }
 
-/// The number of the word at an address, where it is one of so many of the store's first. One test is for all else that an address may
-/// be: what it is past a multiple of 4 stands above every number of a word, and so does one below the store's first.
+/// Returns the number of the word at an address, if it is among the store's first `count` words. One comparison tests all conditions on the
+/// address: a misaligned address, or one below the store, makes the computed number too large.
 #[inline(always)]
 fn number_below(count: usize, address: u32) -> Option<u32>
     requires { count ≤ 0x400_0000 }
@@ -60,7 +61,7 @@ fn number_below(count: usize, address: u32) -> Option<u32>
     }
 }
 
-/// The first slot of those that no block is in, and the others.
+/// Returns the first free slot of a class, and the remaining free slots.
 #[inline]
 fn next_slot(slots: ClassSlots, table: &PoolTable, class: u32) -> (u32, ClassSlots)
     requires class { class ≤ 10 }
@@ -85,7 +86,7 @@ fn next_slot(slots: ClassSlots, table: &PoolTable, class: u32) -> (u32, ClassSlo
     }
 }
 
-/// The class of a block of so many words, for which few tests do where they are many: then the most marks are to be written too.
+/// Returns the class of a block of `words` words, with few tests if the block is large: then the most marks have to be written too.
 #[inline]
 fn slot_class(words: u32) -> u32
     requires { words ≤ 1024 }
@@ -101,7 +102,7 @@ fn slot_class(words: u32) -> u32
 }
 
 impl PageStore {
-    /// A new store of so many pages, in which the heap is open.
+    /// Returns a new store of `pages` pages, in which only the heap is open.
     pub fn new(alloc: Global, pages: u32) -> Result<PageStore, AllocError>
         requires least { LEAST_PAGES ≤ pages }
         requires most { pages ≤ MOST_PAGES }
@@ -125,7 +126,7 @@ impl PageStore {
         })
     }
 
-    /// Its blocks lie page by page, so there is a place for each call that demand allows, as [`choices_exist`] says.
+    /// Law: the blocks lie in pages, so there is an address for each call within demand, by [`choices_exist`].
     ///
     /// [`choices_exist`]: cyc_store::runs::choices_exist
     pub fn lies_in_pages(&self)
@@ -134,22 +135,22 @@ impl PageStore {
         let _table = &self.table;
     }
 
-    /// How many pages are in use: as many as the blocks ask for.
+    /// Returns the number of pages in use: as many as the blocks require.
     pub fn pages_in_use(&self) -> u32
         ensures { result ≡ demand (held_of self.now) }
     {
         self.usage.pages()
     }
 
-    /// Leaves one serial before the last, as if so many regions had been opened and closed: a test cannot do that. What the store holds
-    /// stays, and so does what each call answers.
+    /// Advances the next serial to the last one but one, as if very many regions had been opened and closed, which a test cannot do. The
+    /// contents of the store and the results of its calls are unchanged.
     pub fn come_to_last_serial(&mut self)
         ensures { self.new ≡ self.old }
     {
         self.table.come_to_last_serial();
     }
 
-    /// Whether a word is one of a live block.
+    /// Returns true if a word belongs to a live block.
     #[inline(always)]
     fn is_live(&self, word: u32) -> bool
         requires { word < length self.now.words }
@@ -161,7 +162,7 @@ impl PageStore {
         self.table.is_marked(word)
     }
 
-    /// The number of the word with this address, where it is one of a live block. One that is not written is none.
+    /// Returns the number of the word with this address, if it belongs to a live block. A word that was never written does not.
     #[inline(always)]
     fn word_of(&self, address: u32) -> Option<u32>
         ensures { MatchOption result (word_at (held_of self.now) address ≡ None)
@@ -173,7 +174,7 @@ impl PageStore {
         if self.is_live(word) { Some(word) } else { None }
     }
 
-    /// The first page of the open region with this handle.
+    /// Returns the first page of the open region with this handle.
     fn root_of(&self, handle: u32) -> Option<u32>
         ensures { MatchOption result (lookup handle_of self.now.blocks.regions handle ≡ None)
             (λ root. (handle ≡ 2 * root + 1) × (is_some (lookup handle_of self.now.blocks.regions handle) ≡ true)) }
@@ -192,7 +193,7 @@ impl PageStore {
         }
     }
 
-    /// How many lexical regions are open.
+    /// Returns the number of open lexical regions.
     fn lexicals_open(&self) -> u32
         ensures { result ≡ lexical_count self.now.blocks.regions }
     {
@@ -212,7 +213,7 @@ impl PageStore {
         self.ledger = Ledger::with(&self.ledger, &Change::Closed(handle));
     }
 
-    /// Makes a block of so many words in the region with this first page.
+    /// Allocates a block of `words` words in the region with this first page.
     fn alloc_in(&mut self, root: u32, words: u32) -> Result<u32, No>
         requires named { is_some (lookup handle_of self.old.blocks.regions (2 * root + 1)) ≡ true }
         requires least { 1 ≤ words }
@@ -236,7 +237,7 @@ impl PageStore {
         Ok(address)
     }
 
-    /// Cuts a page that is free into slots of the class.
+    /// Splits a free page into slots of the class.
     fn stock(&mut self, class: u32) -> Result<(), No>
         requires class { class ≤ 10 }
         requires none { ¬ HasSlot (held_of self.old) class }
@@ -258,7 +259,7 @@ impl PageStore {
         Ok(())
     }
 
-    /// Makes a unique block in a slot of the class, and gives its address.
+    /// Allocates a unique block in a slot of the class, and returns its address.
     fn fill(&mut self, class: u32) -> u32
         requires class { class ≤ 10 }
         requires some { HasSlot (held_of self.old) class }
@@ -273,7 +274,7 @@ impl PageStore {
         address
     }
 
-    /// Makes a unique block of so many words.
+    /// Allocates a unique block of `words` words.
     fn alloc_unique(&mut self, words: u32) -> Result<u32, No>
         requires least { 1 ≤ words }
         requires most { words ≤ MOST_BLOCK_WORDS }
@@ -287,10 +288,11 @@ impl PageStore {
         Ok(self.fill(class))
     }
 
-    /// The first word and the class of the live unique block that begins at this address.
+    /// Returns the first word and the class of the live unique block that begins at this address.
     fn slot_of(&self, address: u32) -> Option<(u32, u32)>
         ensures { MatchOption result (lookup address_of self.now.blocks.unique address ≡ None)
-            (λ slot. (address ≡ STORE_BASE + 4 * slot.0) × (lookup address_of self.now.blocks.unique address ≡ Some (record { address = address; size = 2 ^ slot.1 }))) }
+            (λ slot. (address ≡ STORE_BASE + 4 * slot.0) × (lookup address_of self.now.blocks.unique address
+            ≡ Some (record { address = address; size = 2 ^ slot.1 }))) }
     {
         let count = self.table.most();
         let Some(word) = number_at(address) else {

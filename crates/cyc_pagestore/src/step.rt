@@ -1,22 +1,22 @@
-//! What a call does to the rows of a table of pages.
+//! The effect of a call on the rows of a page table.
 
 use cyc_store::Role;
 
-/// A change of the rows of a table of pages.
+/// A change of the rows of a page table.
 #[derive(Clone, Copy)]
 pub enum Step {
-    /// So many pages were made, all of them free.
+    /// All pages were created, each as a free page.
     Made(u32),
-    /// This free page was taken.
+    /// A free page, with this number, was allocated.
     Taken(u32),
-    /// A region with this role was begun in this page.
+    /// A region with this role begins in this page.
     Began(u32, Role),
-    /// To the region with this first page this page was added, with so many words filled.
+    /// A page was added to the region with this first page, with this many words filled.
     Added(u32, u32, u32),
-    /// This page was filled so far.
+    /// A page was filled up to this word.
     Filled(u32, u32),
-    /// This page was cut into slots of this class.
+    /// A page was split into slots of this class.
     Cut(u32, u32),
-    /// All pages of the region with this first page were given back.
+    /// All pages of the region with this first page were freed.
     Closed(u32),
 }

@@ -1,6 +1,7 @@
-//! A table of pages over a pool.
+//! A page table over a pool.
 
-ghost use Rattle.std.specs.Prelude.{◌≡◌, [], ◌∷◌, ◌+◌, ◌*◌, ◌/◌, ◌%◌, ◌^◌, ◌<◌, ◌≤◌, IfOk, MatchOption, false, length, nat_lt, set, slice_index, slice_index_or};
+ghost use Rattle.std.specs.Prelude.{◌≡◌, [], ◌∷◌, ◌+◌, ◌*◌, ◌/◌, ◌%◌, ◌^◌, ◌<◌, ◌≤◌, IfOk, MatchOption, false, length, nat_lt, set, slice_index};
+ghost use Rattle.std.specs.Prelude.{slice_index_or};
 ghost use Rattle.cyc_rawpages.specs.inside.Pool.{IsFree};
 ghost use Rattle.cyc_pagestore.specs.inside.Table.{AreAlone, blank_table, IsFull, IsIdlePast, IsRoot, Opens, Adds, Cuts, Fills, Closes, Marks, row_of};
 
@@ -12,21 +13,21 @@ use cyc_store::{NONE, PAGE_WORDS, Role};
 use std::alloc::{AllocError, Global};
 use std::marker::Model;
 
-/// What is kept of a page beside the pool.
+/// The data kept for a page beside the pool.
 #[derive(Clone, Copy)]
 pub(crate) struct Spot {
     role: Role,
-    /// Of a region's first page, the region's newest page.
+    /// For a region's first page, the region's newest page.
     newest: u32,
 }
 
-/// The pages of a store, each with its words, and with a mark for each word that is one of a live unique block.
+/// The pages of a store, each with its words and a mark for each word of a live unique block.
 #[derive(Drop)]
 pub(crate) struct PoolTable {
     pool: Pool,
     pages: u32,
     spots: Vec<Spot>,
-    /// Above the serial of each page.
+    /// A number above the serial of each page.
     next: u64,
     roster: Roster,
 }
@@ -41,7 +42,7 @@ impl Model for PoolTable {
     ghost invariant = { λ t. IsBacked t.pool t.pages t.spots.items t.next t.roster.links };
 }
 
-/// Takes the first page, which is free. The pool promises no order, so what it gives before that goes back.
+/// Takes page 0, which is free. The pool promises no order, so pages that it returns before are freed again.
 fn take_first(pool: &mut Pool)
     requires first { IsFree pool.old.free 0 }
     requires alone { AreAlone pool.old }
@@ -58,7 +59,7 @@ fn take_first(pool: &mut Pool)
 }
 
 impl PoolTable {
-    /// A table of so many pages, in the first of which the heap is open.
+    /// Returns a table of pages, in the first of which the heap is open.
     pub(crate) fn new(alloc: Global, pages: u32) -> Result<PoolTable, AllocError>
         requires least { 1 ≤ pages }
         requires most { pages ≤ 65536 }
@@ -90,7 +91,7 @@ impl PoolTable {
         })
     }
 
-    /// How many words, from the first on, are written: no page with another one is in use.
+    /// Returns the number of words, from the first on, that are written. No page that contains a word not yet written is in use.
     #[inline]
     pub(crate) fn made(&self) -> usize
         ensures within { result ≤ 1024 * self.now.most }
@@ -99,7 +100,7 @@ impl PoolTable {
         self.pool.made()
     }
 
-    /// A word, by its number among the words of all pages.
+    /// Returns a word, by its number counted across all pages.
     #[inline]
     pub(crate) fn word(&self, word: u32) -> u32
         requires { word < 1024 * self.now.most }
@@ -128,7 +129,7 @@ impl PoolTable {
         )
     }
 
-    /// Whether a word has the mark of a live unique block.
+    /// Returns true if a word is marked as part of a live unique block.
     #[inline]
     pub(crate) fn is_marked(&self, word: u32) -> bool
         requires { word < 1024 * self.now.most }
@@ -142,8 +143,8 @@ impl PoolTable {
         )
     }
 
-    /// Marks so many words from one on as those of a live unique block, or as those of none. The marks of 32 words are one word of the
-    /// pool, and where the words are all of those the marks are not read.
+    /// Sets or clears the marks of `count` words from `first` on. The marks of 32 words form one word of the pool, which is not read if all
+    /// 32 marks are written.
     pub(crate) fn mark(&mut self, first: u32, count: u32, mark: bool)
         requires { first + count ≤ 1024 * self.old.most }
         ensures { Marks self.old self.new first count mark }
@@ -159,7 +160,7 @@ impl PoolTable {
         }
     }
 
-    /// Marks words of one page: all of those whose marks are in the same words of the pool.
+    /// Sets or clears the marks of words of one page, a whole word of the pool at a time.
     fn mark_whole(&mut self, first: u32, count: u32, mark: bool)
         requires there { first + count ≤ 1024 * self.old.most }
         requires least { 1 ≤ count }
@@ -177,7 +178,7 @@ impl PoolTable {
         );
     }
 
-    /// Marks words as [`PoolTable::mark`], whatever words of the pool their marks are in.
+    /// Sets or clears marks as [`PoolTable::mark`] does, for any range.
     fn mark_parts(&mut self, first: u32, count: u32, mark: bool)
         requires { first + count ≤ 1024 * self.old.most }
         ensures { Marks self.old self.new first count mark }
@@ -198,7 +199,7 @@ impl PoolTable {
         }
     }
 
-    /// How many words of a page are live by its fill mark.
+    /// Returns the number of a page's words that are live by its fill mark.
     #[inline]
     pub(crate) fn filled(&self, page: u32) -> u32
         requires { page < self.now.most }
@@ -207,7 +208,7 @@ impl PoolTable {
         reach(&self.pool, page)
     }
 
-    /// Whether a word is live by the fill mark of its page.
+    /// Returns true if a word is live by the fill mark of its page.
     #[inline]
     pub(crate) fn is_filled(&self, word: u32) -> bool
         requires { word < 1024 * self.now.most }
@@ -216,7 +217,7 @@ impl PoolTable {
         is_within(&self.pool, word)
     }
 
-    /// What a page is used for.
+    /// Returns the role of a page.
     pub(crate) fn role(&self, page: u32) -> Role
         requires { page < self.now.most }
         ensures { result ≡ (row_of self.now page).role }
@@ -224,7 +225,7 @@ impl PoolTable {
         self.spots[page as usize].role
     }
 
-    /// The newest page of the region with this first page.
+    /// Returns the newest page of the region with this first page.
     pub(crate) fn newest(&self, root: u32) -> u32
         requires { root < self.now.most }
         ensures { result ≡ (row_of self.now root).newest }
@@ -232,7 +233,7 @@ impl PoolTable {
         self.spots[root as usize].newest
     }
 
-    /// How many pages there are.
+    /// Returns the number of pages.
     #[inline]
     pub(crate) fn most(&self) -> u32
         ensures { result ≡ self.now.most }
@@ -240,7 +241,7 @@ impl PoolTable {
         self.pages
     }
 
-    /// Takes a free page, and begins a region in it.
+    /// Takes a free page and begins a region in it.
     pub(crate) fn open(&mut self, role: Role) -> Option<u32>
         requires { IsRoot role }
         ensures { MatchOption result (IsFull self.old × (self.new ≡ self.old)) (λ page. Opens self.old self.new page role) }
@@ -262,7 +263,7 @@ impl PoolTable {
         Some(page.number)
     }
 
-    /// Takes a free page, and adds it to the region with this first page, with so many words filled.
+    /// Takes a free page and adds it to the region with this first page, with `words` words filled.
     pub(crate) fn add(&mut self, root: u32, words: u32) -> Option<u32>
         requires there { root < self.old.most }
         requires root { IsRoot (row_of self.old root).role }
@@ -288,7 +289,7 @@ impl PoolTable {
         Some(page.number)
     }
 
-    /// Takes a free page, and cuts it into slots of the class.
+    /// Takes a free page and splits it into slots of the class.
     pub(crate) fn cut(&mut self, class: u32) -> Option<u32>
         ensures { MatchOption result (IsFull self.old × (self.new ≡ self.old)) (λ page. Cuts self.old self.new page class) }
     {
@@ -305,7 +306,7 @@ impl PoolTable {
         Some(page.number)
     }
 
-    /// Fills the newest page of the region with this first page so far.
+    /// Sets the fill mark of the newest page of the region with this first page.
     pub(crate) fn fill(&mut self, root: u32, filled: u32)
         requires there { root < self.old.most }
         requires root { IsRoot (row_of self.old root).role }
@@ -318,7 +319,7 @@ impl PoolTable {
         self.roster = Roster::with(&self.roster, &Step::Filled(page, filled));
     }
 
-    /// Gives all pages of the region with this first page back, in the same time for any number of them.
+    /// Frees all pages of the region with this first page, in constant time.
     pub(crate) fn close(&mut self, root: u32)
         requires there { root < self.old.most }
         requires root { IsRoot (row_of self.old root).role }
@@ -337,7 +338,7 @@ impl PoolTable {
         self.roster = Roster::with(&self.roster, &Step::Closed(root));
     }
 
-    /// Leaves one serial before the last, as if so many regions had been opened and closed.
+    /// Advances the next serial to the last one but one, as if very many regions had been opened and closed.
     #[tactic(auto, using(crate::proofs::Calls::later_backed))]
     pub(crate) fn come_to_last_serial(&mut self)
         ensures { self.new ≡ self.old }

@@ -1,17 +1,17 @@
-//! How many pages of a store are in use.
+//! The number of pages of a store in use.
 
 ghost use Rattle.std.specs.Prelude.{◌≡◌, ◌+◌, ◌-◌, ◌<◌, ◌≤◌, IfOk, length, replicate, set, slice_index};
 
 use std::alloc::{AllocError, Global};
 use std::marker::Model;
 
-/// How many pages of a store are in use, and how many of them each region has: closing a region looks at one of its pages alone, and
-/// gives all of them back.
+/// The number of pages in use, and for each region its number of pages. Closing a region accesses only one of its pages, although it frees
+/// all of them.
 #[derive(Drop)]
 pub(crate) struct Usage {
-    /// At the number of a region's first page, how many pages the region has.
+    /// For each page, the number of pages of the region that begins there.
     regions: Vec<u32>,
-    /// How many pages are in use: those of the regions, and those that are cut into slots.
+    /// The number of pages in use: those of regions, and those split into slots.
     pages: u32,
 }
 
@@ -24,7 +24,7 @@ impl Model for Usage {
 }
 
 impl Usage {
-    /// The counts of a new store of so many pages, in the first of which the heap is open.
+    /// Returns the counts of a new store, in which the heap is open in the first page.
     pub(crate) fn new(alloc: Global, pages: u32) -> Result<Usage, AllocError>
         requires { 1 ≤ pages }
         ensures { IfOk result (λ u. u ≡ record { regions = set (replicate pages 0) 0 1; pages = 1 }) }
@@ -34,14 +34,14 @@ impl Usage {
         Ok(Usage { regions, pages: 1 })
     }
 
-    /// How many pages are in use.
+    /// Returns the number of pages in use.
     pub(crate) fn pages(&self) -> u32
         ensures { result ≡ self.now.pages }
     {
         self.pages
     }
 
-    /// A region was opened, in the page with this number.
+    /// Notes that a region was opened in this page.
     pub(crate) fn note_opened(&mut self, page: u32)
         requires there { page < length self.old.regions }
         requires few { self.old.pages < 65536 }
@@ -51,7 +51,7 @@ impl Usage {
         self.pages += 1;
     }
 
-    /// A page was added to the region with this first page.
+    /// Notes that a page was added to the region with this first page.
     pub(crate) fn note_added(&mut self, root: u32)
         requires there { root < length self.old.regions }
         requires few { self.old.pages < 65536 }
@@ -62,7 +62,7 @@ impl Usage {
         self.pages += 1;
     }
 
-    /// A page was cut into slots.
+    /// Notes that a page was split into slots.
     pub(crate) fn note_cut(&mut self)
         requires { self.old.pages < 65536 }
         ensures { self.new ≡ record self.old { pages = self.old.pages + 1 } }
@@ -70,7 +70,7 @@ impl Usage {
         self.pages += 1;
     }
 
-    /// The region with this first page was closed.
+    /// Notes that the region with this first page was closed.
     pub(crate) fn note_closed(&mut self, root: u32)
         requires there { root < length self.old.regions }
         requires some { slice_index self.old.regions root ≤ self.old.pages }

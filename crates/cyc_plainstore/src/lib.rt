@@ -1,5 +1,5 @@
-//! A store on an array of words, which grows by pages. The laws of stores, the table of pages that it is made of, and the
-//! lemmas about such tables stand in `cyc_store`.
+//! A store on an array of words, which grows by pages. `cyc_store` contains the laws of stores, the page table that this store uses, and
+//! the lemmas about such tables.
 #![tactic(auto)]
 
 mod plain;

@@ -1,6 +1,7 @@
 //! A store on an array of words, which grows by pages.
 
-ghost use Rattle.std.specs.Prelude.{◌≡◌, ◌≢◌, ◌+◌, ◌*◌, ◌%◌, ◌^◌, ◌<◌, ◌≤◌, ◌⊎◌, IfErr, IfOk, IsTrue, MatchOption, OnErr, OnOk, true, false, None, Some, length, is_some};
+ghost use Rattle.std.specs.Prelude.{◌≡◌, ◌≢◌, ◌+◌, ◌*◌, ◌%◌, ◌^◌, ◌<◌, ◌≤◌, ◌⊎◌, IfErr, IfOk, IsTrue, MatchOption, OnErr, OnOk, true, false, None};
+ghost use Rattle.std.specs.Prelude.{Some, length, is_some};
 ghost use Rattle.cyc_words.specs.Demand.{class_of};
 ghost use Rattle.cyc_store.specs.Answers.{Responds, allocated, opened_dynamic, opened_lexical};
 ghost use Rattle.cyc_store.specs.Ledger.{HasNoRoom, IsUsedUp, Unwinds, held_of, memory_of};
@@ -18,7 +19,7 @@ use cyc_store::{
 use std::alloc::{AllocError, Global};
 use std::marker::Model;
 
-/// A store on an array of words, which grows by pages. Nothing is allocated before it is used.
+/// A store on an array of words, which grows by pages. The store allocates memory for a page only when the page is used.
 #[derive(Drop)]
 pub struct PlainStore {
     table: PageTable,
@@ -41,7 +42,7 @@ impl Model for PlainStore {
     ghost invariant = { λ s. IsKept s.table s.lexicals.items s.classes s.ledger.blocks };
 }
 
-/// The number of the word at an address, where it is one of so many of the store's first.
+/// Returns the number of the word at an address, if it is among the store's first `count` words.
 #[inline]
 fn number_below(count: usize, address: u32) -> Option<usize>
     requires { count ≤ 0x400_0000 }
@@ -58,7 +59,7 @@ fn number_below(count: usize, address: u32) -> Option<usize>
     Some(word)
 }
 
-/// The first slot of those that no block is in, and the others.
+/// Returns the first free slot of a class, and the remaining free slots.
 #[inline]
 fn next_slot(slots: ClassSlots, words: &Vec<u32>, class: u32) -> (u32, ClassSlots)
     requires class { class ≤ 10 }
@@ -84,7 +85,7 @@ fn next_slot(slots: ClassSlots, words: &Vec<u32>, class: u32) -> (u32, ClassSlot
 }
 
 impl PlainStore {
-    /// A new store of so many pages, in which the heap is open.
+    /// Returns a new store of `pages` pages, in which only the heap is open.
     pub fn new(alloc: Global, pages: u32) -> Result<PlainStore, AllocError>
         requires least { LEAST_PAGES ≤ pages }
         requires most { pages ≤ MOST_PAGES }
@@ -112,7 +113,7 @@ impl PlainStore {
         })
     }
 
-    /// Its blocks lie page by page, so there is a place for each call that demand allows, as [`choices_exist`] says.
+    /// Law: the blocks lie in pages, so there is an address for each call within demand, by [`choices_exist`].
     ///
     /// [`choices_exist`]: cyc_store::runs::choices_exist
     pub fn lies_in_pages(&self)
@@ -121,7 +122,7 @@ impl PlainStore {
         let _most = self.table.most;
     }
 
-    /// Whether a word is one of a live block.
+    /// Returns true if a word belongs to a live block.
     #[inline]
     fn is_live(&self, word: usize) -> bool
         requires { word < length self.now.words }
@@ -135,7 +136,7 @@ impl PlainStore {
         self.table.live[word]
     }
 
-    /// The number of the word with this address, where it is one of a live block.
+    /// Returns the number of the word with this address, if it belongs to a live block.
     #[inline]
     fn word_of(&self, address: u32) -> Option<usize>
         ensures { MatchOption result (word_at (held_of self.now) address ≡ None)
@@ -147,7 +148,7 @@ impl PlainStore {
         if self.is_live(word) { Some(word) } else { None }
     }
 
-    /// The first page of the open region with this handle.
+    /// Returns the first page of the open region with this handle.
     fn root_of(&self, handle: u32) -> Option<u32>
         ensures { MatchOption result (lookup handle_of self.now.blocks.regions handle ≡ None)
             (λ root. (handle ≡ 2 * root + 1) × (is_some (lookup handle_of self.now.blocks.regions handle) ≡ true)) }
@@ -167,7 +168,7 @@ impl PlainStore {
         }
     }
 
-    /// How many lexical regions are open.
+    /// Returns the number of open lexical regions.
     fn lexicals_open(&self) -> u32
         ensures { result ≡ lexical_count self.now.blocks.regions }
     {
@@ -187,7 +188,7 @@ impl PlainStore {
         self.ledger = Ledger::with(&self.ledger, &Change::Closed(handle));
     }
 
-    /// Makes a block of so many words in the region with this first page.
+    /// Allocates a block of `words` words in the region with this first page.
     fn alloc_in(&mut self, root: u32, words: u32) -> Result<u32, No>
         requires named { is_some (lookup handle_of self.old.blocks.regions (2 * root + 1)) ≡ true }
         requires least { 1 ≤ words }
@@ -227,7 +228,7 @@ impl PlainStore {
         Ok(address)
     }
 
-    /// Cuts a page that is free into slots of the class.
+    /// Splits a free page into slots of the class.
     fn stock(&mut self, class: u32) -> Result<(), No>
         requires class { class ≤ 10 }
         requires none { ¬ HasSlot (held_of self.old) class }
@@ -257,7 +258,7 @@ impl PlainStore {
         Ok(())
     }
 
-    /// Makes a unique block in a slot of the class, and gives its address.
+    /// Allocates a unique block in a slot of the class, and returns its address.
     fn fill(&mut self, class: u32) -> u32
         requires class { class ≤ 10 }
         requires some { HasSlot (held_of self.old) class }
@@ -272,7 +273,7 @@ impl PlainStore {
         address
     }
 
-    /// Makes a unique block of so many words.
+    /// Allocates a unique block of `words` words.
     fn alloc_unique(&mut self, words: u32) -> Result<u32, No>
         requires least { 1 ≤ words }
         requires most { words ≤ MOST_BLOCK_WORDS }
@@ -287,10 +288,11 @@ impl PlainStore {
         Ok(self.fill(class))
     }
 
-    /// The first word and the class of the live unique block that begins at this address.
+    /// Returns the first word and the class of the live unique block that begins at this address.
     fn slot_of(&self, address: u32) -> Option<(u32, u32)>
         ensures { MatchOption result (lookup address_of self.now.blocks.unique address ≡ None)
-            (λ slot. (address ≡ STORE_BASE + 4 * slot.0) × (lookup address_of self.now.blocks.unique address ≡ Some (record { address = address; size = 2 ^ slot.1 }))) }
+            (λ slot. (address ≡ STORE_BASE + 4 * slot.0) × (lookup address_of self.now.blocks.unique address
+            ≡ Some (record { address = address; size = 2 ^ slot.1 }))) }
     {
         let count = self.table.rows.len();
         let Some(word) = number_at(address) else {

@@ -1,4 +1,4 @@
--- The free pages as a set, by the list in which they are linked.
+-- The set of free pages agrees with the list in which they are linked.
 use Rattle.std.proofs.Common.{◌≡◌, ℕ, ◌<◌, List, [], ◌∷◌, ◌++◌, replicate, set, refl, sym, ap, ◌∙◌, inl, inr}
 use Rattle.std.specs.Prelude.{◌==◌, true, false}
 use Rattle.std.specs.List.{AllByRecursion}
@@ -17,11 +17,11 @@ none-among : (xs : List ℕ) (page : ℕ) → AllByRecursion (λ x. page ≡ x �
 none-among [] page apart = refl
 none-among (x ∷ xs) page apart = other-among x xs page apart.0 ∙ none-among xs page apart.1
 
-pub among-behind : (xs ys : List ℕ) (page : ℕ) → is_among ys page ≡ true → is_among (xs ++ ys) page ≡ true
-among-behind [] ys page among = among
-among-behind (x ∷ xs) ys page among = elim (cases_eq page x) [
+pub among-following : (xs ys : List ℕ) (page : ℕ) → is_among ys page ≡ true → is_among (xs ++ ys) page ≡ true
+among-following [] ys page among = among
+among-following (x ∷ xs) ys page among = elim (cases_eq page x) [
   | inl same ↦ cond-true (page == x) true (is_among (xs ++ ys) page) (eq-eqb page x same)
-  | inr other ↦ other-among x (xs ++ ys) page other ∙ among-behind xs ys page among
+  | inr other ↦ other-among x (xs ++ ys) page other ∙ among-following xs ys page among
 ]
 
 pub free-none : (pages : ℕ) → tabulate pages (is_among []) ≡ replicate pages false

@@ -1,4 +1,4 @@
--- A pool whose pages are linked from the last one down.
+-- A pool whose pages are linked, beginning with the last one.
 use Rattle.std.proofs.Common.{◌≡◌, ℕ, zero, suc, ◌+◌, ◌-◌, ◌*◌, ◌%◌, ◌^◌, ◌<◌, ◌≤◌, [], ◌∷◌, length, replicate, refl, sym, ap, subst, ◌∙◌, arith, length-set, inl, inr}
 use Rattle.std.specs.Prelude.{◌==◌, true, false, slice_index}
 use Rattle.std.specs.List.{AllByRecursion}
@@ -14,7 +14,7 @@ use Rattle.cyc_rawpages.proofs.Columns.{tab-all, linked}
 use Rattle.cyc_rawpages.proofs.Links.{put-there, put-elsewhere, all-map, linked-same}
 use Rattle.cyc_rawpages.proofs.PoolLemmas.{header-in, field-put}
 
--- the pages from `left` on are linked
+-- The pages from `left` on are linked as free pages.
 pub record IsLinking (pages : ℕ) (old new : Parts) (first left : ℕ) : Type 0 where
   pub fits : left ≤ pages
   pub whole : length new.heads ≡ 40 * pages
@@ -47,7 +47,7 @@ steps pages old new first (suc left) some is =
           ));
     })
 
--- ---- all of it
+-- ---- all pages linked
 distinct-numbers : (first count : ℕ) → IsDistinct (numbers_from first count)
 distinct-numbers first zero = tt
 distinct-numbers first (suc count) = (all-map (numbers_from (suc first) count) (λ q high e. omega (arith, e, high)) (above (suc first) count first (omega arith)), distinct-numbers (suc first) count)

@@ -1,4 +1,4 @@
--- The free pages and the chains of a pool, by the links in its headers.
+-- The free pages and the chains of a pool, given by the links in its headers.
 use Rattle.std.proofs.Common.{◌≡◌, ℕ, ◌<◌, List, [], ◌∷◌, ◌++◌, length, set, drop, refl, sym, ap, subst, ◌∙◌, arith, inl, inr, length-set, get_or-set_same, get_or-set_other}
 use Rattle.std.specs.Prelude.{◌==◌, if◌then◌else◌}
 use Rattle.std.specs.List.{AllByRecursion}
@@ -14,7 +14,7 @@ put-there f at v i same = cond-true (i == at) v (f i) (eq-eqb i at same)
 pub put-elsewhere : (f : ℕ → ℕ) (at v i : ℕ) → (i ≡ at → ⊥) → put f at v i ≡ f i
 put-elsewhere f at v i other = cond-false (i == at) v (f i) (ne_eqb i at other)
 
--- ---- what is so of each element
+-- ---- properties of all elements
 pub all-map : {P Q : ℕ → Type 0} (xs : List ℕ) → ((x : ℕ) → P x → Q x) → AllByRecursion P xs → AllByRecursion Q xs
 all-map [] f all = tt
 all-map (x ∷ xs) f all = (f x all.0, all-map xs f all.1)
@@ -27,7 +27,7 @@ all-append : (P : ℕ → Type 0) (xs ys : List ℕ) → AllByRecursion P xs →
 all-append P [] ys p q = q
 all-append P (x ∷ xs) ys p q = (p.0, all-append P xs ys p.1 q)
 
--- two lists whose elements are apart
+-- The concatenation of two lists with different elements has no duplicates.
 distinct-append : (P Q : ℕ → Type 0) (xs ys : List ℕ) → ((x y : ℕ) → P x → Q y → x ≡ y → ⊥) → IsDistinct xs → AllByRecursion P xs → IsDistinct ys → AllByRecursion Q ys → IsDistinct (xs ++ ys)
 distinct-append P Q [] ys apart dx p dy q = dy
 distinct-append P Q (x ∷ xs) ys apart dx p dy q = (all-append (λ y. x ≡ y → ⊥) xs ys dx.0 (all-map ys (λ y has. apart x y p.0 has) q), distinct-append P Q xs ys apart dx.1 p.1 dy q)
@@ -41,7 +41,7 @@ runs-same : (next new : ℕ → ℕ) (x : ℕ) (xs : List ℕ) (last : ℕ) → 
 runs-same next new x [] last all r = r
 runs-same next new x (y ∷ ys) last all r = (all.0 ∙ r.0, runs-same next new y ys last all.1 r.1)
 
--- the last is one of them
+-- The last page is an element of the chain.
 last-in : (P : ℕ → Type 0) (next : ℕ → ℕ) (x : ℕ) (xs : List ℕ) (last : ℕ) → AllByRecursion P (x ∷ xs) → Runs next x xs last → P last
 last-in P next x [] last all r = subst P r all.0
 last-in P next x (y ∷ ys) last all r = last-in P next y ys last all.1 r.1
@@ -56,7 +56,7 @@ linked-splice next x [] last first free end d r l = (refl, subst (λ k. IsLinked
 linked-splice next x (z ∷ zs) last first free end d r l =
     (refl, subst (λ k. IsLinked (put next last first) k (z ∷ zs ++ free) end) (sym (put-elsewhere next last first x (last-in (λ q. x ≡ q → ⊥) next z zs last d.0 r.1) ∙ r.0)) (linked-splice next z zs last first free end d.1 r.1 l))
 
--- ---- a chain that nothing touches
+-- ---- an unchanged chain
 chain-same : (pages : ℕ) (next tail home next' tail' home' : ℕ → ℕ) (head : ℕ) (xs : List ℕ) → tail' head ≡ tail head
     → ((q : ℕ) → IsIn pages home head q → (next' q ≡ next q) × (home' q ≡ home q)) → IsChain pages next tail home head xs → IsChain pages next' tail' home' head xs
 chain-same pages next tail home next' tail' home' head [] e same c = tt
@@ -67,9 +67,9 @@ chain-same pages next tail home next' tail' home' head (x ∷ xs) e same c = (
   all-map (x ∷ xs) (λ q here. (here.0, (same q here).1 ∙ here.1)) c.3,
 )
 
--- ---- the calls
+-- ---- the calls of a pool
 module _ (pages : ℕ) (next tail : ℕ → ℕ) (first : ℕ) (l : Lists) (up : IsLinkedUp pages next tail first l) where
-  -- a page's number is none but none
+  -- A page's number differs from `NONE`.
   small : (p : ℕ) → p < pages → p ≡ NONE → ⊥
   small p there e = omega (arith, there, e, up.few)
 
@@ -108,7 +108,7 @@ module _ (pages : ℕ) (next tail : ℕ → ℕ) (first : ℕ) (l : Lists) (up :
         ];
       }
 
-  -- where a chain's tail stands
+  -- The last page of a chain has the chain as its home.
   pub tail-in : (head : ℕ) (rest : List ℕ) → head < pages → chain_at l.chains head ≡ head ∷ rest → IsIn pages up.home head (tail head)
   tail-in head rest below e = let c = subst (IsChain pages next tail up.home head) e (up.run head below) in last-in (IsIn pages up.home head) next head rest (tail head) c.3 c.1
 

@@ -1,4 +1,4 @@
--- What the calls of a pool owe.
+-- The proof obligations of the calls of a pool.
 use Rattle.std.proofs.Common.{◌≡◌, ℕ, ◌+◌, ◌*◌, ◌/◌, ◌%◌, ◌^◌, ◌<◌, ◌≤◌, List, [], ◌∷◌, ◌++◌, drop, length, replicate, set, sym, ap, subst, ◌∙◌, arith, inl, inr, length-set, get_or-set_same}
 use Rattle.std.specs.Prelude.{◌==◌, false, slice_index, slice_index_or}
 use Rattle.std.specs.List.{AllByRecursion}
@@ -10,17 +10,17 @@ use Rattle.cyc_rawpages.specs.inside.Words.{Parts, headed}
 use Rattle.cyc_rawpages.specs.inside.Pool.{PoolState, tabulate, header_at, field_of, bits_at, bit_of, state_of, put, IsFree, IsHead, IsDistinct, IsChain, IsLinkedUp, IsPool}
 use Rattle.cyc_rawpages.specs.declared.header.TheConstants.{NEXT, TAIL, NONE}
 use Rattle.cyc_rawpages.proofs.Columns.{tab-read, field-kept}
-use Rattle.cyc_rawpages.proofs.FreePages.{other-among, among-behind, free-none as none-free, free-first, free-taken, free-given}
+use Rattle.cyc_rawpages.proofs.FreePages.{other-among, among-following, free-none as none-free, free-first, free-taken, free-given}
 use Rattle.cyc_rawpages.proofs.Links.{put-there, put-elsewhere, all-map, free-none, free-some, free-there, taken, tail-in, given, pushed}
 
--- where a header stands
+-- A header is within the heads of the pool.
 pub header-in : (pages page field : ℕ) (raw : Parts) → length raw.heads ≡ 40 * pages → page < pages → field < 8 → header_at page field < length raw.heads
 header-in pages page field raw whole there low = omega (arith, whole, there, low)
 
 pub word-in : (pages page word : ℕ) (raw : Parts) → length raw.words ≡ 1024 * pages → page < pages → word < 1024 → 1024 * page + word < length raw.words
 word-in pages page word raw whole there low = omega (arith, whole, there, low)
 
--- a field as a function of the page, after that of one page was written
+-- A field as a function of the page, after it is written for one page.
 pub field-put : (pages page field v : ℕ) (raw : Parts) → header_at page field < length raw.heads → field_of (headed raw (header_at page field) v) field ≡ put (field_of raw field) page v
 field-put pages page field v raw inside = λ j p. at p j where
   at : (p : ℕ) → field_of (headed raw (header_at page field) v) field p ≡ put (field_of raw field) page v p
@@ -33,7 +33,7 @@ field-apart : (pages page written v field : ℕ) (raw : Parts) → written < 8 �
 field-apart pages page written v field raw low high ne = λ j p. field-kept pages raw (header_at page written) v field p (λ e. ne (omega (arith, e, low, high))) j
 
 module _ (pages : ℕ) (raw : Parts) (first : ℕ) (l : Lists) (is : IsPool pages raw first l) where
-  -- no link was written
+  -- Writing a header word that is no link keeps the pool's invariant.
   pub kept : (k v : ℕ) → ((page : ℕ) → (header_at page NEXT ≡ k → ⊥) × (header_at page TAIL ≡ k → ⊥)) → IsPool pages (headed raw k v) first l
   kept k v ne = record {
     whole = length-set raw.heads k v ∙ is.whole;
@@ -48,7 +48,7 @@ module _ (pages : ℕ) (raw : Parts) (first : ℕ) (l : Lists) (is : IsPool page
       let had = free-some pages (field_of raw NEXT) (field_of raw TAIL) first l is.up some in
       free-there pages (field_of raw NEXT) (field_of raw TAIL) first l is.up had.0 had.1
 
-  -- the first free page was taken
+  -- The first free page is taken.
   pub pool-taken : (first ≡ NONE → ⊥) → (made : ℕ) → raw.made ≤ made → 1024 * (first + 1) ≤ made
       → IsPool pages (record (headed raw (header_at first TAIL) first) { made = made }) (field_of raw NEXT first) (after l (Taken first))
   pool-taken some made more least =
@@ -91,7 +91,7 @@ module _ (pages : ℕ) (raw : Parts) (first : ℕ) (l : Lists) (is : IsPool page
     pub tail-there : tail < pages
     tail-there = (tail-in pages (field_of raw NEXT) (field_of raw TAIL) first l is.up head rest below e).0
 
-    -- a chain was given back
+    -- A chain is freed.
     pub pool-given : IsPool pages (headed raw (header_at tail NEXT) first) head (after l (Given head))
     pool-given = record {
       whole = length-set raw.heads (header_at tail NEXT) first ∙ is.whole;
@@ -100,7 +100,7 @@ module _ (pages : ℕ) (raw : Parts) (first : ℕ) (l : Lists) (is : IsPool page
           (λ j. (sym (field-put pages tail NEXT first raw (header-in pages tail NEXT raw is.whole tail-there (omega arith))) j, sym (field-apart pages tail NEXT first TAIL raw (omega arith) (omega arith) (λ same. omega (arith, same))) j))
           (given pages (field_of raw NEXT) (field_of raw TAIL) first l is.up head rest below e);
       made = λ page there. elim (is.made page there) [
-        | inl among ↦ inl (among-behind (chain_at l.chains head) l.free page among)
+        | inl among ↦ inl (among-following (chain_at l.chains head) l.free page among)
         | inr low ↦ inr low
       ];
     }
@@ -110,7 +110,7 @@ module _ (pages : ℕ) (raw : Parts) (first : ℕ) (l : Lists) (is : IsPool page
         let chain = subst (IsChain pages (field_of raw NEXT) (field_of raw TAIL) is.up.home head) e (is.up.run head below) in
         free-given pages (chain_at l.chains head) l.free (subst (AllByRecursion (λ page. page < pages)) (sym e) (all-map (head ∷ rest) (λ page here. here.0) chain.3))
 
-    -- a page was put behind a chain
+    -- A page is appended to a chain.
     pub pool-pushed : (page : ℕ) → page < pages → (head ≡ page → ⊥) → chain_at l.chains page ≡ page ∷ []
         → IsPool pages (headed (headed raw (header_at tail NEXT) page) (header_at head TAIL) page) first (after l (Pushed head page))
     pool-pushed page there ne alone =
@@ -131,11 +131,11 @@ module _ (pages : ℕ) (raw : Parts) (first : ℕ) (l : Lists) (is : IsPool page
 pub words_of_long : (n : ℕ) → n % 2 ^ 32 + 2 ^ 32 * (n / 2 ^ 32) ≡ n
 words_of_long n = omega arith
 
--- ---- what is read
+-- ---- fields that are read
 pub column-read : (pages page field : ℕ) (raw : Parts) → page < pages → slice_index (tabulate pages (field_of raw field)) page ≡ slice_index raw.heads (header_at page field)
 column-read pages page field raw there = tab-read pages (field_of raw field) page 0 there
 
--- ---- what is asked of a pool's state is so of its parts
+-- ---- preconditions on a pool's state hold for its parts
 pub there-in : (s now : PoolState) (page : ℕ) → s ≡ now → page < now.pages → page < s.pages
 there-in s now page is there = subst (λ (n : ℕ). page < n) (sym (ap (λ (t : PoolState). t.pages) is)) there
 

@@ -1,4 +1,4 @@
--- A `&` to the places is made where one to each word is. Assumes `Logic`.
+-- A shared reference to the cells exists if there is one to each word. Assumes `Logic`.
 use Rattle.std.specs.Prelude.{ℕ, ◌+◌, List, [], ◌∷◌, Option, Some, None}
 use seplogic.Ra.Ura.{Ura}
 use base.Fml.{Lft, ftrue, ffalse}

@@ -1,4 +1,4 @@
--- Lists of places as lists of words.
+-- Lists of cells as lists of words.
 use Rattle.std.proofs.Common.{◌≡◌, ℕ, zero, suc, ◌+◌, ◌<◌, ◌≤◌, List, [], ◌∷◌, length, replicate, set, take, drop, get_or, refl, ap, sym, subst, ◌∙◌, arith, inl, inr, get_or-set_same, get_or-set_other}
 use Rattle.std.specs.Prelude.{Option, Some, None, slice_index}
 use Rattle.std.proofs.lemmas.Bool.{cases_eq, cases_lt}
@@ -26,7 +26,7 @@ words-same [] (d ∷ ds) e at = absurd (omega (arith, e))
 words-same (c ∷ cs) [] e at = absurd (omega (arith, e))
 words-same (c ∷ cs) (d ∷ ds) e at = λ j. at 0 j ∷ words-same cs ds (omega (arith, e)) (λ i. at (suc i)) j
 
--- so many places where no word was written
+-- A list of `n` cells that were never written.
 abbrev empty : ℕ → List (Option ℕ)
 empty n = replicate n None
 
@@ -42,7 +42,7 @@ none-at zero i = refl
 none-at (suc n) zero = refl
 none-at (suc n) (suc i) = none-at n i
 
--- ---- which places are written
+-- ---- written cells
 pub written-set : (cs : List (Option ℕ)) (end i w : ℕ) → i < end → i < length cs → AreWritten cs end → AreWritten (set cs i (Some w)) end
 written-set cs end i w low there is = record {
   filled = λ k below. elim (cases_eq k i) [
@@ -52,7 +52,7 @@ written-set cs end i w low there is = record {
   blank = λ k past. get_or-set_other cs i k (Some w) None (λ e. omega (arith, e, low, past)) ∙ is.blank k past;
 }
 
--- what is written of so many empty places, after a 0 was put on each up to an end
+-- The written cells among empty ones, after 0 is written to each up to `end`.
 pub written-first : (n end : ℕ) (cs : List (Option ℕ)) → ((i : ℕ) → 0 ≤ i → i < end → get_or cs i None ≡ Some 0) → ((i : ℕ) → end ≤ i → get_or cs i None ≡ get_or (empty n) i None) → AreWritten cs end
 written-first n end cs cleared above = record {
   filled = λ i below. (0, cleared i (omega arith) below);
@@ -72,7 +72,7 @@ module _ (old new : List (Option ℕ)) (from to : ℕ) (is : AreWritten old from
     blank = λ i past. above i past ∙ is.blank i (omega (arith, past, up));
   }
 
-  -- nothing that is read has changed
+  -- Clearing the words from an index on changes no word that can be read.
   pub words-cleared : length new ≡ length old → words_of new ≡ words_of old
   words-cleared long = words-same new old long (λ i. elim (cases_lt i from) [
     | inl early ↦ ap value_of (below i early)
@@ -82,7 +82,7 @@ module _ (old new : List (Option ℕ)) (from to : ℕ) (is : AreWritten old from
     ]
   ])
 
--- ---- what is read of a block, and what a write changes
+-- ---- reads of a block, and the effect of writes
 pub parts-first : (heads words : ℕ) (cs : List (Option ℕ)) → length cs ≡ length (empty (heads + words))
     → ((i : ℕ) → 0 ≤ i → i < heads → get_or cs i None ≡ Some 0) → ((i : ℕ) → heads ≤ i → get_or cs i None ≡ get_or (empty (heads + words)) i None)
     → parts_of heads 0 cs ≡ record { heads = replicate heads 0; words = replicate words 0; made = 0 }

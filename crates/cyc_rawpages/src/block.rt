@@ -1,4 +1,4 @@
-//! A block of words, as lists. Nothing here or above has a raw pointer.
+//! A block of words, as lists. Raw pointers occur only in the module `cells`.
 
 ghost use Rattle.std.specs.Prelude.{◌≡◌, ℕ, ◌+◌, ◌<◌, ◌≤◌, ◌^◌, None, Some, IfOk, get_or, length, replicate, slice_index, slice_set};
 ghost use Rattle.cyc_rawpages.specs.inside.Words.{headed, headed_all};
@@ -7,18 +7,18 @@ use super::cells::{Cells, Lease, Start, acquire, release};
 use std::alloc::{AllocError, Global};
 use std::marker::Model;
 
-/// How many words are cleared at once, or more.
+/// The least number of words that are cleared at once.
 const STRETCH: usize = 1024;
 
-/// So many heads, and so many words behind them, in one block of memory, which is given back where they are dropped.
+/// One block of memory with `heads` heads, followed by `words` words. Dropping the struct frees the block.
 ///
-/// The heads are written when the block is made. Of the words those are, from the first on, up to the last one that was written,
-/// and a stretch behind it. The others are read as 0, so that the system gives no memory for what is not used.
+/// The heads are written when the block is made. The words are written up to the last one that was set, and some words after it. Unwritten
+/// words are read as 0, so that the operating system provides no memory for unused words.
 pub struct Block {
     start: Start,
     count: usize,
     heads: usize,
-    /// How many of the words are written.
+    /// The number of words that are already written.
     made: usize,
     cells: Cells,
     lease: Lease<Global>,
@@ -35,7 +35,7 @@ impl Model for Block {
     ghost invariant = { λ b. IsBlock b.start b.count b.heads b.made b.cells b.lease b.alloc };
 }
 
-/// Writes a 0 at each place from one on up to another.
+/// Writes 0 to each cell from `from` up to `to`.
 #[inline(never)]
 fn clear(cells: &mut Cells, start: Start, from: usize, to: usize)
     requires at { start.at ≡ cells.old.at }
@@ -52,7 +52,7 @@ fn clear(cells: &mut Cells, start: Start, from: usize, to: usize)
 }
 
 impl Block {
-    /// A block of so many heads and words, each 0.
+    /// Allocates a block of heads and words, each 0.
     pub fn new(alloc: Global, heads: usize, words: usize) -> Result<Block, AllocError>
         requires { heads + words < 2 ^ 32 }
         ensures { IfOk result (λ b. b ≡ record { heads = replicate heads 0; words = replicate words 0; made = 0 }) }
@@ -73,7 +73,7 @@ impl Block {
         })
     }
 
-    /// The head at an index.
+    /// Returns the head at an index.
     #[inline]
     pub fn head(&self, index: usize) -> u32
         requires { index < length self.now.heads }
@@ -91,20 +91,20 @@ impl Block {
         self.cells.write(self.start, index, word)
     }
 
-    /// Writes the same word at so many heads, from one on.
+    /// Writes one word to each of `count` heads from `first` on.
     pub fn set_heads(&mut self, first: usize, count: usize, word: u32)
         requires inside { first + count ≤ length self.old.heads }
         requires few { first + count < 2 ^ 32 }
         ensures { self.new ≡ headed_all self.old first count word }
     {
-        // Read here, it is not read again behind each word that is written.
+        // Loaded once, so that it is not reloaded after each write.
         let start = self.start;
         for number in 0..count {
             self.cells.write(start, first + number, word);
         }
     }
 
-    /// Of how many words, from the first on, each is written.
+    /// Returns the number of words, from the first on, that are written.
     #[inline]
     pub fn made(&self) -> usize
         ensures is { result ≡ self.now.made }
@@ -113,7 +113,7 @@ impl Block {
         self.made
     }
 
-    /// Writes a 0 at each of so many words, from the first on, where none was written.
+    /// Writes 0 to each of the first `count` words that was not written.
     #[inline]
     pub fn make(&mut self, count: usize)
         requires { count ≤ length self.old.words }
@@ -125,7 +125,7 @@ impl Block {
         }
     }
 
-    /// Writes a 0 at each of so many words, from the first on, where none was written, as at the last of them.
+    /// Writes 0 to each of the first `count` words that was not written. The last of the first `count` words was not written before.
     #[cold]
     #[inline(never)]
     fn make_far(&mut self, count: usize)
@@ -142,7 +142,7 @@ impl Block {
         self.made = count;
     }
 
-    /// The word at an index.
+    /// Returns the word at an index.
     #[inline]
     pub fn word(&self, index: usize) -> u32
         requires { index < length self.now.words }
@@ -169,7 +169,7 @@ impl Block {
         }
     }
 
-    /// Writes the word at an index, and a 0 at each place before it and in a stretch behind it where none was written.
+    /// Writes the word at an index, and 0 to each earlier cell and to a stretch after it that was not written.
     #[cold]
     #[inline(never)]
     fn set_far_word(&mut self, index: usize, word: u32)

@@ -1,4 +1,4 @@
-//! One block of memory, as a row of places for words. The only code of the crate that has a raw pointer.
+//! One block of memory as a sequence of cells for words. The only code of the crate with raw pointers is in this file.
 
 ghost use Rattle.std.specs.Prelude.{◌≡◌, ℕ, ◌<◌, ◌≤◌, ◌^◌, List, Option, None, Some, IfSome, length, replicate, get_or, slice_set};
 ghost use denote.RawPtr.{Ptr};
@@ -7,13 +7,13 @@ ghost use Rattle.cyc_rawpages.specs.inside.Ownership.{places_at, lent_at, words_
 use std::alloc::Allocator;
 use std::marker::{Model, PhantomData};
 
-/// Where a block begins. It owns nothing.
+/// The address of a block, without ownership of its memory.
 #[derive(Clone, Copy)]
 pub(crate) struct Start {
     at: *mut u32,
 }
 
-/// The owner of a block's places. It takes no bytes.
+/// The ownership of a block's cells, a value of size 0.
 pub(crate) struct Cells {
     ghost at: { Ptr },
     ghost slots: { List (Option ℕ) },
@@ -26,7 +26,7 @@ impl Model for Cells {
     ghost also_shares = { λ c _ κ. lent_at c.at c.slots κ };
 }
 
-/// The right to give a block of so many words back. It takes no bytes.
+/// The right to free a block of this many words, a value of size 0.
 pub(crate) struct Lease<A: Allocator> {
     by: PhantomData<A>,
     ghost alloc: { A },
@@ -38,7 +38,7 @@ impl<A: Allocator> Model for Lease<A> {
     ghost also_owns = { λ l. A.dealloc_token l.alloc (words_type l.count) l.at };
 }
 
-/// Asks for a block of so many words, none of them written.
+/// Allocates a block of `count` words, each not yet written.
 pub(crate) fn acquire<A: Allocator>(alloc: &A, count: usize) -> Option<(Start, Cells, Lease<A>)>
     requires { count < 2 ^ 32 }
     ensures { IfSome result (λ t. (t.1.at ≡ t.0.at) × (t.1.slots ≡ replicate count None) × (t.2.at ≡ t.0.at) × (t.2.count ≡ count) × (t.2.alloc ≡ alloc.now)) }
@@ -53,7 +53,7 @@ pub(crate) fn acquire<A: Allocator>(alloc: &A, count: usize) -> Option<(Start, C
     }
 }
 
-/// Gives a block of so many words back.
+/// Frees a block of `count` words.
 pub(crate) fn release<A: Allocator>(
     alloc: &A,
     start: Start,
@@ -69,7 +69,7 @@ pub(crate) fn release<A: Allocator>(
 }
 
 impl Cells {
-    /// The word at a place that holds one.
+    /// Returns the word in a cell that contains one.
     pub(crate) fn read(&self, start: Start, index: usize) -> u32
         requires { (start.at ≡ self.now.at) × IsFilled self.now.slots index }
         ensures { get_or self.now.slots index None ≡ Some result }

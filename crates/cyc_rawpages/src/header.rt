@@ -1,43 +1,43 @@
-//! The heads of a pool: of each page a header, and its bits behind it.
+//! The heads of a pool: for each page a header, followed by its bits.
 
 ghost use Rattle.std.specs.Int.{bit_at};
 ghost use Rattle.std.specs.Prelude.{◌==◌, if◌then◌else◌, ◌≡◌, ◌≢◌, ℕ, ◌+◌, ◌*◌, ◌<◌, ◌≤◌, ◌⊎◌};
 ghost use Rattle.cyc_rawpages.specs.inside.Pool.{header_at, bits_at};
 
-/// The words of a page, and its bits.
+/// The number of words of a page, and of its bits.
 pub const PAGE_WORDS: u32 = 1024;
 
-/// The words of a page's header.
+/// The number of words of a page's header.
 pub const HEADER_WORDS: u32 = 8;
 
-/// The words of a page's header and of its bits.
+/// The number of words of a page's header and its bits.
 pub const HEAD_WORDS: u32 = 40;
 
 /// The most pages of a pool.
 pub const MOST_PAGES: u32 = 65536;
 
-/// Of a header, where the fill mark stands: how many of the page's words are filled.
+/// The index in a header of the fill mark: the number of the page's words that are filled.
 pub const FILL: u32 = 0;
 
-/// Of a header, where the owner stands.
+/// The index in a header of the owner.
 pub const OWNER: u32 = 1;
 
-/// Of a header, where the low half of the serial stands.
+/// The index in a header of the low half of the serial.
 pub const LOW: u32 = 2;
 
-/// Of a header, where the high half of the serial stands.
+/// The index in a header of the high half of the serial.
 pub const HIGH: u32 = 3;
 
-/// Of a header, where the link to the next page stands: that behind this one in its chain, or among the free ones.
+/// The index in a header of the link to the next page, in its chain or among the free ones.
 pub const NEXT: u32 = 4;
 
-/// Of the header of a chain's head, where the last page of the chain stands.
+/// The index, in the header of a chain's head, of the last page of the chain.
 pub const TAIL: u32 = 5;
 
-/// No page.
+/// Stands for the absence of a page.
 pub const NONE: u32 = 0xffff_ffff;
 
-/// The number of a word of a page's header among all heads of the pool.
+/// Returns the index of a field of a page's header among all heads of the pool.
 #[inline]
 pub(crate) fn header_at(page: u32, field: u32) -> usize
     ensures { result ≡ header_at page field }
@@ -45,7 +45,7 @@ pub(crate) fn header_at(page: u32, field: u32) -> usize
     HEAD_WORDS as usize * page as usize + field as usize
 }
 
-/// The number of the word that a bit of a page is in, among all heads of the pool.
+/// Returns the index of the word that contains a bit of a page, among all heads of the pool.
 #[inline]
 pub(crate) fn bits_at(page: u32, bit: u32) -> usize
     requires { bit < PAGE_WORDS }
@@ -54,7 +54,7 @@ pub(crate) fn bits_at(page: u32, bit: u32) -> usize
     HEAD_WORDS as usize * page as usize + (HEADER_WORDS + bit / 32) as usize
 }
 
-/// A word with one of its bits set or cleared.
+/// Returns a word with one of its bits set or cleared.
 #[inline]
 pub(crate) fn marked(word: u32, bit: u32, value: bool) -> u32
     requires { bit < 32 }
@@ -68,7 +68,7 @@ pub(crate) fn marked(word: u32, bit: u32, value: bool) -> u32
     }
 }
 
-/// A word with so many of its bits, from one on, set or cleared.
+/// Returns a word with `count` of its bits from `first` on set or cleared.
 #[inline]
 pub(crate) fn marked_from(word: u32, first: u32, count: u32, value: bool) -> u32
     requires { first + count ≤ 32 }

@@ -1,7 +1,7 @@
-//! Pages of raw memory: one block holds the words and the headers of all of them.
+//! Pages of raw memory: one block contains the words and the headers of all pages.
 //!
-//! The raw pointer is used in four functions of `cells`, and nothing above them has one. What a pool holds, and how its
-//! words say it, is defined in `specs/inside/Pool`.
+//! Four functions of `cells` use the raw pointer, and nothing above them contains one. `specs/inside/Pool` defines the contents of a pool
+//! and their representation in words.
 #![tactic(auto)]
 
 mod block;

@@ -1,6 +1,7 @@
 //! A pool of pages over one block of memory.
 
-ghost use Rattle.std.specs.Prelude.{◌==◌, ◌≡◌, ◌≢◌, ℕ, [], ◌∷◌, ◌++◌, ◌+◌, ◌*◌, ◌%◌, ◌^◌, ◌<◌, ◌≤◌, ◌⊎◌, IfOk, MatchOption, false, length, replicate, set, slice_index, slice_index_or};
+ghost use Rattle.std.specs.Prelude.{◌==◌, ◌≡◌, ◌≢◌, ℕ, [], ◌∷◌, ◌++◌, ◌+◌, ◌*◌, ◌%◌, ◌^◌, ◌<◌, ◌≤◌, ◌⊎◌, IfOk, MatchOption, false, length, replicate};
+ghost use Rattle.std.specs.Prelude.{set, slice_index, slice_index_or};
 ghost use Rattle.cyc_rawpages.specs.inside.Lists.{chain_at, freed};
 ghost use Rattle.cyc_rawpages.specs.inside.Pool.{IsFree, IsHead, LinksAll, between, new_pool};
 
@@ -17,7 +18,7 @@ use std::marker::Model;
 /// A page of a pool, by its number.
 #[derive(Clone, Copy, Debug, PartialEq, Eq)]
 pub struct PageNo {
-    /// From 0 up to the pages of the pool.
+    /// A number from 0 up to the number of pages of the pool.
     pub number: u32,
 }
 
@@ -28,15 +29,15 @@ pub struct Chain {
     pub head: PageNo,
 }
 
-/// A pool of pages. A page is free or in a chain, which is known by its first page, the head. Each page has 1,024 words,
-/// 1,024 bits, a fill mark, an owner and a serial, of which the pool says nothing: they are its caller's.
+/// A pool of pages. A page is free or in a chain, which is identified by its first page, the head. Each page has 1,024 words, 1,024 bits, a
+/// fill mark, an owner and a serial. The meaning of a page's words, bits, marks and numbers is up to the caller.
 ///
-/// After [`Pool::new`] no call takes memory. The pool's memory is freed where the pool is dropped.
+/// After [`Pool::new`] no call allocates. The pool's memory is freed when the pool is dropped.
 #[derive(Drop)]
 pub struct Pool {
     block: Block,
     pages: u32,
-    /// The first of the free pages, which are linked.
+    /// The first page in the list of free pages.
     first: u32,
     roll: Roll,
 }
@@ -51,7 +52,7 @@ impl Model for Pool {
     ghost invariant = { λ p. IsPool p.pages p.block p.first p.roll.lists };
 }
 
-/// Links all pages, each to the one with the next number, and gives the first.
+/// Links each page to the next one, and returns the first.
 fn link_all(block: &mut Block, pages: u32) -> u32
     requires few { pages ≤ MOST_PAGES }
     requires whole { length block.old.heads ≡ HEAD_WORDS * pages }
@@ -68,7 +69,7 @@ fn link_all(block: &mut Block, pages: u32) -> u32
 }
 
 impl Pool {
-    /// A pool of so many pages, all of them free, with a 0 in each word and in each field, and no bit set.
+    /// Allocates a pool of pages, each of which is free. Every word and field is 0, and no bit is set.
     pub fn new(alloc: Global, pages: u32) -> Result<Pool, AllocError>
         requires { pages ≤ MOST_PAGES }
         ensures { IfOk result (λ p. p ≡ new_pool pages) }
@@ -87,7 +88,7 @@ impl Pool {
         })
     }
 
-    /// Takes a free page, which is a chain of its own from then on. None where no page is free.
+    /// Takes a free page, which becomes a chain of its own. Returns `None` if no page is free.
     pub fn take(&mut self) -> Option<PageNo>
         ensures { MatchOption result ((self.old.free ≡ replicate self.old.pages false) × (self.new ≡ self.old))
             (λ page. (page.number < self.old.pages) × IsFree self.old.free page.number
@@ -104,7 +105,7 @@ impl Pool {
         Some(PageNo { number: page })
     }
 
-    /// Puts a page that is a chain of its own behind the last page of another chain.
+    /// Appends a page that is a chain of its own to another chain.
     pub fn chain_push(&mut self, head: PageNo, page: PageNo)
         requires head { (head.number < self.old.pages) × IsHead self.old.chains head.number }
         requires page { (page.number < self.old.pages) × (chain_at self.old.chains page.number ≡ page.number ∷ []) }
@@ -119,7 +120,7 @@ impl Pool {
         self.roll = Roll::with(&self.roll, &Change::Pushed(head.number, page.number));
     }
 
-    /// Gives all pages of a chain back, by one splice, so in the same time for any number of them.
+    /// Frees all pages of a chain by one splice, in constant time.
     pub fn give_chain(&mut self, chain: Chain)
         requires there { chain.head.number < self.old.pages }
         requires head { IsHead self.old.chains chain.head.number }
@@ -132,7 +133,8 @@ impl Pool {
         self.roll = Roll::with(&self.roll, &Change::Given(head));
     }
 
-    /// How many words, from those of the first page on, are written, as are those of each page that is not free. The others are 0.
+    /// Returns the number of words, from those of the first page on, that are written. The words of each page that is not free are among
+    /// them. The words of free pages are 0.
     #[inline]
     pub fn made(&self) -> usize
         ensures within { result ≤ PAGE_WORDS * self.now.pages }
@@ -141,7 +143,7 @@ impl Pool {
         self.block.made()
     }
 
-    /// A word of a page.
+    /// Returns a word of a page.
     #[inline]
     pub fn load(&self, page: PageNo, word: u32) -> u32
         requires { (page.number < self.now.pages) × (word < PAGE_WORDS) }
@@ -163,7 +165,7 @@ impl Pool {
         )
     }
 
-    /// The fill mark of a page.
+    /// Returns the fill mark of a page.
     #[inline]
     pub fn fill(&self, page: PageNo) -> u32
         requires { page.number < self.now.pages }
@@ -181,7 +183,7 @@ impl Pool {
         self.block.set_head(header_at(page.number, FILL), fill)
     }
 
-    /// The owner of a page.
+    /// Returns the owner of a page.
     #[inline]
     pub fn owner(&self, page: PageNo) -> u32
         requires { page.number < self.now.pages }
@@ -199,7 +201,7 @@ impl Pool {
         self.block.set_head(header_at(page.number, OWNER), owner)
     }
 
-    /// The serial of a page.
+    /// Returns the serial of a page.
     #[inline]
     pub fn serial(&self, page: PageNo) -> u64
         requires { page.number < self.now.pages }
@@ -222,7 +224,7 @@ impl Pool {
         self.block.set_head(header_at(page.number, HIGH), high);
     }
 
-    /// Whether a bit of a page is set.
+    /// Returns true if a bit of a page is set.
     #[inline]
     pub fn bit(&self, page: PageNo, bit: u32) -> bool
         requires { (page.number < self.now.pages) × (bit < PAGE_WORDS) }
@@ -242,26 +244,28 @@ impl Pool {
         self.block.set_head(at, marks);
     }
 
-    /// Sets or clears so many bits of a page, from one on, at once: those of one word.
+    /// Sets or clears at once `count` bits of a page from `bit` on. The `count` bits are all in one word.
     pub fn set_bits(&mut self, page: PageNo, bit: u32, count: u32, value: bool)
         requires there { (page.number < self.old.pages) × (bit < PAGE_WORDS) }
         requires few { bit % 32 + count ≤ 32 }
         ensures same { self.new ≡ record self.old { bits = self.new.bits } }
         ensures whole { length self.new.bits ≡ length self.old.bits }
-        ensures bits { (number : ℕ) → slice_index_or self.new.bits number false ≡ between (λ (other : ℕ). slice_index_or self.old.bits other false) (PAGE_WORDS * page.number + bit) count value number }
+        ensures bits { (number : ℕ) → slice_index_or self.new.bits number false
+            ≡ between (λ (other : ℕ). slice_index_or self.old.bits other false) (PAGE_WORDS * page.number + bit) count value number }
     {
         let at = bits_at(page.number, bit);
         let marks = marked_from(self.block.head(at), bit % 32, count, value);
         self.block.set_head(at, marks);
     }
 
-    /// Sets or clears so many bits of a page, from one on: those of whole words, and all of a word at once.
+    /// Sets or clears `count` bits of a page from `bit` on, a whole word at a time.
     pub fn set_whole_bits(&mut self, page: PageNo, bit: u32, count: u32, value: bool)
         requires there { (page.number < self.old.pages) × (bit < PAGE_WORDS) × (bit + count ≤ PAGE_WORDS) }
         requires aligned { (bit % 32 ≡ 0) × (count % 32 ≡ 0) }
         ensures same { self.new ≡ record self.old { bits = self.new.bits } }
         ensures whole { length self.new.bits ≡ length self.old.bits }
-        ensures bits { (number : ℕ) → slice_index_or self.new.bits number false ≡ between (λ (other : ℕ). slice_index_or self.old.bits other false) (PAGE_WORDS * page.number + bit) count value number }
+        ensures bits { (number : ℕ) → slice_index_or self.new.bits number false
+            ≡ between (λ (other : ℕ). slice_index_or self.old.bits other false) (PAGE_WORDS * page.number + bit) count value number }
     {
         let first = bits_at(page.number, bit);
         let marks = marked_from(0, 0, 32, value);

@@ -1,4 +1,4 @@
-//! The free pages and the chains of a pool, as clauses and proofs see them.
+//! The free pages and the chains of a pool, as contracts and proofs see them.
 
 ghost use Rattle.std.specs.Prelude.{◌≡◌};
 ghost use Rattle.std.specs.Borrow.{ftrue};
@@ -7,8 +7,8 @@ ghost use Rattle.cyc_rawpages.specs.inside.Lists.{Lists, no_pages, after};
 use super::change::Change;
 use std::marker::Model;
 
-/// The free pages and the chains of a pool, which only clauses read. It takes no bytes, and its functions do nothing at
-/// run time: the pool finds both by the links in its headers.
+/// The free pages and the chains of a pool, for contracts only. The record's size is 0, and its functions do nothing at run time: the pool
+/// finds the free pages and the chains by the links in its headers.
 #[derive(Drop)]
 pub struct Roll {
     pub ghost lists: { Lists },
@@ -19,14 +19,14 @@ impl Model for Roll {
 }
 
 impl Roll {
-    /// The lists of no pages.
+    /// Returns the lists without pages.
     pub(crate) fn new() -> Roll
         ensures { result.lists ≡ no_pages }
     {
         Roll {}
     }
 
-    /// The lists after a change.
+    /// Returns the lists after a change.
     pub(crate) fn with(_before: &Roll, _change: &Change) -> Roll
         ensures { result.lists ≡ after _before.now.lists _change.now }
     {

@@ -1,16 +1,16 @@
--- What is counted of the pages that are in use, and when it is so of the blocks of a store.
+-- The numbers of pages in use, and their relation to the blocks of a store.
 use Rattle.std.specs.Prelude.{◌≡◌, ℕ, List, Some, length, slice_index}
 use Rattle.cyc_words.specs.Demand.{region_pages}
 use Rattle.cyc_store.specs.State.{lookup, Home, handle_of, sizes_of, demand}
 use Rattle.cyc_store.specs.Ledger.{Blocks, plain_store}
 use Rattle.cyc_store.specs.inside.Kept.{handle_of_page}
 
--- at each page how many pages the region has that it is the first one of, and how many are in use
+-- The number of pages of the region that begins at each page, and the number of pages in use.
 pub record Counts : Type 0 where
   pub regions : List ℕ
   pub pages : ℕ
 
--- so it is, in a store of so many pages: those in use are those that the blocks ask for
+-- The counts are right in a store with this many pages: the pages in use are those that the blocks require.
 pub record IsUsage (counts : Counts) (most : ℕ) (b : Blocks) : Type 0 where
   pub all : length counts.regions ≡ most
   pub pages : counts.pages ≡ demand (plain_store b)

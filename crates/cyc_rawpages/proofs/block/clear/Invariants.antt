@@ -1,7 +1,7 @@
 use Rattle.std.proofs.Common.{◌≡◌, ℕ, ◌<◌, ◌≤◌, None, Some, get_or, length}
 use Rattle.cyc_rawpages.proofs.block.clear.Given as goal
 
--- the places from the first one on up to the index hold a 0, and the others what they held
+-- The cells from the first one up to the index contain 0, and the others are unchanged.
 abbrev pub invariant-loop-index : goal.invariant-loop-index
 invariant-loop-index l = record {
   at : l.cells.at ≡ l.fn.cells.at;

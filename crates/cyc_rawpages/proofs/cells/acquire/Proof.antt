@@ -1,4 +1,4 @@
--- `acquire` asks the allocator, and cuts what it gives into empty places. Assumes `Logic`.
+-- `acquire` calls the allocator and splits the result into empty cells. Assumes `Logic`.
 use mathlib.Core.Path.{◌≡◌, refl, sym, subst}
 use mathlib.Core.List.{List, [], ◌∷◌, ◌++◌}
 use Prim.Native.Nat.{◌*◌, ◌<◌, ◌^◌}

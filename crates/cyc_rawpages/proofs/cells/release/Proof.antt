@@ -1,4 +1,4 @@
--- `release` makes room of the places, and hands it back with the right to free it. Assumes `Logic`.
+-- `release` turns the cells into room and returns it with the right to free it. Assumes `Logic`.
 use mathlib.Core.Path.{◌≡◌, refl, ap, subst, ◌∙◌}
 use mathlib.Core.List.{List, [], ◌∷◌, ◌++◌}
 use Prim.Native.Nat.{ℕ, ◌*◌, ◌<◌, ◌^◌}
@@ -31,7 +31,7 @@ use denote.Triple.Walked.{Stays, stay_dropped, walk_of, Goes-dropped}
 use Rattle.std.proofs.alloc.Calls.{Al, seen, Goes-blank, Gives, at_gives, Gives-goes, Gives-Gives}
 use Rattle.std.proofs.alloc.Shapes.{after}
 use Rattle.std.proofs.raw_atomic.Walks.{proved_at, leaves}
-use Rattle.cyc_rawpages.proofs.Values.{start_val, start_told, cells_val, cells_told, lease_val, lease_told, slot_at, then_runs, out_of_block}
+use Rattle.cyc_rawpages.proofs.Values.{start_val, start_reported, cells_val, cells_reported, lease_val, lease_reported, slot_at, then_runs, out_of_block}
 use Rattle.cyc_rawpages.proofs.Places.{to_room}
 use Rattle.cyc_rawpages.specs.inside.Ownership.{places_at, words_type}
 use Rattle.cyc_rawpages.specs.contracts.cells.release.{ended, clauses}
@@ -68,15 +68,15 @@ release_spec 𝓤 𝓛 𝓜 𝓡 wired A L g d dd met md =
     qed 𝓛 ((raw (alive 𝓛 T.signature z.0.0 z.0.1) ⊛ ‵ (owns (types_at T.signature.params z.0.0) a vss)) ∷ (raw (fact 𝓤 (z.0.0.1.0 ⊑ A.lives)) ⊛ raw (fact 𝓤 Asked)) ∷ []) ∵
     move ! (1 ∷ []) $ split ! $ heard ! (z.0.0.1.0 ⊑ A.lives) (λ le. heard ! Asked (λ asked. split ! $ move ! (1 ∷ []) $
     fsplit ! $ fsplit ! $ drop ! $ move ! (1 ∷ []) $ fsplit ! $ drop ! $ fsplit ! $ drop ! $ fsplit3 ! $ move ! (2 ∷ []) $ drop ! $
-    -- [the places; the right to free them; a `&` to the handle; the tokens]
+    -- The proof's resources at this point: the cells; the right to free them; a `&` to the handle; the tokens.
     fsplit ! $ drop ! $ rewrite ! 0 (λ (r : Ptr). ‵ (places_at r s.slots)) asked.0 refl $ in_a_block ! p (λ r. places_at r s.slots) (id⊢ 𝓤 (never 𝓤)) (λ b o at.
     use1 𝓛 (‵ (froom (ty_array (ty_int w32) (length s.slots)) b o)) (to_room 𝓛 b s.slots o) $ rewrite ! 0 (λ (m : ℕ). ‵ (froom (ty_array (ty_int w32) m) b o)) asked.1 refl $
     move ! (1 ∷ []) $ fsplit ! $ drop ! $ rewrite ! 0 (λ (u : A.Denot × ℕ × Ptr). ‵ (g.dealloc_token u.0 (words_type u.1) u.2)) (λ i. (asked.4 i, asked.3 i, (asked.2 ∙ at) i)) refl $
     move ! (2 ∷ []) $ use1 𝓛 (‵ (seen Y κ handle h)) (id⊢ 𝓤 _) $ move ! (3 ∷ []) $ use1 𝓛 (‵ (flft κ q) ⊛ ‵ (flft z.0.0.1.0 z.0.1.1.0) ⊛ ‵ ftrue) (id⊢ 𝓤 _) $ split ! $ move ! (2 ∷ 0 ∷ []) $ join ! $ move ! (3 ∷ 2 ∷ []) $
-    -- [the room; the right; the handle with its token; the other tokens]
+    -- The proof's resources at this point: the room; the right to free it; the handle with its token; the other tokens.
     let few = s.few in let short : n < 2 ^ 32 = subst (λ m. m < 2 ^ 32) asked.1 s.few in let bytes : n * 4 < 2 ^ 64 = omega (arith, short) in
     let y = at_gives Y 𝓛 𝓜.mem 𝓡.returns κ q handle h b o (n * 4) 4 τ in
-    regoal ! (λ (us : List Val). prop (WpFn 𝓤 H C Λ fn us Post)) (λ i. are.0.0 i ++ ((start_told p vss.1.0 are.1.0 ∙ ap (λ (r : Ptr). start_val r ∷ []) at) i ++ (are.1.1.0.0 i ++ (cells_told vss.1.1.1.0 are.1.1.1.0.0 i ++ (lease_told vss.1.1.1.1.0 are.1.1.1.1.0.0 i ++ []))))) refl $
+    regoal ! (λ (us : List Val). prop (WpFn 𝓤 H C Λ fn us Post)) (λ i. are.0.0 i ++ ((start_reported p vss.1.0 are.1.0 ∙ ap (λ (r : Ptr). start_val r ∷ []) at) i ++ (are.1.1.0.0 i ++ (cells_reported vss.1.1.1.0 are.1.1.1.0.0 i ++ (lease_reported vss.1.1.1.1.0 are.1.1.1.1.0.0 i ++ []))))) refl $
     enter ! C Λ fn (vptr handle.0 handle.1 ∷ start_val (block_ptr b o) ∷ vint w64 n ∷ cells_val ∷ lease_val ∷ []) Post $
     alloc_all ! (λ l. pass_all ! refl ((tt, tt), ((tt, (tt, tt)), ((tt, record { fits = fits }), ((tt, tt), ((tt, (tt, tt)), tt))))) $ let En : Env 𝓤 𝓛.H = env fn.locals l in
     first ! $ blocks ! $

@@ -6,10 +6,10 @@ use Rattle.cyc_store.specs.inside.Kept.{handle_of_page}
 use Rattle.cyc_store.specs.Services.{Allocate, Allocated, Refused, Full, Serves}
 use Rattle.cyc_pagestore.specs.inside.Table.{TableState, row_of, Fills}
 use Rattle.cyc_pagestore.proofs.Storing.{root-inside, root-few, root-role, taken-small}
-use Rattle.cyc_pagestore.proofs.Making.{newest-inside, newest-few, last-filled, behind-most, behind-stored, behind-served, after-spent, after-most, after-stored, after-served}
+use Rattle.cyc_pagestore.proofs.Making.{newest-inside, newest-few, last-filled, following-most, following-stored, following-served, after-spent, after-most, after-stored, after-served}
 use Rattle.cyc_pagestore.proofs.Finding.{region-of}
 use Rattle.cyc_pagestore.specs.inside.Usage.{Counts, IsUsage}
-use Rattle.cyc_pagestore.proofs.Counting.{counted-there, counted-some, added-few, usage-behind, usage-added}
+use Rattle.cyc_pagestore.proofs.Counting.{counted-there, counted-some, added-few, usage-following, usage-added}
 use Rattle.cyc_pagestore.proofs.paged.PageStore.alloc_in.Goals as goal
 
 pub newest-last-requires : goal.newest-last-requires
@@ -98,12 +98,12 @@ invariant_of-self c =
     let place : c.address_at-address.result ≡ 536870912 + 4 * (1024 * c.newest-last.result + c.filled-used.result) = c.address_at-address.ensures in
     let fills = subst (λ k. Fills f.table c.fill.new.self (row_of f.table c.args.root).newest (k + c.args.words)) used c.fill.ensures in
     record {
-      room = subst (λ n. n ≤ vec_capacity f.lexicals) (sym (behind-most f.table f.lexicals.items f.classes f.ledger.blocks s c.args.root r named c.args.words c.requires.least c.requires.most fits c.fill.new.self fills c.address_at-address.result (omega (arith, place, at, used))
+      room = subst (λ n. n ≤ vec_capacity f.lexicals) (sym (following-most f.table f.lexicals.items f.classes f.ledger.blocks s c.args.root r named c.args.words c.requires.least c.requires.most fits c.fill.new.self fills c.address_at-address.result (omega (arith, place, at, used))
           c.with-self-inside.result.blocks c.with-self-inside.ensures)) c.self.invariant.room;
-      stored = behind-stored f.table f.lexicals.items f.classes f.ledger.blocks s c.args.root r named c.args.words c.requires.least c.requires.most fits c.fill.new.self fills c.address_at-address.result (omega (arith, place, at, used))
+      stored = following-stored f.table f.lexicals.items f.classes f.ledger.blocks s c.args.root r named c.args.words c.requires.least c.requires.most fits c.fill.new.self fills c.address_at-address.result (omega (arith, place, at, used))
           c.with-self-inside.result.blocks c.with-self-inside.ensures;
-      usage = usage-behind f.table f.lexicals.items f.classes f.ledger.blocks s f.usage c.self.invariant.usage c.args.root r named (record { address = c.address_at-address.result; size = c.args.words }) c.with-self-inside.result.blocks c.with-self-inside.ensures c.fill.new.self.most
-          (behind-most f.table f.lexicals.items f.classes f.ledger.blocks s c.args.root r named c.args.words c.requires.least c.requires.most fits c.fill.new.self fills c.address_at-address.result (omega (arith, place, at, used)) c.with-self-inside.result.blocks c.with-self-inside.ensures) fits;
+      usage = usage-following f.table f.lexicals.items f.classes f.ledger.blocks s f.usage c.self.invariant.usage c.args.root r named (record { address = c.address_at-address.result; size = c.args.words }) c.with-self-inside.result.blocks c.with-self-inside.ensures c.fill.new.self.most
+          (following-most f.table f.lexicals.items f.classes f.ledger.blocks s c.args.root r named c.args.words c.requires.least c.requires.most fits c.fill.new.self fills c.address_at-address.result (omega (arith, place, at, used)) c.with-self-inside.result.blocks c.with-self-inside.ensures) fits;
     }
 
 pub returns-then-used-words-le-PAGE_WORDS : goal.returns-then-used-words-le-PAGE_WORDS
@@ -115,7 +115,7 @@ returns-then-used-words-le-PAGE_WORDS c =
     let place : c.address_at-address.result ≡ 536870912 + 4 * (1024 * c.newest-last.result + c.filled-used.result) = c.address_at-address.ensures in
     let fills = subst (λ k. Fills f.table c.fill.new.self (row_of f.table c.args.root).newest (k + c.args.words)) used c.fill.ensures in
     subst (λ (v : Stored). Serves (held_of v) (Allocate (2 * c.args.root + 1) c.args.words) (Allocated c.address_at-address.result) (store_of c.fill.new.self.most c.fill.new.self.words c.with-self-inside.result.blocks)) c.self.view_is
-    (behind-served f.table f.lexicals.items f.classes f.ledger.blocks s c.args.root r named c.args.words c.requires.least c.requires.most fits c.fill.new.self fills c.address_at-address.result (omega (arith, place, at, used))
+    (following-served f.table f.lexicals.items f.classes f.ledger.blocks s c.args.root r named c.args.words c.requires.least c.requires.most fits c.fill.new.self fills c.address_at-address.result (omega (arith, place, at, used))
     c.with-self-inside.result.blocks c.with-self-inside.ensures)
 
 pub add-requires-clause-there : goal.add-requires-clause-there

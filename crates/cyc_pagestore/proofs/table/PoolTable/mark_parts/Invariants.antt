@@ -6,7 +6,7 @@ use Rattle.cyc_pagestore.proofs.table.PoolTable.mark_parts.Given as goal
 abbrev pub decreases-loop-done : goal.decreases-loop-done
 decreases-loop-done l = l.count - l.done
 
--- bits alone have changed: so many from the first on are the mark
+-- Only bits have changed: those so far from the first on equal the mark.
 abbrev pub invariant-loop-done : goal.invariant-loop-done
 invariant-loop-done l = record {
   few : l.done ≤ l.count;

@@ -5,7 +5,7 @@ use Rattle.cyc_store.specs.Ledger.{Stored, IsUsedUp, held_of, store_of}
 use Rattle.cyc_store.specs.State.{lookup, handle_of}
 use Rattle.cyc_store.specs.Services.{Allocate, Allocated, Refused, Full, refusal, Serves}
 use Rattle.cyc_store.proofs.KeptServices.{kept-full, kept-unchanged, held-unchanged, kept-some, kept-used}
-use Rattle.cyc_store.proofs.KeptMaking.{root-there, root-small, first-there, first-small, first-count, last-few, behind-serves, behind-kept, after-full, after-none, after-serves, after-kept}
+use Rattle.cyc_store.proofs.KeptMaking.{root-there, root-small, first-there, first-small, first-count, last-few, following-serves, following-kept, after-full, after-none, after-serves, after-kept}
 use Rattle.cyc_plainstore.proofs.plain.PlainStore.alloc_in.Goals as goal
 
 pub index-first-requires : goal.index-first-requires
@@ -90,7 +90,7 @@ invariant_of-self c =
     let f = c.self.inside in let k = c.self.invariant in
     let (r, named) = some_there (lookup handle_of f.ledger.blocks.regions (2 * c.args.root + 1))
     (subst (λ (v : Stored). is_some (lookup handle_of v.blocks.regions (2 * c.args.root + 1)) ≡ true) (sym c.self.view_is) c.requires.named) in
-    behind-kept f.table f.lexicals.items f.classes f.ledger.blocks k c.args.root r named c.index-first.result.now c.index-first.ensures c.index-last.result.now c.index-last.ensures c.args.words c.requires.least c.requires.most c.if-last-words-le-PAGE_WORDS.true c.address_at-address.result c.address_at-address.ensures
+    following-kept f.table f.lexicals.items f.classes f.ledger.blocks k c.args.root r named c.index-first.result.now c.index-first.ensures c.index-last.result.now c.index-last.ensures c.args.words c.requires.least c.requires.most c.if-last-words-le-PAGE_WORDS.true c.address_at-address.result c.address_at-address.ensures
     c.with-self-inside.result.blocks c.with-self-inside.ensures _ (record { most = refl; words = refl; live = refl; free = refl; rows = refl })
 
 pub returns-then-last-words-le-PAGE_WORDS-clause-answer : goal.returns-then-last-words-le-PAGE_WORDS-clause-answer
@@ -99,7 +99,7 @@ returns-then-last-words-le-PAGE_WORDS-clause-answer c =
     let (r, named) = some_there (lookup handle_of f.ledger.blocks.regions (2 * c.args.root + 1))
     (subst (λ (v : Stored). is_some (lookup handle_of v.blocks.regions (2 * c.args.root + 1)) ≡ true) (sym c.self.view_is) c.requires.named) in
     subst (λ (v : Stored). Serves (held_of v) (Allocate (2 * c.args.root + 1) c.args.words) (Allocated c.address_at-address.result) (store_of f.table.most f.table.words.items c.with-self-inside.result.blocks)) c.self.view_is
-    (behind-serves f.table f.lexicals.items f.classes f.ledger.blocks k c.args.root r named c.index-first.result.now c.index-first.ensures c.index-last.result.now c.index-last.ensures c.args.words c.requires.least c.requires.most c.if-last-words-le-PAGE_WORDS.true c.address_at-address.result c.address_at-address.ensures
+    (following-serves f.table f.lexicals.items f.classes f.ledger.blocks k c.args.root r named c.index-first.result.now c.index-first.ensures c.index-last.result.now c.index-last.ensures c.args.words c.requires.least c.requires.most c.if-last-words-le-PAGE_WORDS.true c.address_at-address.result c.address_at-address.ensures
     c.with-self-inside.result.blocks c.with-self-inside.ensures)
 
 pub returns-then-is_full-clause-answer : goal.returns-then-is_full-clause-answer

@@ -1,4 +1,4 @@
--- `write` makes room of the place, whatever it held, and stores the word there.
+-- `write` turns the cell into room, whatever it contained, and stores the word there.
 use mathlib.Core.Path.{◌≡◌, refl, sym, subst, ◌∙◌}
 use Prim.Native.Nat.{◌+◌, ◌*◌, ◌<◌, ◌^◌}
 use native.Mathlib.Omega.{arith}
@@ -55,9 +55,10 @@ write_spec 𝓤 𝓛 𝓜 𝓡 wired =
     qed 𝓛 (((‵ (flft κs.0 qs.0) ⊛ ‵ ftrue) ⊛ ‵ (owns (types_at f.signature.params κs) a y.0.4)) ∷ raw (fact 𝓤 Asked) ∷ []) ∵
     move ! (1 ∷ []) $ heard ! Asked (λ asked. split ! $ split ! $ move ! (2 ∷ []) $ fsplit ! $ keep ! (0 ∷ 2 ∷ []) $
     enter ! _ _ _ _ _ $ alloc_all ! (λ l. pass_all ! refl ((tt, tt), (start_typed p, ((tt, record { fits = are.1.1.0.1 }), ((tt, record { fits = are.1.1.1.0.1 }), tt)))) $
-    -- [the reference; the token]
+    -- The proof's resources at this point: the reference; the token.
     fsplit3 ! $ move ! (1 ∷ 2 ∷ 3 ∷ []) $ opens ! tt R {h = h} b o (λ us.
-    -- [the struct's cell; what it owns; the open borrow, in three entries; the reference's first part]
+    -- The proof's resources at this point: the struct's cell; the owned parts; the open borrow, in three entries; the reference's first
+    -- part.
     move ! (1 ∷ []) $ fsplit ! $ move ! (1 ∷ []) $ in_a_block ! h.at (λ q. places_at q h.slots) (id⊢ 𝓤 (never 𝓤)) (λ b' o' e.
     let few = h.few in let far : i * 4 < 2 ^ 64 = omega (arith, few, asked.1) in let at = i * 4 + o' in
     let new : R.Denot = record { at = h.at; slots = set h.slots i (Some w); few = subst (λ k. k < 2 ^ 32) (sym (length-set h.slots i (Some w))) h.few } in
@@ -76,6 +77,6 @@ write_spec 𝓤 𝓛 𝓜 𝓡 wired =
     move ! (1 ∷ 0 ∷ []) $ fjoin ! $ move ! (1 ∷ 0 ∷ []) $ closes ! tt R new us b o $
     returns ! (look_at ! 0 refl) $ free_all ! refl $ keep ! (3 ∷ 0 ∷ 1 ∷ 2 ∷ []) $
     suffices ! _ (ends_at 𝓛 f.ended stayed c y vunit tt (new, (tt, (tt, (tt, tt)))) (tt, (tt, (tt, (tt, tt))))) $ says ! (refl, refl) $
-    -- [the reference; the result; the token]
+    -- The proof's resources at this point: the reference; the result; the token.
     fjoin3 ! $ feq_i ! (List Val) (vunit ∷ []) (vunit ∷ []) refl $ nothing ! $ move ! (3 ∷ 0 ∷ []) $ join ! $
     nothing ! $ nothing ! $ fjoin ! $ nothing ! $ fjoin ! $ nothing ! $ fjoin ! $ move ! (3 ∷ 0 ∷ []) $ fjoin ! $ move ! (1 ∷ 0 ∷ []) $ done !)))))
