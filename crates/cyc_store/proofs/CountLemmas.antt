@@ -1,4 +1,4 @@
--- Counted blocks, the pages of classes, and demand.
+-- Counts of blocks, the pages of classes, and demand.
 use Rattle.std.proofs.Common.{◌≡◌, ℕ, zero, suc, ◌+◌, ◌-◌, ◌*◌, ◌/◌, ◌^◌, ◌<◌, ◌≤◌, max, List, [], ◌∷◌, ◌++◌, length, refl, sym, ap, subst, ◌∙◌, inl, inr, arith, get_or-set_same, get_or-set_other, length-set, zero-add}
 use Rattle.std.specs.Prelude.{nat_le, slice_index}
 use Rattle.std.proofs.Math.Nat.{div-mul-le_self, pow-le-pow_right, le-max_left, le-max_right}
@@ -30,11 +30,11 @@ class_from-holds (suc left) class size fits = cond_both (nat_le size (2 ^ class)
     shift : (m n : ℕ) → suc m + n ≡ m + suc n
     shift m n = omega arith
 
--- a block of a class has room for what the class is chosen for
+-- a block of a class holds each request for which the class is chosen
 pub class_of-holds : (size : ℕ) → size ≤ page_words → size ≤ 2 ^ class_of size
 class_of-holds size fits = class_from-holds 10 0 size fits
 
--- a page has room for a block of each class
+-- a page has room for at least one block of each class
 pub blocks-some : (class : ℕ) → class ≤ greatest_class → 0 < blocks_in_page class
 blocks-some class bound =
     let fits : 2 ^ class ≤ 2 ^ 10 = pow-le-pow_right (omega arith) bound in
@@ -49,7 +49,7 @@ pages_for-more class m n bound more = below (blocks_in_page class) (blocks-some 
         let least : (m + (k - 1)) / k * k ≤ m + (k - 1) = div-mul-le_self (m + (k - 1)) k in
         le-div ((m + (k - 1)) / k) (n + (k - 1)) k some (omega (arith, least, more))
 
--- ---- how many blocks are of a class
+-- ---- the number of blocks of a class
 
 pub live-here : (c : ℕ) (b : Block) (bs : List Block) → class_of b.size ≡ c → live_in c (b ∷ bs) ≡ suc (live_in c bs)
 live-here c b bs same = when_equal (class_of b.size) c (suc (live_in c bs)) (live_in c bs) same
@@ -154,12 +154,12 @@ demand-part (is_kept {x = r} {xs = qs} {ys = rs} part) classes = let rest : dema
     both : (p m n : ℕ) → m ≤ n → p + m ≤ p + n
     both p m n less = omega (arith, less)
 
--- a region without blocks has the same sizes whatever its handle
+-- the sizes of a region without blocks do not depend on its handle
 pub sizes-opened : (rs : List Home) (g h : ℕ) (sort : Sort) → sizes_in (rs ++ empty_home g sort ∷ []) ≡ sizes_in (rs ++ empty_home h sort ∷ [])
 sizes-opened [] g h sort = refl
 sizes-opened (r ∷ rs) g h sort = ap (λ l. sizes_of r.blocks ∷ l) (sizes-opened rs g h sort)
 
--- ---- a class is sought from the least on
+-- ---- the search for a class, from the least on
 
 pub class_from-here : (left class size : ℕ) → 0 < left → size ≤ 2 ^ class → class_from left class size ≡ class
 class_from-here zero class size some fits = absurd (omega (arith, some))

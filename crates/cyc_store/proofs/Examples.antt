@@ -1,4 +1,4 @@
--- Worked examples of the services, each proved by computation, on a store of three pages.
+-- Examples of the services on a store of three pages, each proved by computation.
 use Rattle.std.proofs.Common.{◌≡◌, ℕ, ◌+◌, ◌*◌, Some, None, refl}
 use Rattle.cyc_store.specs.State.{StoreState, start, demand}
 use Rattle.cyc_store.specs.Services.{Call, OpenLexical, CloseTo, OpenDynamic, CloseDynamic, Allocate, Free, BadMark, BadHandle, BadSize, NotABlock, Full, Choice, served, refusal}
@@ -7,7 +7,7 @@ use Rattle.cyc_store.specs.declared.range.TheConstants.{HEAP, STORE_BASE, UNIQUE
 abbrev choose : (handle address : ℕ) → Choice
 choose handle address = record { handle = handle; address = address; memory = λ (x : ℕ). 0 }
 
--- the address of a word, by its page and its place there
+-- the address of a word, given its page and its position in the page
 abbrev at : (page word : ℕ) → ℕ
 at page word = STORE_BASE + 4 * (1024 * page + word)
 
@@ -26,7 +26,7 @@ abbrev filled : StoreState
 filled =
     then_do (then_do (then_do (then_do open_one (Allocate 3 1000) 0 (at 1 0)) (Allocate 3 24) 0 (at 1 1000)) (Allocate 3 1) 0 (at 2 0)) (Allocate 3 1000) 0 (at 2 1)
 
--- a page each for the heap and for the region, then two for the region, and no more
+-- the heap and the region need one page each, then the region needs two, and no more
 demand_of_new : demand new ≡ 1
 demand_of_new = refl
 
@@ -48,7 +48,7 @@ heap_is_not = refl
 region_is_full : refusal filled OpenDynamic ≡ Some Full
 region_is_full = refl
 
--- reasons in their order
+-- the reasons for a refusal, in their order
 empty_block : refusal filled (Allocate 3 0) ≡ Some BadSize
 empty_block = refl
 
@@ -70,7 +70,7 @@ no_dynamic = refl
 no_unique : refusal filled (Free (at 1 0)) ≡ Some NotABlock
 no_unique = refl
 
--- a region that is closed gives back its pages, and another may have its handle and its addresses
+-- a closed region frees its pages; a new region may get its handle and its addresses
 closed_demand : demand (then_do filled (CloseTo 0) 0 0) ≡ 1
 closed_demand = refl
 

@@ -1,4 +1,4 @@
--- Which block an address is in, after regions and blocks came or went.
+-- The block at an address, after regions and blocks were added or removed.
 use Rattle.std.proofs.Common.{◌≡◌, ℕ, zero, suc, ◌+◌, ◌*◌, ◌<◌, ◌≤◌, true, false, List, [], ◌∷◌, ◌++◌, Option, None, Some, refl, sym, ap, subst, ◌∙◌, inl, inr, arith}
 use Rattle.std.specs.Prelude.{◌⊎◌, nat_le, nat_lt}
 use Rattle.std.proofs.lemmas.Bool.{cases_eq, cases_Bool, cond-true, cond-false, le-leb, lt-ltb, and_from}
@@ -10,7 +10,7 @@ use Rattle.cyc_store.specs.Soundness.{AreSound}
 use Rattle.cyc_store.proofs.LookupLemmas.{when_other, IsPart, is_empty, is_left, is_kept, lookup-here, lookup-there, lookup-none, lookup-key, lookup-append_cases, AreDistinct-append}
 use Rattle.cyc_store.proofs.LookupLemmas.{lookup-part_none, lookup-part, AreDistinct-part, IsPart-without, lookup-without, lookup-changed_same, lookup-changed_other, AreDistinct-changed}
 
--- ---- covering
+-- ---- addresses of a block
 
 pub covers_from : (b : Block) (x : ℕ) → b.address ≤ x → x < b.address + 4 * b.size → covers b x ≡ true
 covers_from b x low high = and_from (nat_le b.address x) (nat_lt x (b.address + 4 * b.size)) (le-leb b.address x low) (lt-ltb x (b.address + 4 * b.size) high)
@@ -18,7 +18,7 @@ covers_from b x low high = and_from (nat_le b.address x) (nat_lt x (b.address + 
 pub covers_first : (b : Block) → 0 < b.size → covers b b.address ≡ true
 covers_first b some = covers_from b b.address (omega arith) (omega (arith, some))
 
--- ---- one of two
+-- ---- the first of two results
 
 pub or_else-cases : (o p : Option Holder) (k : Holder) → or_else o p ≡ Some k → (o ≡ Some k) ⊎ ((o ≡ None) × (p ≡ Some k))
 or_else-cases None p k found = inr (refl, found)
@@ -32,7 +32,7 @@ block_in-some : (o : Option Home) (f : ℕ) (b : Block) → block_in o f ≡ Som
 block_in-some None f b found = absurd (let e : None ≡ Some b = found in cc)
 block_in-some (Some r) f b found = (r, refl, found)
 
--- ---- in one region
+-- ---- the blocks of one region
 
 module _ (h : ℕ) (x : ℕ) where
   pub in-here : (b : Block) (bs : List Block) → covers b x ≡ true → holder_in h (b ∷ bs) x ≡ Some (record { handle = h; block = b })
@@ -62,7 +62,7 @@ module _ (h : ℕ) (x : ℕ) where
     | inr away ↦ in-there a (bs ++ b ∷ []) away ∙ holder_in-last bs b (sym (in-there a bs away) ∙ none) inside
   ]
 
-  -- a block is freed
+  -- freeing a block
   holder_in-without : (bs : List Block) (f : ℕ) (k : Holder) → holder_in h bs x ≡ Some k → (k.block.address ≡ f → ⊥) → holder_in h (without address_of bs f) x ≡ Some k
   holder_in-without [] f k found other = found
   holder_in-without (b ∷ bs) f k found other = elim (cases_Bool (covers b x)) [
@@ -95,9 +95,9 @@ module _ (h : ℕ) (x : ℕ) where
         ]
   ]
 
--- ---- in all regions
+-- ---- the blocks of all regions
 
--- a block that has an address is in a region with a handle
+-- a block that contains an address belongs to a region with a handle
 pub holder-named : (rs : List Home) (x : ℕ) (k : Holder) → holder rs x ≡ Some k → lookup handle_of rs k.handle ≡ None → ⊥
 holder-named [] x k found none = let e : None ≡ Some k = found in cc
 holder-named (r ∷ rs) x k found none =
@@ -130,7 +130,7 @@ holder-append (r ∷ rs) qs x k found = elim (or_else-cases (holder_in r.handle 
   | inr there ↦ ap (λ o. or_else o (holder (rs ++ qs) x)) there.0 ∙ holder-append rs qs x k there.1
 ]
 
--- ---- regions that go
+-- ---- removing regions
 
 pub AreSound-part : {pages : ℕ} {qs rs : List Home} → IsPart qs rs → AreSound pages rs → AreSound pages qs
 AreSound-part {pages} {qs} {rs} part sound = record {
@@ -162,7 +162,7 @@ IsPart-down_to (suc mark) (r ∷ rs) = elim (cases_Bool (is_lexical r.sort)) [
       subst (λ l. IsPart l (r ∷ rs)) (sym (cond-false (is_lexical r.sort) (r ∷ down_to mark rs) (r ∷ down_to (suc mark) rs) not)) (is_kept (IsPart-down_to (suc mark) rs))
 ]
 
--- ---- a region that comes
+-- ---- adding a region
 
 pub AreSound-opened : {pages : ℕ} (rs : List Home) (handle : ℕ) (sort : Sort) → AreSound pages rs → lookup handle_of rs handle ≡ None
     → AreSound pages (rs ++ empty_home handle sort ∷ [])
@@ -180,7 +180,7 @@ AreSound-opened {pages} rs handle sort sound fresh = record {
           | inr is ↦ absurd (let e : None ≡ Some b = subst (λ (q : Home). lookup address_of q.blocks f ≡ Some b) is found in cc)
         ]
 
--- ---- a block that comes
+-- ---- adding a block
 
 module _ (b : Block) (x : ℕ) where
   holder-uncovered : (rs : List Home) (h : ℕ) → covers b x ≡ false → holder (changed handle_of (with_block b) rs h) x ≡ holder rs x
@@ -246,7 +246,7 @@ AreSound-made {pages} rs h r b sound there placed apart = record {
       | inr other ↦ inl (ap (λ o. block_in o f) (sym (lookup-changed_other handle_of (with_block b) (λ q. refl) rs h g other)) ∙ at)
     ]
 
--- ---- a block that goes
+-- ---- removing a block
 
 pub AreSound-freed : {pages : ℕ} (h : ℕ) (sort : Sort) (bs : List Block) (rs : List Home) (gone : ℕ)
     → AreDistinct address_of bs → AreSound pages (record { handle = h; sort = sort; blocks = bs } ∷ rs)

@@ -1,4 +1,4 @@
--- A store on a table of pages stays one where a region is closed.
+-- Closing a region keeps the invariant of a store on a table of pages.
 use Rattle.std.proofs.Common.{◌≡◌, ◌≢◌, ℕ, suc, ◌+◌, ◌*◌, ◌/◌, ◌%◌, ◌<◌, ◌≤◌, true, false, List, [], ◌∷◌, length, Option, None, Some, refl, sym, ap, subst, ◌∙◌, inl, inr, arith}
 use Rattle.std.specs.Prelude.{◌⊎◌, if◌then◌else◌, is_some, slice_index, slice_index_or}
 use Rattle.std.specs.List.{AllByRecursion}
@@ -30,7 +30,7 @@ use Rattle.cyc_store.proofs.KeptMaking.{rooted, first-newest}
 
 -- ---- the lexical regions
 
--- another region is closed
+-- closing another region
 pub lexical-without : (rs : List Home) (h : ℕ) (r : Home) → AreDistinct handle_of rs → lookup handle_of rs h ≡ Some r → is_lexical r.sort ≡ false
     → lexical_handles (without handle_of rs h) ≡ lexical_handles rs
 lexical-without [] h r distinct there not = refl
@@ -45,7 +45,7 @@ lexical-without (q ∷ rs) h r distinct there not = elim (cases_eq q.handle h) [
       ∙ ap (λ l. if is_lexical q.sort then q.handle ∷ l else l) (lexical-without rs h r distinct.1 (sym (lookup-there handle_of q rs h other) ∙ there) not)
 ]
 
--- ---- which region a handle names
+-- ---- the region that a handle names
 
 role-dynamic : (so : Option Sort) (owner : Option ℕ) (class : ℕ) → role_of so owner class ≡ role.Dynamic → so ≡ Some Dynamic
 role-dynamic (Some Heap) owner class e = absurd (let k : role.Heap ≡ role.Dynamic = e in cc)
@@ -88,7 +88,7 @@ other-role sort (Some h) class e = elim (cases_eq h UNIQUE) [
 ]
 
 module _ (t : PageTable) (lexicals : List ℕ) (classes : List ClassSlots) (b : Blocks) (k : IsKept t lexicals classes b) where
-  -- only the number of a page that is there, doubled and one more, is a handle
+  -- a handle is twice the number of an existing page, plus one
   pub handle-page : (h : ℕ) (r : Home) → lookup handle_of b.regions h ≡ Some r → (page : ℕ) × (h ≡ 2 * page + 1) × (page < length t.rows.items)
   handle-page h r found =
       let region : IsRooted (table_of t).row k.layout.pages r = k.tied.roots h r found in
@@ -130,7 +130,7 @@ module _ (t : PageTable) (lexicals : List ℕ) (classes : List ClassSlots) (b : 
         ap (λ (x : Row). x.role) (sym (row_at-read t.rows.items page first there read))
         ∙ ((k.tied.rows page).plays ∙ ap (λ (p : Option Home). role_of (sort_of p) (k.layout.pages.owner page) (k.layout.class page)) is)
 
-    -- a page that is no region's first one
+    -- a page that is not the first page of any region
     pub other-none : (first.role ≡ role.Heap → ⊥) → (first.role ≡ role.Lexical → ⊥) → (first.role ≡ role.Dynamic → ⊥) → lookup handle_of b.regions (handle_of_page page) ≡ None
     other-none heap lexical dynamic = elim (none_or_some (lookup handle_of b.regions (handle_of_page page))) [
       | inl none ↦ none
@@ -143,7 +143,7 @@ module _ (t : PageTable) (lexicals : List ℕ) (classes : List ClassSlots) (b : 
         by Dynamic e = dynamic e
         by Uniques e = heap e
 
-    -- a page with the role of a first one
+    -- a page with the role of a first page
     pub root-named : (first.role ≡ role.Heap) ⊎ ((first.role ≡ role.Lexical) ⊎ (first.role ≡ role.Dynamic)) → is_some (lookup handle_of b.regions (handle_of_page page)) ≡ true
     root-named is = elim (none_or_some (lookup handle_of b.regions (handle_of_page page))) [
       | inl none ↦ absurd (by none is)
@@ -158,11 +158,11 @@ module _ (t : PageTable) (lexicals : List ℕ) (classes : List ClassSlots) (b : 
         by none (inr (inl e)) = other none Lexical e
         by none (inr (inr e)) = other none Dynamic e
 
--- ---- a dynamic region
+-- ---- closing a dynamic region
 
 module _ (t : PageTable) (lexicals : List ℕ) (classes : List ClassSlots) (b : Blocks) (k : IsKept t lexicals classes b)
     (h : ℕ) (r : Home) (named : lookup handle_of b.regions h ≡ Some r) (sort : r.sort ≡ Dynamic) where
-  -- the lexical ones stay
+  -- the lexical regions stay
   pub dynamic-left : lexicals ≡ lexical_handles (without handle_of b.regions h)
   dynamic-left = k.tied.newest ∙ sym (lexical-without b.regions h r k.laid.sound.regions.handles.1 named (ap is_lexical sort))
 
@@ -174,7 +174,7 @@ module _ (t : PageTable) (lexicals : List ℕ) (classes : List ClassSlots) (b : 
       ∙ held-same t.most t.words.items v.most v.words.items (record b { regions = without handle_of b.regions h }) most (λ i. ap (λ ws. slice_index ws i) words)))
       (serves-close (store_of t.most t.words.items b) k.layout k.laid h r named (ap is_dynamic sort))
 
--- ---- a region is closed
+-- ---- closing a region
 
 module _ (t : PageTable) (lexicals : List ℕ) (classes : List ClassSlots) (b : Blocks) (k : IsKept t lexicals classes b)
     (root : ℕ) (r : Home) (named : lookup handle_of b.regions (handle_of_page root) ≡ Some r)

@@ -1,4 +1,4 @@
--- A store on a table of pages stays one where a unique block is freed.
+-- Freeing a unique block keeps the invariant of a store on a table of pages.
 use Rattle.std.proofs.Common.{◌≡◌, ℕ, ◌+◌, ◌*◌, ◌^◌, ◌<◌, ◌≤◌, false, List, [], ◌∷◌, length, Some, refl, sym, ap, subst, ◌∙◌, arith, length-set}
 use Rattle.std.specs.Prelude.{◌==◌, if◌then◌else◌, is_some, slice_index, slice_index_or, set}
 use Rattle.std.specs.List.{AllByRecursion}
@@ -55,14 +55,14 @@ module _ (t : PageTable) (lexicals : List ℕ) (classes : List ClassSlots) (b : 
   pub empty-live : word + 2 ^ class ≤ length t.live.items
   empty-live = mark-there t lexicals classes b k class empty-class word slot
 
-  -- the words afterwards
+  -- the words after the block was freed
   abbrev written : ℕ → ℕ
   written = λ (i : ℕ). if i == word then slots.dead else slice_index t.words.items i
 
   abbrev memory : Memory
   memory = put s.memory (place_of word) slots.dead
 
-  -- what is dead was not live
+  -- the words of dead slots were not live before
   dead-away : (c : ℕ) (xs : List ℕ) → AllByRecursion (IsDeadSlot b.unique k.layout.pages.owner k.layout.class c) xs → AllByRecursion (λ x. written x ≡ slice_index t.words.items x) xs
   dead-away c [] all = tt
   dead-away c (x ∷ xs) all = (
@@ -85,7 +85,7 @@ module _ (t : PageTable) (lexicals : List ℕ) (classes : List ClassSlots) (b : 
   freed-words : AreWords memory
   freed-words = words-put s.memory (place_of word) slots.dead k.laid.sound.words (link-word t lexicals classes b k class empty-class)
 
-  -- no block that stays has the word
+  -- no remaining block contains the word
   without-sound : IsSound (record s { unique = without address_of b.unique (place_of word) })
   without-sound = sound-free s k.layout k.laid (place_of word) (slot_block class word) there s.memory k.laid.sound.words (λ x h old new. refl)
 

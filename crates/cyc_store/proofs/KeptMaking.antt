@@ -1,4 +1,4 @@
--- A store on a table of pages stays one where a block is made in a region, and answers as the relation says.
+-- Allocating a block in a region keeps the invariant of a store on a table of pages, and gives an answer of the relation.
 use Rattle.std.proofs.Common.{◌≡◌, ℕ, suc, ◌+◌, ◌*◌, ◌<◌, ◌≤◌, false, List, [], ◌∷◌, length, None, Some, refl, sym, ap, subst, ◌∙◌, inl, inr, arith, length-set, get_or-set_other}
 use Rattle.std.specs.Prelude.{◌==◌, if◌then◌else◌, slice_index, slice_index_or, set}
 use Rattle.std.specs.List.{AllByRecursion}
@@ -45,7 +45,7 @@ region-few (q ∷ rs) h r classes there = elim (cases_eq q.handle h) [
     later : (m q n : ℕ) → m ≤ n → m ≤ q + n
     later m q n e = omega (arith, e)
 
--- the rows of two pages are written, the second with what was read of it then
+-- the rows of two pages are written; the second row is read after the first write
 twice-table : (u v : PageTable) (page root : ℕ) (a : Row) (newest : ℕ) → page < length u.rows.items → root < length u.rows.items → v.most ≡ u.most → v.words.items ≡ u.words.items
     → v.live.items ≡ u.live.items → v.free ≡ u.free → v.rows.items ≡ set (set u.rows.items page a) root (longer_row (row_at (set u.rows.items page a) root) newest)
     → table_of v ≡ with_row (with_row (table_of u) page a) root (longer_row ((with_row (table_of u) page a).row root) newest)
@@ -112,7 +112,7 @@ module _ (t : PageTable) (lexicals : List ℕ) (classes : List ClassSlots) (b : 
     fresh-address : (c : Block) → IsPlaced s.pages c × IsApart (homes s) c → lookup address_of r.blocks c.address ≡ None
     fresh-address c may = address-fresh_in s h r c k.laid.sound (named-home s k.layout k.laid h r (odd-apart root) named) may.0 may.1
 
-    -- ---- in the newest page
+    -- ---- allocation in the newest page
 
     module _ (room : (mark_of r).filled + n ≤ PAGE_WORDS) where
       abbrev block : Block
@@ -143,7 +143,7 @@ module _ (t : PageTable) (lexicals : List ℕ) (classes : List ClassSlots) (b : 
             (stays-tied (table_of t) lexicals slots b k.layout k.tied h r named (odd-apart root) n rooted room);
       }
 
-    -- ---- in a page that is taken
+    -- ---- allocation in a new page
 
     module _ (past : PAGE_WORDS < (mark_of r).filled + n) where
       small : n ≤ PAGE_WORDS
@@ -192,7 +192,7 @@ module _ (t : PageTable) (lexicals : List ℕ) (classes : List ClassSlots) (b : 
         same-next [] = tt
         same-next (x ∷ xs) = (ap (λ (y : Row). y.next) (draws.rows x), same-next xs)
 
-        -- the region in the table that was drawn from
+        -- the region in the table after a page was taken
         abbrev rooted-u : IsRooted (table_of u).row k.layout.pages r
         rooted-u = record {
           root = rooted.root;
@@ -212,7 +212,7 @@ module _ (t : PageTable) (lexicals : List ℕ) (classes : List ClassSlots) (b : 
             reach : (p m o : ℕ) → p < m → m ≤ o → p < o
             reach p m o less more = omega (arith, less, more)
 
-        -- the rows of the page and of the region's first page are written
+        -- the rows of the new page and of the region's first page are written
         pub draws-kept : (c : Blocks) → c ≡ blocks_of (made_in (plain_store b) h (new_block page)) → (v : PageTable) → v.most ≡ u.most → v.words.items ≡ u.words.items
             → v.live.items ≡ u.live.items → v.free ≡ u.free
             → v.rows.items ≡ set (set u.rows.items page (next_row n rooted.chain.newest.page)) root (longer_row (row_at (set u.rows.items page (next_row n rooted.chain.newest.page)) root) page)
@@ -247,7 +247,7 @@ module _ (t : PageTable) (lexicals : List ℕ) (classes : List ClassSlots) (b : 
                 (longer_row ((with_row (table_of u) page (next_row n rooted.chain.newest.page)).row root) page)
             table_is = twice-table u v page root (next_row n rooted.chain.newest.page) page taken.there root-in-u most_is words_is live_is free_is rows_is
 
-  -- what is read at the first page, and at the newest
+  -- the rows read for the first page and for the newest page
   module _ (first : Row) (read : first ≡ slice_index_or t.rows.items root first) where
     pub first-newest : first.newest ≡ rooted.chain.newest.page
     first-newest = ap (λ (x : Row). x.newest) (sym (row_at-read t.rows.items root first root-there read)) ∙ newest-is
@@ -271,7 +271,7 @@ module _ (t : PageTable) (lexicals : List ℕ) (classes : List ClassSlots) (b : 
       pub last-few : last.filled ≤ 1024
       last-few = subst (λ n. n ≤ 1024) (sym last-filled) filled-few
 
-      -- the block that is made behind what is filled
+      -- allocating after the filled words of the newest page
       module _ (n : ℕ) (least : 1 ≤ n) (most : n ≤ MOST_BLOCK_WORDS) (room : last.filled + n ≤ 1024) (address : ℕ)
           (place : address ≡ 536870912 + 4 * (1024 * first.newest + last.filled)) where
         abbrev made_block : Block
@@ -288,18 +288,18 @@ module _ (t : PageTable) (lexicals : List ℕ) (classes : List ClassSlots) (b : 
             regroup : (base p u : ℕ) → base + 4 * (1024 * p + u) ≡ base + 4 * (1024 * p) + 4 * u
             regroup base p u = omega arith
 
-        pub behind-serves : (c : Blocks) → c ≡ blocks_of (made_in (plain_store b) h made_block) → Serves s (Allocate h n) (Allocated address) (store_of t.most t.words.items c)
-        behind-serves c noted = subst (λ d. Serves s (Allocate h n) (Allocated address) (store_of t.most t.words.items d)) (sym noted)
+        pub following-serves : (c : Blocks) → c ≡ blocks_of (made_in (plain_store b) h made_block) → Serves s (Allocate h n) (Allocated address) (store_of t.most t.words.items c)
+        following-serves c noted = subst (λ d. Serves s (Allocate h n) (Allocated address) (store_of t.most t.words.items d)) (sym noted)
             (subst (λ (x : Block). Serves s (Allocate h n) (Allocated x.address) (made_in s h x)) (sym block-is) (stays-serves n least most has-room))
 
-        pub behind-kept : (c : Blocks) → c ≡ blocks_of (made_in (plain_store b) h made_block) → (v : PageTable)
+        pub following-kept : (c : Blocks) → c ≡ blocks_of (made_in (plain_store b) h made_block) → (v : PageTable)
             → Rewrites t v first.newest (record last { filled = last.filled + n }) → IsKept v lexicals classes c
-        behind-kept c noted v is = subst (IsKept v lexicals classes) (sym (noted ∙ ap (λ (x : Block). blocks_of (made_in (plain_store b) h x)) block-is))
+        following-kept c noted v is = subst (IsKept v lexicals classes) (sym (noted ∙ ap (λ (x : Block). blocks_of (made_in (plain_store b) h x)) block-is))
             (stays-kept n least most has-room v (subst (λ m. Rewrites t v rooted.chain.newest.page (filled_row (row_at t.rows.items rooted.chain.newest.page) (m + n))) last-filled
             (subst (λ (x : Row). Rewrites t v rooted.chain.newest.page (filled_row x (last.filled + n))) (sym last-row)
             (subst (λ p. Rewrites t v p (record last { filled = last.filled + n })) first-newest is))))
 
-      -- the block that is made in a page that is taken
+      -- allocating in a new page
       module _ (n : ℕ) (least : 1 ≤ n) (most : n ≤ MOST_BLOCK_WORDS) (past : 1024 < last.filled + n) where
         is-past : PAGE_WORDS < (mark_of r).filled + n
         is-past = subst (λ m. 1024 < m + n) last-filled past
@@ -337,7 +337,7 @@ module _ (t : PageTable) (lexicals : List ℕ) (classes : List ClassSlots) (b : 
               ∙ ap (λ (x : Row). set (set u.rows.items page (next_row n rooted.chain.newest.page)) root (longer_row x page))
               (sym (get_or-set_other u.rows.items page root (next_row n rooted.chain.newest.page) _ apart-root ∙ (draws.rows root ∙ row_at-read t.rows.items root first root-there read)))))
 
-  -- a region has no more pages than the store
+  -- a region has at most as many pages as the store
   pub first-count : (first : Row) → first ≡ slice_index_or t.rows.items root first → first.count ≤ 65536
   first-count first read = within first.count (suc (length rooted.chain.older)) (mark_of r).pages (region_pages (sizes_of r.blocks)) (demand s) t.most
       (ap (λ (x : Row). x.count) (sym (row_at-read t.rows.items root first root-there read)) ∙ (ap (λ n. (row_at t.rows.items n).count) (sym root-is) ∙ rooted.count))

@@ -1,4 +1,4 @@
--- A store on a table of pages stays one, and answers as the relation says, call by call.
+-- Each call keeps the invariant of a store on a table of pages, and gives an answer of the relation.
 use Rattle.std.proofs.Common.{◌≡◌, ◌≢◌, ℕ, suc, ◌+◌, ◌-◌, ◌*◌, ◌/◌, ◌%◌, ◌^◌, ◌<◌, ◌≤◌, Bool, true, false, List, [], ◌∷◌, ◌++◌, length, None, refl, sym, ap, subst, ◌∙◌, inl, inr, arith, get_or-set_same, get_or-set_other, length-set}
 use Rattle.std.specs.Prelude.{◌==◌, ◌⊎◌, ◌&&◌, nat_le, if◌then◌else◌, slice_index, slice_index_or, set}
 use Rattle.std.specs.List.{AllByRecursion}
@@ -28,9 +28,9 @@ use Rattle.cyc_store.proofs.TieLemmas.{all-fresh, none-free, taken-again, taken-
 use Rattle.cyc_store.proofs.TieOpening.{first_row, with_row, lexicals_with, fresh-handle, opened-tied}
 use Rattle.cyc_store.proofs.PagedStart.{are-many}
 
--- ---- what is held
+-- ---- the content of a store
 
--- words that read the same hold the same
+-- equal reads give equal content
 pub memory-same : (words also : List ℕ) → ((i : ℕ) → slice_index also i ≡ slice_index words i) → memory_of also ≡ memory_of words
 memory-same words also same = fun_ext (λ address. ap (λ n. if (address % 4 == 0) && nat_le 536870912 address then n else 0) (same ((address - 536870912) / 4)))
 
@@ -38,9 +38,9 @@ pub held-same : (most : ℕ) (words : List ℕ) (m : ℕ) (also : List ℕ) (b :
 held-same most words m also b count same =
     ap (λ n. store_of n also b) count ∙ ap (λ f. record { pages = most; regions = b.regions; unique = b.unique; classes = b.classes; memory = f }) (memory-same words also same)
 
--- ---- a row is written
+-- ---- writing a row
 
--- a table where the row of one page is another
+-- the table with the row of one page replaced
 pub record Rewrites (old new : PageTable) (page : ℕ) (r : Row) : Type 0 where
   pub most : new.most ≡ old.most
   pub words : new.words.items ≡ old.words.items
@@ -110,7 +110,7 @@ regions-few (r ∷ rs) classes =
     let rest : length rs ≤ demand_of (sizes_in rs) classes = regions-few rs classes in
     omega (arith, one, rest)
 
--- ---- nothing changes
+-- ---- an unchanged table
 
 same-table : (t u : PageTable) → IsSame t u → table_of u ≡ table_of t
 same-table t u same =
@@ -135,7 +135,7 @@ kept-unchanged t u lexicals classes b same k = record {
   tied = subst (λ table. IsTied table lexicals (λ (class : ℕ). slice_index_or classes class no_slots) b k.layout) (sym (same-table t u same)) k.tied;
 }
 
--- ---- a page is taken
+-- ---- taking a page
 
 module _ (t : PageTable) (lexicals : List ℕ) (classes : List ClassSlots) (b : Blocks) (k : IsKept t lexicals classes b) where
   abbrev slots : ℕ → ClassSlots
@@ -148,7 +148,7 @@ module _ (t : PageTable) (lexicals : List ℕ) (classes : List ClassSlots) (b : 
   pub kept-full : length t.rows.items ≤ t.free → t.most ≤ length t.rows.items → k.layout.free ≡ []
   kept-full past most = none-free (table_of t) lexicals slots b k.layout k.tied past most
 
-  -- otherwise it has one
+  -- a table that is not full has a free page
   pub kept-some : ((length t.rows.items ≤ t.free) × (t.most ≤ length t.rows.items) → ⊥) → (page : ℕ) × (rest : List ℕ) × (k.layout.free ≡ page ∷ rest)
   kept-some room = by (cases_lt t.free (length t.rows.items))
     where
@@ -160,7 +160,7 @@ module _ (t : PageTable) (lexicals : List ℕ) (classes : List ClassSlots) (b : 
           less : (n m : ℕ) → (m ≤ n → ⊥) → n < m
           less n m not = elim (cases_lt n m) [ inl is ↦ is | inr over ↦ absurd (not over) ]
 
-  -- where no page that was used is free, all of them are in use
+  -- if no used page is free, all used pages are in use
   pub kept-used : length t.rows.items ≤ t.free → length t.words.items ≡ PAGE_WORDS * demand s
   kept-used past = k.whole.words ∙ ap (λ n. PAGE_WORDS * n) (counted (length t.rows.items) t.most (length k.layout.free) (demand s) k.tied.few fresh k.laid.paged.count)
     where
@@ -173,7 +173,7 @@ module _ (t : PageTable) (lexicals : List ℕ) (classes : List ClassSlots) (b : 
   pub kept-lexicals : length lexicals ≡ lexical_count b.regions
   kept-lexicals = ap length k.tied.newest ∙ lexical-length b.regions
 
-  -- each region has a page, so there are no more lexical ones than pages
+  -- each region has a page, so there are at most as many lexical regions as pages
   pub kept-lexicals_few : length lexicals ≤ MOST_PAGES
   kept-lexicals_few = within (length lexicals) (lexical_count b.regions) (length b.regions) (demand s) t.most kept-lexicals (lexical-few b.regions) (regions-few b.regions b.classes) k.laid.sound.demand k.tied.most
     where
@@ -213,12 +213,12 @@ module _ (t : PageTable) (lexicals : List ℕ) (classes : List ClassSlots) (b : 
         within : (p : ℕ) → p < 65536 → 2 * p + 1 < 4294967296
         within p less = omega (arith, less)
 
-    -- what is held where a row is written, too
+    -- the content is unchanged when a row is written as well
     drawn-also : (v : PageTable) (r : Row) (other : Blocks) → Rewrites u v page r → store_of v.most v.words.items other ≡ store_of t.most t.words.items other
     drawn-also v r other is = held-same t.most t.words.items v.most v.words.items other (is.most ∙ draws.most)
         (λ i. ap (λ ws. slice_index ws i) is.words ∙ draws.words i)
 
-    -- a region is opened
+    -- opening a region
     pub kept-opened : (v : PageTable) (sort : Sort) → Rewrites u v page (first_row sort page) → IsSound (opened s (handle_of_page page) sort)
         → IsKept v (lexicals ++ lexicals_with sort (handle_of_page page)) classes (blocks_of (opened (plain_store b) (handle_of_page page) sort))
     kept-opened v sort is sound = record {
@@ -235,7 +235,7 @@ module _ (t : PageTable) (lexicals : List ℕ) (classes : List ClassSlots) (b : 
           (opened-tied (table_of u) lexicals slots b (record k.layout { free = kept-drawn.rest }) kept-drawn.tied page drawn-none drawn-away kept-drawn.there sort);
     }
 
-    -- with the blocks that are noted
+    -- the content with the recorded blocks
     drawn-blocks : (c other : Blocks) → c ≡ other → store_of u.most u.words.items c ≡ store_of t.most t.words.items other
     drawn-blocks c other noted = ap (store_of u.most u.words.items) noted ∙ held-same t.most t.words.items u.most u.words.items other draws.most draws.words
 

@@ -1,4 +1,4 @@
--- A store on a table of pages stays one where a page is cut into slots of a class, and where a unique block is made in a slot.
+-- Cutting a page into slots, and allocating a unique block in a slot, keep the invariant of a store on a table of pages.
 use Rattle.std.proofs.Common.{◌≡◌, ℕ, zero, suc, ◌+◌, ◌-◌, ◌*◌, ◌/◌, ◌^◌, ◌<◌, ◌≤◌, true, false, List, [], ◌∷◌, ◌++◌, length, refl, sym, ap, subst, ◌∙◌, inl, inr, arith, length-set}
 use Rattle.std.specs.Prelude.{is_some, slice_index, slice_index_or, set}
 use Rattle.std.specs.List.{AllByRecursion}
@@ -28,9 +28,9 @@ use Rattle.cyc_store.proofs.TieOpening.{with_row}
 use Rattle.cyc_store.proofs.TieSlots.{with_marks, with_slots, slot-tied, slots_row, fresh_slots, stock-tied}
 use Rattle.cyc_store.proofs.KeptServices.{held-same, Rewrites, rewritten-table, rewritten-whole, kept-full, kept-some, kept-drawn, drawn-none, drawn-away}
 
--- ---- the first of the dead slots
+-- ---- the first dead slot
 
--- a slot of the class is the first of the dead ones, and what is said of the class then is of the others
+-- the first dead slot is a slot of the class, and the remaining slots of the class are represented after it
 pub record IsFirst (word : ℕ → ℕ) (class : ℕ) (dead : List ℕ) (next : ℕ × ClassSlots) : Type 0 where
   pub rest : List ℕ
   pub first : dead ≡ next.0 ∷ rest
@@ -43,7 +43,7 @@ slots-first size word (suc count) some = ap (λ n. word ∷ slots_from size (wor
     less : (n : ℕ) → n ≡ suc n - 1
     less n = omega arith
 
--- a number of words that asks for a block of the class
+-- a request whose block is of this class
 asked : (class : ℕ) → class ≤ greatest_class → (n : ℕ) × (1 ≤ n) × (n ≤ MOST_BLOCK_WORDS) × (class_of n ≡ class)
 asked zero bound = (1, omega arith, omega arith, refl)
 asked (suc zero) bound = (2, omega arith, omega arith, refl)
@@ -58,7 +58,7 @@ asked (suc (suc (suc (suc (suc (suc (suc (suc (suc zero))))))))) bound = (512, o
 asked (suc (suc (suc (suc (suc (suc (suc (suc (suc (suc zero)))))))))) bound = (1000, omega arith, omega arith, refl)
 asked (suc (suc (suc (suc (suc (suc (suc (suc (suc (suc (suc class))))))))))) bound = absurd (omega (arith, bound))
 
--- how many pages the classes have is no matter of the table
+-- the page counts of classes do not affect the table
 recounted : (t : Table) (lexicals : List ℕ) (classes : ℕ → ClassSlots) (b : Blocks) (l : Layout) (counts : List ℕ) → IsTied t lexicals classes b l
     → IsTied t lexicals classes (record b { classes = counts }) l
 recounted t lexicals classes b l counts tied = record {
@@ -97,7 +97,7 @@ module _ (t : PageTable) (lexicals : List ℕ) (classes : List ClassSlots) (b : 
   pub stock-is : IsStocked (table_of t).word slots class dead
   stock-is = k.tied.stock class bound
 
-  -- a slot lies in the words that are there
+  -- a slot lies in the existing words
   pub slot-there : (w : ℕ) → IsSlot k.layout.pages.owner k.layout.class class w → w < length t.words.items
   slot-there w slot = within slot.page (slot.number * 2 ^ class) (2 ^ class) w (length t.rows.items) (length t.words.items) slot.at slot.fits (pow_pos class)
       (k.tied.drawn slot.page UNIQUE slot.owned) k.whole.words
@@ -129,7 +129,7 @@ module _ (t : PageTable) (lexicals : List ℕ) (classes : List ClassSlots) (b : 
       past : (w n : ℕ) → w ≡ 4294967295 → w < n → n ≤ 67108864 → ⊥
       past w n none less few = omega (arith, none, less, few)
 
-  -- a dead slot that a block was in is linked to the others
+  -- a dead slot that contained a block before is linked to the others
   linked-first : (slots.dead ≡ NONE → ⊥) → IsFirst (table_of t).word class dead (slots.dead, record slots { dead = slice_index t.words.items slots.dead })
   linked-first some = by stock-is.chain stock-is.all stock-is.linked
     where
@@ -142,7 +142,7 @@ module _ (t : PageTable) (lexicals : List ℕ) (classes : List ClassSlots) (b : 
         stock = record { chain = chain; all = refl; linked = subst (λ n. IsChain (table_of t).word (slice_index t.words.items n) chain) (sym linked.0) linked.1 };
       }
 
-  -- where there is none of these, the dead slots are those that no block was in yet
+  -- without such slots, the dead slots are those that never contained a block
   fresh-dead : slots.dead ≡ NONE → dead ≡ slots_from (2 ^ class) slots.fresh slots.left
   fresh-dead none = by stock-is.chain stock-is.all stock-is.linked
     where
@@ -160,7 +160,7 @@ module _ (t : PageTable) (lexicals : List ℕ) (classes : List ClassSlots) (b : 
     stock = record { chain = []; all = refl; linked = refl };
   }
 
-  -- ---- whether there is one
+  -- ---- whether a dead slot exists
 
   dead-has : 0 < length dead → HasSlot s class
   dead-has some = more (live_in class b.unique) (length dead) (slice_index b.classes class * blocks_in_page class) some (k.laid.slots.count class bound)
@@ -193,12 +193,12 @@ module _ (t : PageTable) (lexicals : List ℕ) (classes : List ClassSlots) (b : 
       clash : (d n : ℕ) → 0 < d → d ≡ n → n ≡ 0 → ⊥
       clash d n some many none = omega (arith, some, many, none)
 
-  -- ---- where it is
+  -- ---- the place of the first dead slot
 
   pub dead-there : (slots.dead ≡ NONE → ⊥) → slots.dead < length t.words.items
   dead-there some = let linked = linked-first some in first-there slots.dead linked.rest linked.first
 
-  -- so it is a word, as every link is
+  -- each link is a word, so the first dead slot is one
   pub link-word : slots.dead < 4294967296
   link-word = elim (cases_eq slots.dead NONE) [
     | inl none ↦ last slots.dead none
@@ -223,7 +223,7 @@ module _ (t : PageTable) (lexicals : List ℕ) (classes : List ClassSlots) (b : 
       below : (w n : ℕ) → w < n → n ≤ 67108864 → w < 67108864
       below w n less few = omega (arith, less, few)
 
-  -- ---- a page is cut into slots
+  -- ---- cutting a page into slots
 
   module _ (none : HasSlot s class → ⊥) where
     none-dead : dead ≡ []
@@ -287,7 +287,7 @@ module _ (t : PageTable) (lexicals : List ℕ) (classes : List ClassSlots) (b : 
             (set b.classes class (suc (slice_index b.classes class))) stocked-tied));
       })
 
-  -- ---- a block is made in a slot
+  -- ---- allocating a block in a slot
 
   module _ (has : HasSlot s class) (next : ℕ × ClassSlots) (is : next ≡ next_slot_of slots t.words.items class) where
     first-next : IsFirst (table_of t).word class dead next

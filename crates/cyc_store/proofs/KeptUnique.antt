@@ -1,5 +1,5 @@
--- What a store on a table of pages answers where a unique block is asked for: a slot is filled, after a page was cut into slots
--- where there was none, and the store is full where no page is free then.
+-- The answer of a store on a table of pages to a request for a unique block. A slot is filled; if there is none, a page is cut into slots
+-- first. The store is full if no page is free.
 use Rattle.std.proofs.Common.{◌≡◌, ℕ, suc, ◌+◌, ◌*◌, ◌^◌, ◌<◌, ◌≤◌, List, length, None, refl, sym, ap, subst, ◌∙◌, inl, inr, arith, get_or-set_same}
 use Rattle.std.specs.Prelude.{◌⊎◌, true, slice_index}
 use Rattle.std.proofs.Math.Nat.{suc-mul}
@@ -35,14 +35,14 @@ module _ (t : PageTable) (lexicals : List ℕ) (classes : List ClassSlots) (b : 
   size-is : 2 ^ class ≡ 2 ^ class_of n
   size-is = ap (λ c. 2 ^ c) is
 
-  -- ---- where there is a slot
+  -- ---- if there is an empty slot
 
   pub unique-filled : (address : ℕ) (u : StoreState) → Fills s class address u → Serves s (Allocate UNIQUE n) (Allocated address) u
   unique-filled address u fills = subst (Serves s (Allocate UNIQUE n) (Allocated address)) (sym fills.held)
       (responses.serves-unique s k.layout k.laid n least most (block address) size-is (fills.placed, fills.apart)
       (subst (λ d. d ≤ t.most) (sym (ap (demand_of (sizes_in b.regions)) fills.classes)) k.laid.sound.demand))
 
-  -- ---- where there is none
+  -- ---- if there is no empty slot
 
   module _ (none : HasSlot s class → ⊥) where
     all-live : live_in class b.unique ≡ slice_index b.classes class * blocks_in_page class
@@ -54,7 +54,7 @@ module _ (t : PageTable) (lexicals : List ℕ) (classes : List ClassSlots) (b : 
     class-is : class_of (2 ^ class) ≡ class
     class-is = class-power class unique-bound
 
-    -- a block more takes a page more
+    -- one more block needs one more page
     raised-is : raised b.classes (class_of (2 ^ class)) (suc (live_in (class_of (2 ^ class)) b.unique)) ≡ (with_page s class).classes
     raised-is = ap (λ c. raised b.classes c (suc (live_in c b.unique))) class-is ∙ raised-past b.classes class (live_in class b.unique) unique-bound all-live
 
@@ -102,7 +102,7 @@ module _ (t : PageTable) (lexicals : List ℕ) (classes : List ClassSlots) (b : 
         few : (d p e : ℕ) → d < p → e ≡ suc d → e ≤ p
         few d p e less next = omega (arith, less, next)
 
-    -- why no page was cut into slots is why the block is refused
+    -- if cutting a page into slots fails, the block is refused for the reason of that failure
     pub unique-refused : (why : No) (u : StoreState) → (why ≡ no.Full) ⊎ (why ≡ no.Memory) → (why ≡ no.Full → IsSpent s) → (why ≡ no.Memory → demand s < t.most) → u ≡ s
         → Responds true s (Allocate UNIQUE n) (refused why) u
     unique-refused why u (inl full) spent wants same = subst (λ w. Responds true s (Allocate UNIQUE n) (refused w) u) (sym full)

@@ -1,4 +1,4 @@
--- The lexical regions are closed one after another, the newest first.
+-- Closing the lexical regions one after another, the newest first.
 use Rattle.std.proofs.Common.{◌≡◌, ℕ, zero, suc, ◌+◌, ◌*◌, ◌/◌, ◌≤◌, true, false, List, [], ◌∷◌, ◌++◌, length, None, Some, refl, sym, ap, subst, ◌∙◌, inl, inr, arith}
 use Rattle.std.specs.Prelude.{◌⊎◌}
 use Rattle.std.proofs.lemmas.Bool.{cases_Bool, cond-true, cond-false}
@@ -14,7 +14,7 @@ use Rattle.cyc_store.proofs.PagedClosing.{without-none}
 use Rattle.cyc_store.proofs.KeptServices.{lexical-length}
 use Rattle.cyc_store.proofs.KeptClosing.{handle-page}
 
--- ---- down to a mark
+-- ---- closing down to a mark
 
 pub step-in : (m : ℕ) (r : Home) (rs : List Home) → is_lexical r.sort ≡ true → down_to (suc m) (r ∷ rs) ≡ r ∷ down_to m rs
 step-in m r rs is = cond-true (is_lexical r.sort) (r ∷ down_to m rs) (r ∷ down_to (suc m) rs) is
@@ -26,7 +26,7 @@ pub step-by : (m : ℕ) (r : Home) (rs : List Home) → is_lexical r.sort ≡ fa
 step-by zero r rs not = cond-false (is_lexical r.sort) (down_to zero rs) (r ∷ down_to zero rs) not
 step-by (suc m) r rs not = cond-false (is_lexical r.sort) (r ∷ down_to m rs) (r ∷ down_to (suc m) rs) not
 
--- a lower mark after a higher one
+-- closing to a higher mark and then to a lower one equals closing to the lower one
 pub down_to-lower : (m n : ℕ) (rs : List Home) → m ≤ n → down_to m (down_to n rs) ≡ down_to m rs
 down_to-lower zero zero [] few = refl
 down_to-lower zero (suc n) [] few = refl
@@ -43,7 +43,7 @@ down_to-lower m n (r ∷ rs) few = by m n few (cases_Bool (is_lexical r.sort)) (
     by (suc m) (suc n) few (inl is) rest = ap (down_to (suc m)) (step-in n r rs is)
         ∙ (step-in m r (down_to n rs) is ∙ (ap (λ l. r ∷ l) (rest m n (le_from_suc m n few)) ∙ sym (step-in m r rs is)))
 
--- a mark that is not below the number of lexical regions
+-- a mark of at least the number of lexical regions closes nothing
 pub down_to-all : (m : ℕ) (rs : List Home) → lexical_count rs ≤ m → down_to m rs ≡ rs
 down_to-all zero [] few = refl
 down_to-all (suc m) [] few = refl
@@ -57,7 +57,7 @@ down_to-all m (r ∷ rs) few = by m few (cases_Bool (is_lexical r.sort)) (λ k a
 
 -- ---- the newest lexical region
 
--- it is named by the last of their handles, and closing it is closing down to one less
+-- the last handle names the newest lexical region; closing it is closing down to one less
 record IsNewest (rs : List Home) (older : List ℕ) (h : ℕ) : Type 0 where
   pub region : Home
   pub named : lookup handle_of rs h ≡ Some region
@@ -80,9 +80,9 @@ newest-is [] left h distinct is = absurd (empty left is)
     empty (x ∷ xs) e = cc
 newest-is (r ∷ rs) left h distinct is = by left is (cases_Bool (is_lexical r.sort)) (λ xs e. newest-is rs xs h distinct.1 e)
   where
-    -- the others of a list that has the region further behind
-    behind : (xs : List ℕ) → IsNewest rs xs h → (r.handle ≡ h → ⊥)
-    behind xs rest e = never_none_and_some (subst (λ n. lookup handle_of rs n ≡ None) e distinct.0) rest.named
+    -- the last handle does not name the newest lexical region if a further region follows
+    following : (xs : List ℕ) → IsNewest rs xs h → (r.handle ≡ h → ⊥)
+    following xs rest e = never_none_and_some (subst (λ n. lookup handle_of rs n ≡ None) e distinct.0) rest.named
 
     by : (xs : List ℕ) → lexical_handles (r ∷ rs) ≡ xs ++ h ∷ [] → (is_lexical r.sort ≡ true) ⊎ (is_lexical r.sort ≡ false)
         → ((ys : List ℕ) → lexical_handles rs ≡ ys ++ h ∷ [] → IsNewest rs ys h) → IsNewest (r ∷ rs) xs h
@@ -105,7 +105,7 @@ newest-is (r ∷ rs) left h distinct is = by left is (cases_Bool (is_lexical r.s
     by (x ∷ xs) e (inl lexical) rest =
         let handles : r.handle ∷ lexical_handles rs ≡ x ∷ (xs ++ h ∷ []) = sym (cond-true (is_lexical r.sort) (r.handle ∷ lexical_handles rs) (lexical_handles rs) lexical) ∙ e in
         let newest = rest xs (ap tail-of handles) in
-        let other = behind xs newest in
+        let other = following xs newest in
         let gone : without handle_of (r ∷ rs) h ≡ r ∷ without handle_of rs h = when_other r.handle h (without handle_of rs h) (r ∷ without handle_of rs h) other in
         record {
           region = newest.region;
@@ -117,7 +117,7 @@ newest-is (r ∷ rs) left h distinct is = by left is (cases_Bool (is_lexical r.s
         }
     by xs e (inr not) rest =
         let newest = rest xs (sym (cond-false (is_lexical r.sort) (r.handle ∷ lexical_handles rs) (lexical_handles rs) not) ∙ e) in
-        let other = behind xs newest in
+        let other = following xs newest in
         let gone : without handle_of (r ∷ rs) h ≡ r ∷ without handle_of rs h = when_other r.handle h (without handle_of rs h) (r ∷ without handle_of rs h) other in
         record {
           region = newest.region;
@@ -179,7 +179,7 @@ module _ (t : PageTable) (lexicals : List ℕ) (classes : List ClassSlots) (b : 
         → Unwinds (record { pages = t.most; words = t.words.items; blocks = b; room = old }) (record { pages = v.most; words = v.words.items; blocks = c; room = new })
     newest-unwinds v old new most words room = record { count = newest-count; regions = newest-down; same = newest-same v old new most words room }
 
--- all that were to be closed are closed
+-- all regions that should be closed are closed
 pub unwound : (old new : Stored) (mark : ℕ) → new ≡ record old { blocks = record old.blocks { regions = new.blocks.regions } }
     → down_to mark new.blocks.regions ≡ down_to mark old.blocks.regions → lexical_count new.blocks.regions ≤ mark
     → held_of new ≡ record (held_of old) { regions = down_to mark old.blocks.regions }

@@ -1,4 +1,4 @@
--- Which words of a store on a table of pages are live, by what is read at their page.
+-- The live words of a store on a table of pages, by the entries read for their page.
 use Rattle.std.proofs.Common.{◌≡◌, ℕ, ◌+◌, ◌*◌, ◌/◌, ◌%◌, ◌<◌, ◌≤◌, Bool, true, false, List, length, sym, ap, subst, ◌∙◌, lit<, arith}
 use Rattle.std.specs.Prelude.{is_some, slice_index_or}
 use Rattle.std.proofs.Math.Nat.{mod-lt}

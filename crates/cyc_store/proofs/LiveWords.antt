@@ -1,4 +1,4 @@
--- Which words of a table of pages are live, by its rows and marks.
+-- The live words of a table of pages, by its rows and marks.
 use Rattle.std.proofs.Common.{◌≡◌, ℕ, zero, suc, ◌+◌, ◌*◌, ◌/◌, ◌%◌, ◌^◌, ◌<◌, ◌≤◌, true, false, List, Option, None, Some, refl, sym, ap, subst, ◌∙◌, inl, inr, arith}
 use Rattle.std.specs.Prelude.{is_some}
 use Rattle.std.proofs.Math.Nat.{mul-le-mul_right, suc-mul, div-mul-le_self, lt-div-mul-add, div-add-mod}
@@ -19,7 +19,7 @@ use Rattle.cyc_store.proofs.LookupLemmas.{when_other, lookup-key}
 use Rattle.cyc_store.proofs.HolderLemmas.{covers_from}
 use Rattle.cyc_store.proofs.SlotLemmas.{slot-apart, slot-live, filled-live, past-dead}
 
--- the slots of a class fill its page
+-- the slots of a class fill its page exactly
 pub blocks-whole : (class : ℕ) → class ≤ greatest_class → blocks_in_page class * 2 ^ class ≡ PAGE_WORDS
 blocks-whole zero bound = refl
 blocks-whole (suc zero) bound = refl
@@ -34,7 +34,7 @@ blocks-whole (suc (suc (suc (suc (suc (suc (suc (suc (suc zero))))))))) bound = 
 blocks-whole (suc (suc (suc (suc (suc (suc (suc (suc (suc (suc zero)))))))))) bound = refl
 blocks-whole (suc (suc (suc (suc (suc (suc (suc (suc (suc (suc (suc class))))))))))) bound = absurd (omega (arith, bound))
 
--- a slot that begins in the page ends in it
+-- a slot that begins in a page ends in it
 pub slot-fits : (class number : ℕ) → class ≤ greatest_class → number * 2 ^ class < PAGE_WORDS → number * 2 ^ class + 2 ^ class ≤ PAGE_WORDS
 slot-fits class number bound inside = elim (cases_lt number (blocks_in_page class)) [
   | inl less ↦
@@ -54,7 +54,7 @@ slot-fits class number bound inside = elim (cases_lt number (blocks_in_page clas
     past : (a m k : ℕ) → m ≤ a → m ≡ k → a < k → ⊥
     past a m k first second third = omega (arith, first, second, third)
 
--- ---- roles
+-- ---- roles of pages
 
 abbrev pub slots_or : (class : ℕ) → Role → ℕ
 slots_or other role.Rest = other
@@ -75,7 +75,7 @@ sort-slots Lexical c e = cc
 sort-slots Dynamic c e = cc
 sort-slots Uniques c e = cc
 
--- only a page of a class has its role
+-- only a page of a class has the class's role
 pub slots-owner : (sort : Option Sort) (owner : Option ℕ) (class c : ℕ) → role_of sort owner class ≡ role.Slots c → (owner ≡ Some UNIQUE) × (class ≡ c)
 slots-owner (Some sort) owner class c e = absurd (sort-slots sort c e)
 slots-owner None None class c e = absurd (rest-slots c e)
@@ -84,7 +84,7 @@ slots-owner None (Some h) class c e = elim (cases_eq h UNIQUE) [
   | inr other ↦ absurd (rest-slots c (sym (when_other h UNIQUE (role.Slots class) role.Rest other) ∙ e))
 ]
 
--- two handles of first pages
+-- the handle of a region differs from that of the unique blocks
 pub odd-apart : (page : ℕ) → handle_of_page page ≡ UNIQUE → ⊥
 odd-apart page e = omega (arith, e)
 
@@ -95,7 +95,7 @@ module _ (t : Table) (lexicals : List ℕ) (classes : ℕ → ClassSlots) (b : B
   abbrev s : StoreState
   s = store_of t.most words b
 
-  -- a page of a class is no region's first page
+  -- a page of a class is not a region's first page
   pub unique-role : (page : ℕ) → l.pages.owner page ≡ Some UNIQUE → (t.row page).role ≡ role.Slots (l.class page)
   unique-role page owned =
       (tied.rows page).plays
@@ -188,7 +188,7 @@ module _ (t : Table) (lexicals : List ℕ) (classes : ℕ → ClassSlots) (b : B
       | inr other ↦ subst (λ n. n ≤ offset) ((tied.rows page).marks ∙ (ap (λ o. limit o (l.pages.filled page)) owned ∙ when_other h UNIQUE 0 (l.pages.filled page) other)) past
     ]))
 
-    -- behind the fill mark a word's own mark tells
+    -- past the fill mark, a word is live if its own mark is set
     pub live-marks : (t.row page).filled ≤ offset → is_some (holder (homes s) (place_of (PAGE_WORDS * page + offset))) ≡ t.live (PAGE_WORDS * page + offset)
     live-marks past = by (l.pages.owner page) refl
       where
@@ -204,6 +204,6 @@ module _ (t : Table) (lexicals : List ℕ) (classes : ℕ → ClassSlots) (b : B
           | inr other ↦ apart (λ e. other (same_from_some (sym owned ∙ e)))
         ]
 
--- a word is at its place in its page
+-- the number of a word, split into its page and its position there
 pub word-split : (word : ℕ) → PAGE_WORDS * (word / 1024) + word % 1024 ≡ word
 word-split word = div-add-mod word 1024

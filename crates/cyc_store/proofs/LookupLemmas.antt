@@ -1,4 +1,4 @@
--- Lists that are looked up by number: what is found after an element was added at the end, changed, or taken out.
+-- Lists indexed by key: lookups after an element is appended, changed or removed.
 use Rattle.std.proofs.Common.{◌≡◌, ℕ, List, [], ◌∷◌, ◌++◌, None, Some, refl, sym, ap, subst, ◌∙◌, inl, inr}
 use Rattle.std.specs.Prelude.{◌==◌, ◌⊎◌, if◌then◌else◌}
 use Rattle.std.proofs.lemmas.Bool.{cases_eq, cond-false, ne_eqb}
@@ -9,14 +9,14 @@ use Rattle.cyc_store.specs.State.{lookup, without, changed, AreDistinct}
 pub when_other : {A : Type 0} (m n : ℕ) (x y : A) → (m ≡ n → ⊥) → (if m == n then x else y) ≡ y
 when_other m n x y other = cond-false (m == n) x y (ne_eqb m n other)
 
--- a list with some of its elements left out
+-- a list from which some elements were removed
 pub data IsPart {A : Type 0} : List A → List A → Type 0 where
   is_empty : IsPart [] []
   is_left : {x : A} {xs ys : List A} → IsPart xs ys → IsPart xs (x ∷ ys)
   is_kept : {x : A} {xs ys : List A} → IsPart xs ys → IsPart (x ∷ xs) (x ∷ ys)
 
 module _ {A : Type 0} (key : A → ℕ) where
-  -- ---- one element more, in front
+  -- ---- one more element in front
 
   pub lookup-here : (x : A) (xs : List A) (n : ℕ) → key x ≡ n → lookup key (x ∷ xs) n ≡ Some x
   lookup-here x xs n same = when_equal (key x) n (Some x) (lookup key xs n) same
@@ -24,7 +24,7 @@ module _ {A : Type 0} (key : A → ℕ) where
   pub lookup-there : (x : A) (xs : List A) (n : ℕ) → (key x ≡ n → ⊥) → lookup key (x ∷ xs) n ≡ lookup key xs n
   lookup-there x xs n other = when_other (key x) n (Some x) (lookup key xs n) other
 
-  -- a number that is not found is not the first one's, and is not found behind it
+  -- a key that is not found is not the first element's, and is not found in the remaining elements
   pub lookup-none : (x : A) (xs : List A) (n : ℕ) → lookup key (x ∷ xs) n ≡ None → (key x ≡ n → ⊥) × (lookup key xs n ≡ None)
   lookup-none x xs n none = (other, sym (lookup-there x xs n other) ∙ none)
     where
@@ -38,7 +38,7 @@ module _ {A : Type 0} (key : A → ℕ) where
     | inr other ↦ lookup-key xs n x (sym (lookup-there a xs n other) ∙ found)
   ]
 
-  -- ---- at the end
+  -- ---- appending an element
 
   pub lookup-append : (xs ys : List A) (n : ℕ) (x : A) → lookup key xs n ≡ Some x → lookup key (xs ++ ys) n ≡ Some x
   lookup-append [] ys n x found = absurd (let e : None ≡ Some x = found in cc)
@@ -53,7 +53,7 @@ module _ {A : Type 0} (key : A → ℕ) where
       let (away, rest) = lookup-none a xs n none in
       lookup-there a (xs ++ y ∷ []) n away ∙ lookup-append_none xs y n rest other
 
-  -- what is found was there before, or is the new one
+  -- a found element was there before, or is the new one
   pub lookup-append_cases : (xs : List A) (y : A) (n : ℕ) (x : A) → lookup key (xs ++ y ∷ []) n ≡ Some x → (lookup key xs n ≡ Some x) ⊎ (x ≡ y)
   lookup-append_cases [] y n x found = elim (cases_eq (key y) n) [
     | inl same ↦ inr (same_from_some (sym found ∙ lookup-here y [] n same))
@@ -86,7 +86,7 @@ module _ {A : Type 0} (key : A → ℕ) where
       let (away, rest) = lookup-none a xs (key y) none in
       (lookup-append_none xs y (key a) distinct.0 (λ e. away (sym e)), AreDistinct-append xs y distinct.1 rest)
 
-  -- ---- parts
+  -- ---- sublists
 
   pub lookup-part_none : {xs ys : List A} → IsPart xs ys → (n : ℕ) → lookup key ys n ≡ None → lookup key xs n ≡ None
   lookup-part_none is_empty n none = none
@@ -100,7 +100,7 @@ module _ {A : Type 0} (key : A → ℕ) where
   AreDistinct-part (is_left part) distinct = AreDistinct-part part distinct.1
   AreDistinct-part (is_kept {x} part) distinct = (lookup-part_none part (key x) distinct.0, AreDistinct-part part distinct.1)
 
-  -- what is found in a part is found in the whole
+  -- an element found in a sublist is found in the whole list
   pub lookup-part : {xs ys : List A} → IsPart xs ys → AreDistinct key ys → (n : ℕ) (y : A) → lookup key xs n ≡ Some y → lookup key ys n ≡ Some y
   lookup-part is_empty distinct n y found = found
   lookup-part (is_left {x} {xs} {ys} part) distinct n y found =
@@ -111,7 +111,7 @@ module _ {A : Type 0} (key : A → ℕ) where
     | inr other ↦ lookup-there x ys n other ∙ lookup-part part distinct.1 n y (sym (lookup-there x xs n other) ∙ found)
   ]
 
-  -- ---- without
+  -- ---- removing an element
 
   without-here : (x : A) (xs : List A) (n : ℕ) → key x ≡ n → without key (x ∷ xs) n ≡ without key xs n
   without-here x xs n same = when_equal (key x) n (without key xs n) (x ∷ without key xs n) same
@@ -145,7 +145,7 @@ module _ {A : Type 0} (key : A → ℕ) where
     ]
   ]
 
-  -- ---- changed
+  -- ---- changing an element
 
   module _ (change : A → A) (keeps : (x : A) → key (change x) ≡ key x) where
     changed-here : (x : A) (xs : List A) (n : ℕ) → key x ≡ n → changed key change (x ∷ xs) n ≡ change x ∷ xs

@@ -10,12 +10,12 @@ use Rattle.cyc_store.specs.Made.{call_of, Makes, AreOf, MakesAll}
 use Rattle.cyc_store.specs.declared.runs.Asked.{Asked}
 use Rattle.cyc_store.specs.declared.runs.Asked.TheVariants as asked
 
--- a service is asked for
+-- a call of a service
 pub responds : (grows : Bool) (a : Asked) (call : Call) (o : Option Answer) (s t : StoreState) → call_of a ≡ Some call → Responds grows s call o t → Makes grows a s t
 responds grows a call (Some answer) s t is serves = inl (Service call answer, is, serves)
 responds grows a call None s t is (wants, free, same) = inr (wants, same)
 
--- a word is read, or written
+-- a read or a write of a word
 pub loads : (grows : Bool) (address : ℕ) (word : Option ℕ) (s : StoreState) → word ≡ word_at s address → Makes grows (asked.Load address) s s
 loads grows address word s is = inl (Load address word, refl, (is, refl))
 
@@ -23,7 +23,7 @@ pub saves : (grows : Bool) (address word : ℕ) (done : Bool) (s t : StoreState)
     → Makes grows (asked.Save address word) s t
 saves grows address word done s t fits is same = inl (Save address word done, refl, (fits, is, same))
 
--- one call more, before the others
+-- the list of calls extended by a call at its front
 pub one_made : (grows : Bool) (a : Asked) (calls : List Asked) (s t u : StoreState) → Makes grows a s t → MakesAll grows calls t u → MakesAll grows (a ∷ calls) s u
 one_made grows a calls s t u (inl (e, is, does)) rest = record { exchanges = e ∷ rest.exchanges; are = inl (is, rest.are); run = (t, does, rest.run) }
 one_made grows a calls s t u (inr (wants, same)) rest = record {

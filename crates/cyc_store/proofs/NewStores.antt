@@ -1,4 +1,4 @@
--- What is true of a new store: it holds words, and asks for the heap's first page.
+-- The invariant of a new store: it contains words, and its demand is the heap's first page.
 use Rattle.std.proofs.Common.{◌≡◌, ℕ, sym, ap, subst}
 use Rattle.cyc_store.specs.State.{AreWords, StoreState, demand, IsNew}
 

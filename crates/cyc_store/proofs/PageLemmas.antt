@@ -1,4 +1,4 @@
--- Blocks that are laid out page by page are apart, and their pages are those that demand counts.
+-- Blocks laid out in pages are disjoint, and their pages are those that the demand counts.
 use Rattle.std.proofs.Common.{◌≡◌, ℕ, suc, ◌+◌, ◌*◌, ◌<◌, ◌≤◌, ◌%◌, Bool, true, false, List, [], ◌∷◌, ◌++◌, None, Some, refl, sym, ap, subst, ◌∙◌, inl, inr, arith}
 use Rattle.std.specs.Prelude.{nat_le, nat_lt, if◌then◌else◌}
 use Rattle.std.proofs.Math.Nat.{add-mul-mod_self_left}
@@ -13,19 +13,19 @@ use Rattle.cyc_store.proofs.LookupLemmas.{when_other, IsPart, is_empty, is_left,
 use Rattle.cyc_store.proofs.HolderLemmas.{in-here, in-there, or_else-cases}
 use Rattle.cyc_store.specs.Pages.{page_start, LiesIn, Pages, AreFilled, IsLaid, AreLaidIn, AreLaid, filled_to, drawn, owner_without, given_back, Mark, next_mark, mark_from}
 
--- ---- where a block is
+-- ---- the addresses of a block
 
 pub covers_bounds : (b : Block) (x : ℕ) → covers b x ≡ true → (b.address ≤ x) × (x < b.address + 4 * b.size)
 covers_bounds b x inside =
     let both = and_parts (nat_le b.address x) (nat_lt x (b.address + 4 * b.size)) inside in
     (leb-true b.address x both.0, ltb-true x (b.address + 4 * b.size) both.1)
 
--- an address is in one page
+-- an address lies in only one page
 one_page : (base p q u v m n x a c : ℕ) → a ≡ base + 4 * (1024 * p) + 4 * u → c ≡ base + 4 * (1024 * q) + 4 * v
     → a ≤ x → x < a + 4 * m → c ≤ x → x < c + 4 * n → u + m ≤ 1024 → v + n ≤ 1024 → p ≡ q
 one_page base p q u v m n x a c a_is c_is a_low a_high c_low c_high a_in c_in = omega arith
 
--- what is past the fill mark is not below it
+-- a position past the fill mark is not below it
 below_mark : (base p q u v n x a c f g : ℕ) → p ≡ q → f ≡ g → a ≡ base + 4 * (1024 * p) + 4 * u → c ≡ base + 4 * (1024 * q) + 4 * v
     → a ≤ x → x < c + 4 * n → f ≤ u → v + n ≤ g → ⊥
 below_mark base p q u v n x a c f g same marks a_is c_is a_low c_high past below = omega arith
@@ -48,7 +48,7 @@ holder-laid pages (r ∷ rs) x k laid found = elim (or_else-cases (holder_in r.h
   | inr there ↦ holder-laid pages rs x k laid.1 there.1
 ]
 
--- a block past the fill mark of its page is apart from all that are laid
+-- a block past the fill mark of its page is disjoint from all laid-out blocks
 pub laid-apart : (pages : Pages) (rs : List Home) (page : ℕ) (b : Block) → AreLaid pages rs → AreFilled pages
     → LiesIn page (pages.filled page) PAGE_WORDS b → IsApart rs b
 laid-apart pages rs page b laid full new x inside = elim (none_or_some (holder rs x)) [
@@ -70,7 +70,7 @@ laid-apart pages rs page b laid full new x inside = elim (none_or_some (holder r
         below_mark STORE_BASE page old.page new.word old.lies.word k.block.size x b.address k.block.address (pages.filled page) (pages.filled old.page)
         same (ap pages.filled same) new.at old.lies.at low over new.after bound
 
--- ---- a block in a page lies in the store's range
+-- ---- a block in a page lies in the store's address range
 
 above_base : (base a w x : ℕ) → x ≡ base + 4 * a + 4 * w → base ≤ x
 above_base base a w x is = omega arith
@@ -91,7 +91,7 @@ lies-placed count page low high b below most new = record {
     at_most : (k m n : ℕ) → k ≤ m → m ≤ n → k ≤ n
     at_most k m n first second = omega arith
 
--- ---- what stays laid where pages change
+-- ---- laid-out blocks stay laid out when pages change
 
 stays-in : (pages others : Pages) (h : ℕ) (bs : List Block) → ((b : Block) → IsLaid pages h b → IsLaid others h b) → AreLaidIn pages h bs → AreLaidIn others h bs
 stays-in pages others h [] stays laid = tt
@@ -102,7 +102,7 @@ stays-all pages others [] stays laid = tt
 stays-all pages others (r ∷ rs) stays laid =
     (stays-in pages others r.handle r.blocks (stays r.handle) laid.0, stays-all pages others rs stays laid.1)
 
--- a page is filled further
+-- filling a page further
 pub filled-stays : (pages : Pages) (page words : ℕ) → pages.filled page ≤ words → (h : ℕ) (b : Block) → IsLaid pages h b → IsLaid (filled_to pages page words) h b
 filled-stays pages page words more h b laid = record {
   page = laid.page;
@@ -123,7 +123,7 @@ filled-stays pages page words more h b laid = record {
   };
 }
 
--- a free page is drawn
+-- taking a free page
 pub drawn-stays : (pages : Pages) (page handle : ℕ) → pages.owner page ≡ None → (h : ℕ) (b : Block) → IsLaid pages h b → IsLaid (drawn pages page handle) h b
 drawn-stays pages page handle free h b laid = record {
   page = laid.page;
@@ -140,7 +140,7 @@ drawn-stays pages page handle free h b laid = record {
     other : laid.page ≡ page → ⊥
     other same = never_none_and_some free (subst (λ p. pages.owner p ≡ Some h) same laid.owned)
 
--- another region's pages are given back
+-- freeing the pages of another region
 pub given-stays : (pages : Pages) (gone h : ℕ) → (h ≡ gone → ⊥) → (b : Block) → IsLaid pages h b → IsLaid (given_back pages gone) h b
 given-stays pages gone h other b laid = record {
   page = laid.page;
@@ -157,7 +157,7 @@ AreLaid-append : (pages : Pages) (rs qs : List Home) → AreLaid pages rs → Ar
 AreLaid-append pages [] qs laid more = more
 AreLaid-append pages (r ∷ rs) qs laid more = (laid.0, AreLaid-append pages rs qs laid.1 more)
 
--- a region is opened, with a page of its own
+-- opening a region with a page of its own
 pub laid-opened : (pages : Pages) (rs : List Home) (page handle : ℕ) (sort : Sort) → pages.owner page ≡ None → AreLaid pages rs
     → AreLaid (drawn pages page handle) (rs ++ empty_home handle sort ∷ [])
 laid-opened pages rs page handle sort free laid =
@@ -180,7 +180,7 @@ laid-changed pages h (r ∷ rs) b laid new = elim (cases_eq r.handle h) [
       (laid.0, laid-changed pages h rs b laid.1 new)
 ]
 
--- a block is made past the fill mark of a page of its region, and the mark moves behind it
+-- allocating a block past the fill mark of a page, and moving the mark past it
 pub laid-made : (pages : Pages) (rs : List Home) (page h word size : ℕ) → pages.owner page ≡ Some h → pages.filled page ≤ word → 0 < size → AreLaid pages rs
     → AreLaid (filled_to pages page (word + size)) (changed handle_of (with_block (record { address = page_start page + 4 * word; size = size })) rs h)
 laid-made pages rs page h word size owned past some laid =
@@ -207,7 +207,7 @@ laid-made pages rs page h word size owned past some laid =
     same : (n : ℕ) → n ≤ n
     same n = omega arith
 
--- a region is closed, and its pages are free
+-- closing a region and freeing its pages
 pub laid-closed : (pages : Pages) (gone : ℕ) (rs : List Home) → lookup handle_of rs gone ≡ None → AreLaid pages rs → AreLaid (given_back pages gone) rs
 laid-closed pages gone [] none laid = tt
 laid-closed pages gone (r ∷ rs) none laid =
@@ -235,7 +235,7 @@ mark-pages m (size ∷ sizes) =
     mark-pages (next_mark m size) sizes
     ∙ pages-chosen (record { pages = m.pages; filled = m.filled + size }) (record { pages = suc m.pages; filled = size }) sizes (nat_le (m.filled + size) page_words)
 
--- one block more moves the mark once
+-- one more block moves the mark once
 pub mark-append : (m : Mark) (sizes : List ℕ) (size : ℕ) → mark_from m (sizes ++ size ∷ []) ≡ next_mark (mark_from m sizes) size
 mark-append m [] size = refl
 mark-append m (first ∷ sizes) size = mark-append (next_mark m first) sizes size

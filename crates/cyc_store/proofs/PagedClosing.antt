@@ -1,4 +1,4 @@
--- A store that is laid out in pages stays so where a region is closed, and all pages of its chain are free.
+-- Closing a region keeps the layout in pages, and all pages of its chain become free.
 use Rattle.std.proofs.Common.{◌≡◌, ◌≢◌, ℕ, suc, ◌+◌, ◌<◌, List, [], ◌∷◌, ◌++◌, length, Option, None, Some, refl, sym, ap, subst, ◌∙◌, inl, inr, arith, length-append}
 use Rattle.std.specs.List.{AllByRecursion}
 use Rattle.std.proofs.lemmas.Bool.{cases_eq}
@@ -15,7 +15,7 @@ use Rattle.cyc_store.specs.Pages.{Pages, owner_without, given_back, HasChain, Is
 use Rattle.cyc_store.proofs.PageLemmas.{laid-part, laid-closed}
 use Rattle.cyc_store.proofs.PageServices.{pages-mark}
 
--- ---- owners
+-- ---- owners of pages
 
 pub owner-kept : (gone g : ℕ) (o : Option ℕ) → owner_without gone o ≡ Some g → o ≡ Some g
 owner-kept gone g None e = e
@@ -48,7 +48,7 @@ chain-stays pages gone q other chain = record {
   many = chain.many;
 }
 
--- ---- pages that are given back
+-- ---- freed pages
 
 chain-free : (count : ℕ) (pages : Pages) (gone : ℕ) → ((p g : ℕ) → pages.owner p ≡ Some g → p < count) → (chain free : List ℕ)
     → AllByRecursion (λ (p : ℕ). pages.owner p ≡ Some gone) chain → AllByRecursion (IsFree count pages) free
@@ -96,7 +96,7 @@ demand-without (q ∷ rs) h r classes distinct there = elim (cases_eq q.handle h
       (demand-without rs h r classes distinct.1 (sym (lookup-there handle_of q rs h other) ∙ there))
 ]
 
--- ---- closing
+-- ---- closing a region
 
 pub paged-closed : (s : StoreState) (pages : Pages) (free : List ℕ) (h : ℕ) (r : Home) → IsSound s → IsPaged s pages free → lookup handle_of s.regions h ≡ Some r
     → (h ≡ UNIQUE → ⊥) → (chain : HasChain pages r)

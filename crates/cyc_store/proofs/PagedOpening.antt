@@ -1,8 +1,8 @@
--- A store that is laid out in pages stays so where a region is opened with a page that was free; where none is, the store is full.
+-- Opening a region with a free page keeps the layout in pages; without a free page, the store is full.
 use Rattle.std.proofs.Common.{◌≡◌, ℕ, suc, ◌+◌, ◌<◌, List, [], ◌∷◌, ◌++◌, length, Some, refl, sym, subst, ◌∙◌, inl, inr, arith}
 use Rattle.std.proofs.lemmas.Bool.{cases_eq}
 use Rattle.cyc_words.specs.Demand.{region_pages, demand_of, total}
-use Rattle.cyc_words.proofs.Numbers.{zero_least, when_equal, one_plus, plus_suc_behind}
+use Rattle.cyc_words.proofs.Numbers.{zero_least, when_equal, one_plus, plus_suc_after}
 use Rattle.cyc_store.specs.State.{Sort, Home, handle_of, empty_home, StoreState, homes, sizes_of, sizes_in, demand, opened}
 use Rattle.cyc_store.specs.declared.range.TheConstants.{PAGE_WORDS}
 use Rattle.cyc_store.proofs.LookupLemmas.{when_other, lookup-append_cases}
@@ -14,7 +14,7 @@ pub demand-more : (rs : List Home) (h : ℕ) (sort : Sort) (classes : List ℕ)
     → demand_of (sizes_in (rs ++ empty_home h sort ∷ [])) classes ≡ suc (demand_of (sizes_in rs) classes)
 demand-more [] h sort classes = one_plus (total classes)
 demand-more (r ∷ rs) h sort classes =
-    plus_suc_behind (region_pages (sizes_of r.blocks)) (demand_of (sizes_in (rs ++ empty_home h sort ∷ [])) classes) (demand_of (sizes_in rs) classes) (demand-more rs h sort classes)
+    plus_suc_after (region_pages (sizes_of r.blocks)) (demand_of (sizes_in (rs ++ empty_home h sort ∷ [])) classes) (demand_of (sizes_in rs) classes) (demand-more rs h sort classes)
 
 pub paged-opened : (s : StoreState) (pages : Pages) (page : ℕ) (free : List ℕ) (h : ℕ) (sort : Sort) → IsPaged s pages (page ∷ free)
     → IsPaged (opened s h sort) (drawn pages page h) free
@@ -47,7 +47,7 @@ paged-opened s pages page free h sort paged = record {
     one_less : (n d p e : ℕ) → suc n + d ≡ p → e ≡ suc d → n + e ≡ p
     one_less n d p e count grows = omega (arith, count, grows)
 
--- without a free page the demand would exceed the pages
+-- without a free page, the demand would exceed the pages
 pub full-opening : (s : StoreState) (pages : Pages) (h : ℕ) (sort : Sort) → IsPaged s pages [] → s.pages < demand (opened s h sort)
 full-opening s pages h sort paged = beyond (demand s) s.pages (demand (opened s h sort)) paged.count (demand-more s.regions h sort s.classes)
   where

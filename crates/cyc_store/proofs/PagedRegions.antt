@@ -1,4 +1,4 @@
--- A store that is laid out in pages stays so where a block is made in a region.
+-- Allocating a block in a region keeps the layout in pages.
 use Rattle.std.proofs.Common.{◌≡◌, ◌≢◌, ℕ, suc, ◌+◌, ◌*◌, ◌<◌, ◌≤◌, List, [], ◌∷◌, length, None, Some, refl, sym, ap, subst, ◌∙◌, inl, inr, arith}
 use Rattle.std.specs.List.{AllByRecursion}
 use Rattle.std.proofs.lemmas.Bool.{cases_eq}
@@ -11,7 +11,7 @@ use Rattle.cyc_store.specs.Pages.{page_start, Pages, AreFilled, AreLaid, filled_
 use Rattle.cyc_store.proofs.PageLemmas.{laid-made, laid-drawn}
 use Rattle.cyc_store.proofs.PageServices.{mark-made, mark-stays, mark-goes, demand-stays, demand-grows}
 
--- the block of so many words that begins at a word of a page
+-- the block of this many words that begins at a word of a page
 abbrev pub block_in_page : (page word size : ℕ) → Block
 block_in_page page word size = record { address = page_start page + 4 * word; size = size }
 
@@ -44,7 +44,7 @@ homes-made_in s h b other = when_other UNIQUE h
     (record { handle = UNIQUE; sort = Uniques; blocks = s.unique } ∷ changed handle_of (with_block b) s.regions h)
     (λ e. other (sym e))
 
--- where the fill mark of another region's page moves, a chain stays
+-- moving the fill mark of another region's page keeps a chain
 abbrev pub chain-filled : (pages : Pages) (page words h : ℕ) (q : Home) → pages.owner page ≡ Some h → (q.handle ≡ h → ⊥) → HasChain pages q → HasChain (filled_to pages page words) q
 chain-filled pages page words h q owned other chain = record {
   newest = record {
@@ -61,7 +61,7 @@ chain-filled pages page words h q owned other chain = record {
   many = chain.many;
 }
 
--- the chains of all regions, where a page's fill mark has moved and its region has a block more
+-- the chains of all regions, after a page's fill mark moved and its region has one more block
 chains-made : (pages : Pages) (rs : List Home) (h page words : ℕ) (r : Home) (b : Block) → lookup handle_of rs h ≡ Some r
     → pages.owner page ≡ Some h → HasChain (filled_to pages page words) (with_block b r)
     → ((g : ℕ) (q : Home) → (g ≡ h → ⊥) → lookup handle_of rs g ≡ Some q → HasChain pages q)
@@ -77,7 +77,7 @@ chains-made pages rs h page words r b named owned new others g q found = elim (c
       chain-filled pages page words h q owned (λ e. other (sym (lookup-key handle_of rs g q old) ∙ e)) (others g q other old)
 ]
 
--- a free page is no region's newest, so all of these stay where it is drawn
+-- a free page is not the newest of any region, so taking it keeps the newest pages
 abbrev pub still-newest : (pages : Pages) (page h : ℕ) → pages.owner page ≡ None → (q : Home) → HasNewest pages q → HasNewest (drawn pages page h) q
 still-newest pages page h free q newest = record {
   page = newest.page;
@@ -110,7 +110,7 @@ still-chained pages page h free q chain = record {
 }
 
 module _ (s : StoreState) (pages : Pages) (h : ℕ) (r : Home) (named : lookup handle_of s.regions h ≡ Some r) (ordinary : h ≡ UNIQUE → ⊥) (size : ℕ) (some : 0 < size) where
-  -- in the newest page
+  -- allocation in the newest page
   pub paged-stays : (free : List ℕ) → IsPaged s pages free → (chain : HasChain pages r) → (mark_of r).filled + size ≤ PAGE_WORDS
       → IsPaged (made_in s h (block_in_page chain.newest.page (mark_of r).filled size)) (filled_to pages chain.newest.page ((mark_of r).filled + size)) free
   paged-stays free paged chain room = record {
@@ -148,7 +148,7 @@ module _ (s : StoreState) (pages : Pages) (h : ℕ) (r : Home) (named : lookup h
       moves : mark_of (with_block (block_in_page chain.newest.page (mark_of r).filled size) r) ≡ record { pages = (mark_of r).pages; filled = (mark_of r).filled + size }
       moves = mark-made r (block_in_page chain.newest.page (mark_of r).filled size) ∙ mark-stays (mark_of r) size room
 
-  -- at the start of a page that is drawn
+  -- allocation at the start of a new page
   pub paged-draws : (page : ℕ) (free : List ℕ) → IsPaged s pages (page ∷ free) → PAGE_WORDS < (mark_of r).filled + size → size ≤ PAGE_WORDS
       → IsPaged (made_in s h (block_in_page page 0 size)) (filled_to (drawn pages page h) page (0 + size)) free
   paged-draws page free paged past room = record {

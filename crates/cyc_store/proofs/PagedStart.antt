@@ -1,4 +1,4 @@
--- A new store is laid out in pages, and stays so where a region is opened and demand allows it.
+-- A new store has a layout in pages; opening a region that the demand allows keeps it.
 use Rattle.std.proofs.Common.{◌≡◌, ◌≢◌, ℕ, zero, suc, ◌+◌, ◌<◌, ◌≤◌, [], length, None, Some, refl, ap, ◌∙◌, arith}
 use Rattle.std.specs.List.{AllByRecursion}
 use Rattle.cyc_words.specs.Distinct.{IsDistinct}

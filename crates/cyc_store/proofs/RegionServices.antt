@@ -1,4 +1,4 @@
--- A store that is laid out stays so where a region is opened, a block is made in one, and one is closed.
+-- Opening a region, allocating a block in one, and closing one keep the layout of a store.
 use Rattle.std.proofs.Common.{◌≡◌, ◌≢◌, ℕ, ◌+◌, ◌*◌, ◌<◌, ◌≤◌, true, List, [], ◌∷◌, ◌++◌, length, Option, None, Some, refl, sym, ap, subst, ◌∙◌, inl, inr, arith}
 use Rattle.std.specs.Prelude.{◌⊎◌}
 use Rattle.std.specs.List.{AllByRecursion}
@@ -18,7 +18,7 @@ use Rattle.cyc_store.proofs.PagedOpening.{paged-opened}
 use Rattle.cyc_store.proofs.PagedClosing.{owner-kept, owner-stays, paged-closed}
 use Rattle.cyc_store.specs.Slots.{place_of, Layout, IsSlot, IsLiveSlot, IsDeadSlot, AreSlots, IsCovered, IsLaidOut}
 
--- ---- what does not depend on the words
+-- ---- facts that do not depend on the words
 
 pub paged-memory : (s : StoreState) (pages : Pages) (free : List ℕ) (memory : Memory) → IsPaged s pages free → IsPaged (record s { memory = memory }) pages free
 paged-memory s pages free memory paged = record {
@@ -31,7 +31,7 @@ paged-memory s pages free memory paged = record {
   chains = paged.chains;
 }
 
--- ---- slots where the pages of regions change
+-- ---- slots when the pages of regions change
 
 pub slots-moved : (unique : List Block) (classes : List ℕ) (l : Layout) (pages : Pages) (free : List ℕ) → AreSlots unique classes l
     → ((p : ℕ) → l.pages.owner p ≡ Some UNIQUE → pages.owner p ≡ Some UNIQUE) → ((p : ℕ) → pages.owner p ≡ Some UNIQUE → l.pages.owner p ≡ Some UNIQUE)
@@ -54,7 +54,7 @@ slots-moved unique classes l pages free slots stays back whole = record {
     all-moved c [] all = tt
     all-moved c (w ∷ words) all = (record { slot = moved c w all.0.slot; none = all.0.none }, all-moved c words all.1)
 
--- a free page is drawn for a region
+-- a free page is taken for a region
 slots-drawn : (unique : List Block) (classes : List ℕ) (l : Layout) (page h : ℕ) (free : List ℕ) → l.pages.owner page ≡ None → (h ≡ UNIQUE → ⊥)
     → AreSlots unique classes l → AreSlots unique classes (record l { pages = drawn l.pages page h; free = free })
 slots-drawn unique classes l page h free none ordinary slots = slots-moved unique classes l (drawn l.pages page h) free slots
@@ -75,7 +75,7 @@ slots-filled unique classes l page h words owner ordinary slots = slots-moved un
     (λ p owned. owned) (λ p owned. owned)
     (λ p owned. when_other p page words (l.pages.filled p) (λ e. ordinary (same_from_some (sym owner ∙ (ap l.pages.owner (sym e) ∙ owned)))) ∙ slots.whole p owned)
 
--- ---- opening
+-- ---- opening a region
 
 covered-append : (rs qs : List Home) (h x : ℕ) → IsCovered rs h x → IsCovered (rs ++ qs) h x
 covered-append rs qs h x old = record { block = old.block; at = found (lookup handle_of rs h) refl old.at; inside = old.inside }
@@ -104,7 +104,7 @@ opened-laid s l page rest h sort memory laid next ordinary sound = record {
     none-below : (n : ℕ) → n < 0 → ⊥
     none-below n less = omega (arith, less)
 
--- ---- a block in a region
+-- ---- allocating a block in a region
 
 module _ (rs : List Home) (h : ℕ) (r : Home) (named : lookup handle_of rs h ≡ Some r) (b : Block) where
   block-appended : (bs : List Block) (a : ℕ) (c : Block) → lookup address_of bs a ≡ Some c → lookup address_of (bs ++ b ∷ []) a ≡ Some c
@@ -141,7 +141,7 @@ block-covers page word size u low high = covers_from (block_in_page page word si
 
 module _ (s : StoreState) (l : Layout) (laid : IsLaidOut s l) (h : ℕ) (r : Home) (named : lookup handle_of s.regions h ≡ Some r) (ordinary : h ≡ UNIQUE → ⊥)
     (size : ℕ) (some : 0 < size) (memory : Memory) where
-  -- in the newest page
+  -- allocation in the newest page
   pub stays-laid : (chain : HasChain l.pages r) → (mark_of r).filled + size ≤ PAGE_WORDS
       → lookup address_of r.blocks (block_in_page chain.newest.page (mark_of r).filled size).address ≡ None
       → IsSound (record (made_in s h (block_in_page chain.newest.page (mark_of r).filled size)) { memory = memory })
@@ -175,7 +175,7 @@ module _ (s : StoreState) (l : Layout) (laid : IsLaidOut s l) (h : ℕ) (r : Hom
             (block-covers chain.newest.page (mark_of r).filled size word past below)))
       ]
 
-  -- at the start of a page that is drawn
+  -- allocation at the start of a new page
   pub draws-laid : (page : ℕ) (rest : List ℕ) → l.free ≡ page ∷ rest → PAGE_WORDS < (mark_of r).filled + size → size ≤ PAGE_WORDS
       → lookup address_of r.blocks (block_in_page page 0 size).address ≡ None
       → IsSound (record (made_in s h (block_in_page page 0 size)) { memory = memory })
@@ -207,9 +207,9 @@ module _ (s : StoreState) (l : Layout) (laid : IsLaidOut s l) (h : ℕ) (r : Hom
       least : (n : ℕ) → 0 ≤ n
       least n = omega arith
 
--- ---- closing
+-- ---- closing a region
 
--- a chain is put before the free pages, its oldest first
+-- the chain, oldest page first, is put before the free pages
 abbrev pub moved : (chain free : List ℕ) → List ℕ
 moved [] free = free
 moved (page ∷ chain) free = moved chain (page ∷ free)

@@ -1,4 +1,4 @@
--- What a store that is laid out answers: each call of the model is a call of the relation, with its answer.
+-- The answers of a store with a layout: each call of the page model is a call of the relation, with its answer.
 use Rattle.std.proofs.Common.{◌≡◌, ℕ, suc, ◌+◌, ◌^◌, ◌<◌, ◌≤◌, true, false, List, [], ◌∷◌, length, Option, None, Some, refl, sym, ap, subst, ◌∙◌, inl, inr, arith}
 use Rattle.std.specs.Prelude.{◌&&◌, nat_le, is_some}
 use Rattle.std.proofs.lemmas.Bool.{cases_Bool, cond-true, cond-false, le-leb, lt-leb, ltb-true, ltb-false}
@@ -23,7 +23,7 @@ serves-none s call c none allowed = subst (λ o. ServesBy s call o (answer s cal
 pub serves-some : (s : StoreState) (call : Call) (why : Refusal) → refusal s call ≡ Some why → Serves s call (Refused why) s
 serves-some s call why is = subst (λ o. ServesBy s call o (Refused why) s) (sym is) (refl, refl)
 
--- whether the demand afterwards exceeds the pages decides
+-- the call is refused as full exactly if the demand afterwards exceeds the pages
 pub full-none-within : (s : StoreState) (call : Call) → demand (served s call (any_choice s)) ≤ s.pages → full_at (is_full s call) ≡ None
 full-none-within s call few = elim (cases_Bool (is_full s call)) [
   | inl full ↦ absurd (clash s.pages (demand (served s call (any_choice s))) (ltb-true s.pages (demand (served s call (any_choice s))) full) few)
@@ -42,7 +42,7 @@ full-some-past s call past = elim (cases_Bool (is_full s call)) [
     clash : (p d : ℕ) → p < d → d ≤ p → ⊥
     clash p d less more = omega (arith, less, more)
 
--- ---- calls that name nothing, or ask for no size
+-- ---- calls with an invalid handle, address or size
 
 pub refuses-close : (s : StoreState) (h : ℕ) → names_dynamic (lookup handle_of s.regions h) ≡ false → Serves s (CloseDynamic h) (Refused BadHandle) s
 refuses-close s h not = serves-some s (CloseDynamic h) BadHandle (cond-false (names_dynamic (lookup handle_of s.regions h)) None (Some BadHandle) not)
@@ -51,7 +51,7 @@ pub refuses-close_to : (s : StoreState) (mark : ℕ) → lexical_count s.regions
 refuses-close_to s mark past = serves-some s (CloseTo mark) BadMark
     (cond-false (nat_le mark (lexical_count s.regions)) None (Some BadMark) (lt-leb mark (lexical_count s.regions) past))
 
--- ---- opening
+-- ---- opening a region
 
 module _ (s : StoreState) (l : Layout) (laid : IsLaidOut s l) where
   room-opens : (page : ℕ) (rest : List ℕ) → l.free ≡ page ∷ rest → (h : ℕ) (sort : Sort) → demand (opened s h sort) ≤ s.pages
@@ -72,7 +72,7 @@ module _ (s : StoreState) (l : Layout) (laid : IsLaidOut s l) where
   pub dynamic-full : l.free ≡ [] → Serves s OpenDynamic (Refused Full) s
   dynamic-full none = serves-some s OpenDynamic Full (full-some-past s OpenDynamic (full-opening s l.pages 0 Dynamic (subst (IsPaged s l.pages) none laid.paged)))
 
-  -- nothing but the blocks changes
+  -- the choice that changes only the blocks
   abbrev chosen : (handle address : ℕ) → Choice
   chosen handle address = record { handle = handle; address = address; memory = s.memory }
 
@@ -95,7 +95,7 @@ module _ (s : StoreState) (l : Layout) (laid : IsLaidOut s l) where
     pub sound-dynamic : IsSound (opened s h Dynamic)
     sound-dynamic = served-sound s OpenDynamic (chosen h 0) laid.sound (dynamic-none page rest next) allowed-dynamic
 
-  -- ---- closing
+  -- ---- closing a region
 
   pub serves-close : (h : ℕ) (r : Home) → lookup handle_of s.regions h ≡ Some r → is_dynamic r.sort ≡ true
       → Serves s (CloseDynamic h) Done (record s { regions = without handle_of s.regions h })
@@ -108,7 +108,7 @@ module _ (s : StoreState) (l : Layout) (laid : IsLaidOut s l) where
       (cond-true (nat_le mark (lexical_count s.regions)) None (Some BadMark) (le-leb mark (lexical_count s.regions) most))
       (record { may = tt; keeps = λ x k old new. refl; words = laid.sound.words })
 
-  -- ---- making
+  -- ---- allocating a block
 
   sized : (n : ℕ) → 1 ≤ n → n ≤ MOST_BLOCK_WORDS → is_size n ≡ true
   sized n least most = ap (λ a. a && nat_le n MOST_BLOCK_WORDS) (le-leb 1 n least) ∙ le-leb n MOST_BLOCK_WORDS most
@@ -116,7 +116,7 @@ module _ (s : StoreState) (l : Layout) (laid : IsLaidOut s l) where
   pub named-home : (h : ℕ) (r : Home) → (h ≡ UNIQUE → ⊥) → lookup handle_of s.regions h ≡ Some r → lookup handle_of (homes s) h ≡ Some r
   named-home h r ordinary named = lookup-there handle_of (record { handle = UNIQUE; sort = Uniques; blocks = s.unique }) s.regions h (λ e. ordinary (sym e)) ∙ named
 
-  -- a block that is asked for in a region that is open, with a size, is refused for want of pages alone
+  -- a valid request in an open region can be refused only for lack of pages
   pub making : (h n : ℕ) (r : Home) → lookup handle_of (homes s) h ≡ Some r → 1 ≤ n → n ≤ MOST_BLOCK_WORDS → refusal s (Allocate h n) ≡ full_at (is_full s (Allocate h n))
   making h n r named least most =
       cond-true (is_some (lookup handle_of (homes s) h)) _ (Some BadHandle) (ap is_some named)
@@ -191,9 +191,9 @@ module _ (s : StoreState) (l : Layout) (laid : IsLaidOut s l) where
     pub sound-unique : IsPlaced s.pages b × IsApart (homes s) b → demand (made_unique s b) ≤ s.pages → IsSound (made_unique s b)
     sound-unique may few = subst IsSound made-is_unique (served-sound s (Allocate UNIQUE n) (chosen 0 b.address) laid.sound (unique-none few) (allowed-unique may))
 
-  -- ---- freeing
+  -- ---- freeing a block
 
-  -- the words of the block that is freed may change
+  -- the words of the freed block may change
   module _ (a : ℕ) (b : Block) (there : lookup address_of s.unique a ≡ Some b) (memory : Memory) (words : AreWords memory)
       (keeps : (x : ℕ) (k : Holder) → holder (homes s) x ≡ Some k → holder (homes (record s { unique = without address_of s.unique a })) x ≡ Some k → memory x ≡ s.memory x) where
     freed-none : refusal s (Free a) ≡ None

@@ -1,4 +1,4 @@
--- What each service comes to: a store that is sound stays so, whatever it chooses.
+-- The result of each service: a sound store stays sound, whatever it chooses.
 use Rattle.std.proofs.Common.{◌≡◌, ℕ, suc, ◌+◌, ◌-◌, ◌*◌, ◌/◌, ◌<◌, ◌≤◌, ◌%◌, max, Bool, true, false, List, [], ◌∷◌, ◌++◌, length, Option, None, Some, refl, sym, ap, subst, ◌∙◌, inl, inr, arith}
 use Rattle.std.specs.Prelude.{◌==◌, ◌⊎◌, nat_le, is_some, if◌then◌else◌, slice_index}
 use Rattle.std.proofs.Math.Nat.{add-mul-mod_self_left, div-eq_of_lt-le, max-eq_left}
@@ -19,7 +19,7 @@ use Rattle.cyc_store.proofs.LookupLemmas.{when_other, IsPart, is_kept, IsPart-wi
 use Rattle.cyc_store.proofs.HolderLemmas.{covers_from, covers_first, AreSound-part, IsPart-down_to, AreSound-opened, AreSound-made, AreSound-freed}
 use Rattle.cyc_store.proofs.CountLemmas.{blocks-some, class_of-bound, raised-same, raised-other, raised-length, raised-more, live_in-append_same, AreEnough-made, AreEnough-part, demand-part, sizes-opened}
 
--- ---- what a refusal says
+-- ---- the meaning of a refusal
 
 full-none : (b : Bool) → full_at b ≡ None → b ≡ false
 full-none true none = absurd (let e : Some Full ≡ None = none in cc)
@@ -32,7 +32,7 @@ then-none false o why none = absurd (let e : Some why ≡ None = none in cc)
 within : (s : StoreState) (call : Call) → is_full s call ≡ false → demand (served s call (any_choice s)) ≤ s.pages
 within s call not = ltb-false s.pages (demand (served s call (any_choice s))) not
 
--- ---- a block that is made in one of two ways
+-- ---- a block that is allocated in one of two ways
 
 module _ (s : StoreState) (h : ℕ) (b : Block) where
   pub made-unique : h ≡ UNIQUE → made s h b ≡ made_unique s b
@@ -71,7 +71,7 @@ demand-made s h size a c = elim (cases_eq h UNIQUE) [
       ∙ (ap (λ l. demand_of l s.classes) (sizes-made size a c s.regions h) ∙ sym (ap demand (made-in s h (record { address = c; size = size }) other)))
 ]
 
--- Demand goes by sizes alone.
+-- The demand depends only on sizes.
 pub demand-served : (s : StoreState) (call : Call) (c d : Choice) → demand (served s call c) ≡ demand (served s call d)
 demand-served s OpenLexical c d = ap (λ l. demand_of l s.classes) (sizes-opened s.regions c.handle d.handle Lexical)
 demand-served s (CloseTo mark) c d = refl
@@ -108,7 +108,7 @@ start-sound pages memory words few = record {
     least : (c m n : ℕ) → m ≡ 0 → m ≤ n
     least c m n none = omega (arith, none)
 
--- ---- a sound store stays so
+-- ---- soundness is kept
 
 opened-sound : (s : StoreState) (h : ℕ) (sort : Sort) (memory : Memory) → IsSound s → lookup handle_of (homes s) h ≡ None → AreWords memory
     → demand (opened s h sort) ≤ s.pages → IsSound (record (opened s h sort) { memory = memory })
@@ -135,7 +135,7 @@ closed-sound s rs memory sound part words = record {
     fewer : (k m n : ℕ) → k ≤ m → m ≤ n → k ≤ n
     fewer k m n first second = omega (arith, first, second)
 
--- no live unique block has the address of a new one
+-- no live unique block has the address of a new block
 address-fresh : (s : StoreState) (b : Block) → IsSound s → IsPlaced s.pages b → IsApart (homes s) b → lookup address_of s.unique b.address ≡ None
 address-fresh s b sound placed apart = elim (none_or_some (lookup address_of s.unique b.address)) [
   | inl none ↦ none
@@ -224,7 +224,7 @@ served-sound s (Allocate h n) c sound none allowed =
     (subst (λ n. n ≤ s.pages) (demand-served s (Allocate h n) (any_choice s) c) (within s (Allocate h n) (full-none (is_full s (Allocate h n)) fits)))
 served-sound s (Free f) c sound none allowed = freed-sound s f c.memory sound allowed.words
 
--- ---- the relation
+-- ---- the relation of the services
 
 pub serves-sound : (s t : StoreState) (call : Call) (a : Answer) → IsSound s → Serves s call a t → IsSound t
 serves-sound s t call a sound serves = by (refusal s call) refl serves
@@ -241,7 +241,7 @@ not-refused s (CloseDynamic h) c why e = cc
 not-refused s (Allocate h n) c why e = cc
 not-refused s (Free f) c why e = cc
 
--- a refusal is the one that the rules name, and changes nothing
+-- a refusal is the one that the rules determine, and changes nothing
 pub refused-exact : (s t : StoreState) (call : Call) (why : Refusal) → Serves s call (Refused why) t → (refusal s call ≡ Some why) × (t ≡ s)
 refused-exact s t call why serves = by (refusal s call) serves
   where
@@ -263,7 +263,7 @@ served-pages s (CloseDynamic h) c = refl
 served-pages s (Allocate h n) c = made-pages s h (block_of h n c)
 served-pages s (Free f) c = refl
 
--- a store has as many pages as it was made with
+-- the number of pages of a store never changes
 pub serves-pages : (s t : StoreState) (call : Call) (a : Answer) → Serves s call a t → t.pages ≡ s.pages
 serves-pages s t call a serves = by (refusal s call) serves
   where
@@ -299,7 +299,7 @@ serves-classes s t call a c sound serves = by (refusal s call) serves
     by None (choice, _, _, is) = subst (λ (u : StoreState). slice_index s.classes c ≤ slice_index u.classes c) (sym is) (served-classes s call choice c sound.classes)
     by (Some why) (_, is) = subst (λ (u : StoreState). slice_index s.classes c ≤ slice_index u.classes c) (sym is) (at_most_itself (slice_index s.classes c))
 
--- A call leaves the pages of a class, or raises them to what its live blocks ask for.
+-- A call keeps the pages of a class, or raises them to the number that its live blocks need.
 made-greatest : (s : StoreState) (h : ℕ) (b : Block) (c : ℕ) → length s.classes ≡ 11
     → (slice_index (made s h b).classes c ≡ slice_index s.classes c)
     ⊎ (slice_index (made s h b).classes c ≡ max (slice_index s.classes c) (pages_for c (live_in c (made s h b).unique)))
@@ -331,7 +331,7 @@ served-greatest s (CloseDynamic h) choice c eleven = inl refl
 served-greatest s (Allocate h n) choice c eleven = made-greatest s h (block_of h n choice) c eleven
 served-greatest s (Free f) choice c eleven = inl refl
 
--- The pages of a class are the greatest number that its live blocks asked for so far.
+-- The pages of a class are the greatest number that its live blocks needed so far.
 pub serves-greatest : (s t : StoreState) (call : Call) (a : Answer) (c : ℕ) → c ≤ greatest_class → IsSound s → Serves s call a t
     → slice_index t.classes c ≡ max (slice_index s.classes c) (pages_for c (live_in c t.unique))
 serves-greatest s t call a c bound sound serves = elim (by (refusal s call) serves) [
@@ -348,7 +348,7 @@ serves-greatest s t call a c bound sound serves = elim (by (refusal s call) serv
         (sym is) (served-greatest s call choice c sound.classes)
     by (Some why) (_, is) = inl (ap (λ (u : StoreState). slice_index u.classes c) is)
 
--- ---- full
+-- ---- full stores
 
 full-some : (b : Bool) → full_at b ≡ Some Full → b ≡ true
 full-some true e = refl
@@ -365,7 +365,7 @@ then-full : (b : Bool) (o : Option Refusal) (why : Refusal) → (why ≡ Full �
 then-full true o why other e = e
 then-full false o why other e = absurd (other (same_from_some e))
 
--- a store is full only where the demand would come to more than its pages
+-- a store is full only if the demand would exceed its pages
 pub full-past : (s : StoreState) (call : Call) → refusal s call ≡ Some Full → s.pages < demand (served s call (any_choice s))
 full-past s OpenLexical e = past s OpenLexical (full-some (is_full s OpenLexical) e)
 full-past s (CloseTo mark) e = absurd (only-why (nat_le mark (lexical_count s.regions)) BadMark (λ k. cc) e)
@@ -377,7 +377,7 @@ full-past s (Allocate h n) e =
     past s (Allocate h n) (full-some (is_full s (Allocate h n)) (then-full (is_size n) (full_at (is_full s (Allocate h n))) BadSize (λ k. cc) rest))
 full-past s (Free f) e = absurd (only-why (is_some (lookup address_of s.unique f)) NotABlock (λ k. cc) e)
 
--- what is not refused comes to a demand of at most the pages
+-- a call that is not refused leads to a demand of at most the pages
 pub fits : (s : StoreState) (call : Call) → IsSound s → refusal s call ≡ None → demand (served s call (any_choice s)) ≤ s.pages
 fits s OpenLexical sound none = within s OpenLexical (full-none (is_full s OpenLexical) none)
 fits s (CloseTo mark) sound none = (closed-sound s (down_to mark s.regions) s.memory sound (IsPart-down_to mark s.regions) sound.words).demand
@@ -391,7 +391,7 @@ fits s (Free f) sound none = sound.demand
 
 -- ---- blocks and their words
 
--- two live blocks that share an address are one
+-- two live blocks that share an address are equal
 pub one_block : (s : StoreState) → IsSound s → (g h first other x : ℕ) (b c : Block) → block_at (homes s) g first ≡ Some b → block_at (homes s) h other ≡ Some c
     → covers b x ≡ true → covers c x ≡ true → (g ≡ h) × (b ≡ c)
 one_block s sound g h first other x b c at there inside also =
@@ -399,7 +399,7 @@ one_block s sound g h first other x b c at there inside also =
     same_from_some (sym (sound.regions.apart g first x b at inside) ∙ sound.regions.apart h other x c there also) in
     (ap (λ (k : Holder). k.handle) e, ap (λ (k : Holder). k.block) e)
 
--- each word of a live block is there
+-- each word of a live block can be read
 pub word-live : (s : StoreState) → IsSound s → (h first i : ℕ) (b : Block) → block_at (homes s) h first ≡ Some b → i < b.size
     → word_at s (b.address + 4 * i) ≡ Some (s.memory (b.address + 4 * i))
 word-live s sound h first i b at below =
@@ -409,7 +409,7 @@ word-live s sound h first i b at below =
     (add-mul-mod_self_left b.address 4 i ∙ placed.aligned)
     ∙ ap (λ o. word_in o s.memory (b.address + 4 * i)) (sound.regions.apart h first (b.address + 4 * i) b at inside)
 
--- what is live before and after a call keeps its words
+-- whatever is live before and after a call keeps its words
 pub serves-words : (s t : StoreState) (call : Call) (a : Answer) (x : ℕ) (h : Holder) → Serves s call a t
     → holder (homes s) x ≡ Some h → holder (homes t) x ≡ Some h → word_at t x ≡ word_at s x
 serves-words s t call a x h serves here there =
@@ -422,7 +422,7 @@ serves-words s t call a x h serves here there =
         ap (λ (u : StoreState). u.memory x) is ∙ allowed.keeps x h here (subst (λ (u : StoreState). holder (homes u) x ≡ Some h) is there)
     by (Some why) (_, is) = ap (λ (u : StoreState). u.memory x) is
 
--- ---- words that are written
+-- ---- writing a word
 
 has_saved-sound : (s : StoreState) (x w : ℕ) (o : Option ℕ) → IsSound s → IsWord w → IsSound (has_saved s x w o)
 has_saved-sound s x w None sound word = sound
@@ -453,7 +453,7 @@ word_in-same : (o : Option Holder) (m n : Memory) (x : ℕ) → m x ≡ n x → 
 word_in-same None m n x same = refl
 word_in-same (Some h) m n x same = ap (λ w. Some w) same
 
--- the word that was written is read
+-- the written word is read back
 pub saved-same : (s : StoreState) (x w old : ℕ) → word_at s x ≡ Some old → word_at (saved s x w) x ≡ Some w
 saved-same s x w old found =
     ap (λ o. word_at (has_saved s x w o) x) found

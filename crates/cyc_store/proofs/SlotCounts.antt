@@ -1,4 +1,4 @@
--- How many pages a class of unique blocks asks for, where its slots are counted.
+-- The pages that a class of unique blocks needs, by counting its slots.
 use Rattle.std.proofs.Common.{◌≡◌, ℕ, zero, suc, ◌+◌, ◌-◌, ◌*◌, ◌/◌, ◌^◌, ◌<◌, ◌≤◌, max, List, [], ◌∷◌, length, None, Some, refl, sym, ap, subst, ◌∙◌, inl, inr, arith}
 use Rattle.std.specs.Prelude.{slice_index, set}
 use Rattle.std.proofs.Math.Nat.{mul-le-mul_right, suc-mul, div-mul-le_self, mul-div_cancel, max-eq_left, max-eq_right}
@@ -26,7 +26,7 @@ class-power (suc (suc (suc (suc (suc (suc (suc (suc (suc zero))))))))) bound = r
 class-power (suc (suc (suc (suc (suc (suc (suc (suc (suc (suc zero)))))))))) bound = refl
 class-power (suc (suc (suc (suc (suc (suc (suc (suc (suc (suc (suc class))))))))))) bound = absurd (omega (arith, bound))
 
--- so many blocks of a class fit so many pages
+-- this many blocks of a class fit into this many pages
 pub pages-within : (class n pages : ℕ) → class ≤ greatest_class → n ≤ pages * blocks_in_page class → pages_for class n ≤ pages
 pages-within class n pages bound few = below (blocks_in_page class) (blocks-some class bound) few
   where
@@ -40,7 +40,7 @@ pages-within class n pages bound few = below (blocks_in_page class) (blocks-some
       | inr fits ↦ fits
     ]
 
--- one block more than fit them asks for one page more
+-- one block more than fit needs one more page
 pub pages-past : (class n pages : ℕ) → class ≤ greatest_class → n ≡ pages * blocks_in_page class → pages_for class (suc n) ≡ suc pages
 pages-past class n pages bound all = above (blocks_in_page class) (blocks-some class bound) all
   where
@@ -50,7 +50,7 @@ pages-past class n pages bound all = above (blocks_in_page class) (blocks-some c
         let whole : suc n + (k - 1) ≡ suc pages * k = omega (arith, is, next, some) in
         ap (λ x. x / k) whole ∙ mul-div_cancel (suc pages) some
 
--- the classes stay where there is room
+-- the classes are unchanged if there is an empty slot
 pub raised-fits : (classes : List ℕ) (class n rest : ℕ) → class ≤ greatest_class → suc n + rest ≡ slice_index classes class * blocks_in_page class
     → raised classes class (suc n) ≡ classes
 raised-fits classes class n rest bound count =
@@ -60,7 +60,7 @@ raised-fits classes class n rest bound count =
     least : (m r p : ℕ) → m + r ≡ p → m ≤ p
     least m r p e = omega (arith, e)
 
--- and where there is none, its class has one page more
+-- without an empty slot, the class needs one more page
 pub raised-past : (classes : List ℕ) (class n : ℕ) → class ≤ greatest_class → n ≡ slice_index classes class * blocks_in_page class
     → raised classes class (suc n) ≡ set classes class (suc (slice_index classes class))
 raised-past classes class n bound all =
@@ -84,7 +84,7 @@ demand-set (sizes ∷ regions) classes class below =
     let rest : demand_of regions (set classes class (suc (slice_index classes class))) ≡ suc (demand_of regions classes) = demand-set regions classes class below in
     omega (arith, rest)
 
--- ---- a block less
+-- ---- removing a block
 
 without-missing : (bs : List Block) (a : ℕ) → lookup address_of bs a ≡ None → without address_of bs a ≡ bs
 without-missing [] a none = refl

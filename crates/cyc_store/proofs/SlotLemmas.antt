@@ -1,4 +1,4 @@
--- Slots of unique blocks are apart, and which words of a store that is laid out are live.
+-- Slots of unique blocks are disjoint, and the live words of a store with a layout.
 use Rattle.std.proofs.Common.{◌≡◌, ℕ, ◌+◌, ◌*◌, ◌^◌, ◌<◌, ◌≤◌, true, List, [], ◌∷◌, Option, None, Some, refl, sym, ap, subst, ◌∙◌, inl, inr, arith}
 use Rattle.std.proofs.lemmas.Bool.{cases_Bool}
 use Rattle.std.proofs.lemmas.Nat.{pow_pos}
@@ -14,7 +14,7 @@ use Rattle.cyc_store.specs.Pages.{IsLaid}
 use Rattle.cyc_store.proofs.PageLemmas.{covers_bounds, holder-laid}
 use Rattle.cyc_store.specs.Slots.{place_of, Layout, slot_block, IsSlot, IsLiveSlot, IsCovered, IsLaidOut}
 
--- ---- arithmetic of slots
+-- ---- arithmetic on slots
 
 page-one : (base p q a b m n v w x : ℕ) → v ≡ 1024 * p + a → w ≡ 1024 * q + b → base + 4 * v ≤ x → x < base + 4 * v + 4 * m
     → base + 4 * w ≤ x → x < base + 4 * w + 4 * n → a + m ≤ 1024 → b + n ≤ 1024 → p ≡ q
@@ -48,9 +48,9 @@ module _ (owner : ℕ → Option ℕ) (class_at : ℕ → ℕ) where
       (offset-below STORE_BASE other.page one.page (other.number * 2 ^ d) (one.number * 2 ^ c) (2 ^ d) (2 ^ c) w v x (sym pages) other.at one.at also_low high (sym sizes)))) in
       (classes, words-one one.page other.page (one.number * 2 ^ c) (other.number * 2 ^ d) v w one.at other.at pages (ap (λ n. n * 2 ^ c) numbers ∙ sym moved))
 
--- ---- blocks that are found
+-- ---- lookups of blocks
 
--- a block is found by its first address where it is found by any
+-- a block found by any of its addresses is found by its first address
 pub holder_in-lookup : (h : ℕ) (bs : List Block) (x : ℕ) (k : Holder) → AreDistinct address_of bs → holder_in h bs x ≡ Some k
     → lookup address_of bs k.block.address ≡ Some k.block
 holder_in-lookup h [] x k distinct found = absurd (let e : None ≡ Some k = found in cc)
@@ -70,10 +70,10 @@ holder-unique s x k sound found is = elim (or_else-cases (holder_in UNIQUE s.uni
   | inr there ↦ absurd (holder-named s.regions x k there.1 (subst (λ n. lookup handle_of s.regions n ≡ None) (sym is) sound.regions.handles.0))
 ]
 
--- ---- which words are live
+-- ---- live words
 
 module _ (s : StoreState) (l : Layout) (laid : IsLaidOut s l) where
-  -- what has an address of a slot is a live block that fills it
+  -- a live block with an address of a slot fills the slot
   slot-holder : (c w x : ℕ) (k : Holder) → IsSlot l.pages.owner l.class c w → covers (slot_block c w) x ≡ true → holder (homes s) x ≡ Some k
       → k.block ≡ slot_block c w
   slot-holder c w x k slot inside found =
@@ -96,7 +96,7 @@ module _ (s : StoreState) (l : Layout) (laid : IsLaidOut s l) where
       page-same base p q a b m n v y x v_is y_is low high also_low also_high fits also_fits =
           omega (arith, v_is, y_is, low, high, also_low, also_high, fits, also_fits)
 
-  -- no block is in a slot where none begins
+  -- if no block begins at a slot, the slot contains no block
   pub slot-apart : (c w : ℕ) → IsSlot l.pages.owner l.class c w → lookup address_of s.unique (place_of w) ≡ None → IsApart (homes s) (slot_block c w)
   slot-apart c w slot none x inside = elim (none_or_some (holder (homes s) x)) [
     | inl nothing ↦ nothing
@@ -154,7 +154,7 @@ module _ (s : StoreState) (l : Layout) (laid : IsLaidOut s l) where
             found.inside,
       )
 
-  -- and what is not below it, or is of a page that is free, is not
+  -- a word past the fill mark, or of a free page, is not live
   pub past-dead : (page word : ℕ) → word < PAGE_WORDS → ((handle : ℕ) → l.pages.owner page ≡ Some handle → l.pages.filled page ≤ word)
       → holder (homes s) (place_of (PAGE_WORDS * page + word)) ≡ None
   past-dead page word small past = elim (none_or_some (holder (homes s) (place_of (PAGE_WORDS * page + word)))) [

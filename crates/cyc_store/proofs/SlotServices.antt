@@ -1,4 +1,4 @@
--- A store that is laid out stays so where a unique block fills a slot that none was in, and where one is freed.
+-- Allocating a unique block in an empty slot, and freeing one, keep the layout of a store.
 use Rattle.std.proofs.Common.{◌≡◌, ◌≢◌, ℕ, suc, ◌+◌, ◌*◌, ◌^◌, ◌<◌, ◌≤◌, true, List, [], ◌∷◌, ◌++◌, length, Option, Some, refl, sym, ap, subst, ◌∙◌, inl, inr, arith}
 use Rattle.std.specs.Prelude.{◌==◌, if◌then◌else◌}
 use Rattle.std.specs.List.{AllByRecursion}
@@ -21,11 +21,11 @@ use Rattle.cyc_store.specs.Slots.{place_of, Layout, slot_block, IsSlot, IsLiveSl
 use Rattle.cyc_store.proofs.SlotCounts.{class-power, raised-fits, live_in-without_same, live_in-without_other}
 use Rattle.cyc_store.proofs.SlotLemmas.{slots-one, slot-apart}
 
--- the dead slots of one class are changed
+-- the layout with the dead slots of one class replaced
 abbrev pub with_dead : Layout → (class : ℕ) → List ℕ → Layout
 with_dead l class words = record l { dead = λ (other : ℕ). if other == class then words else l.dead other }
 
--- ---- where a slot lies
+-- ---- the place of a slot
 
 regroup_page : (base p u w : ℕ) → w ≡ 1024 * p + u → base + 4 * w ≡ base + 4 * (1024 * p) + 4 * u
 regroup_page base p u w is = omega (arith, is)
@@ -45,7 +45,7 @@ slot-lies owner class_at c w slot = record {
 pub same-words : (v w : ℕ) → place_of v ≡ place_of w → v ≡ w
 same-words v w e = omega (arith, e)
 
--- a slot has its first address
+-- the first address of a slot belongs to it
 pub first-in : (c w : ℕ) → covers (slot_block c w) (place_of w) ≡ true
 first-in c w = covers_from (slot_block c w) (place_of w) (starts (place_of w)) (within (place_of w) (2 ^ c) (pow_pos c))
   where
@@ -55,13 +55,13 @@ first-in c w = covers_from (slot_block c w) (place_of w) (starts (place_of w)) (
     within : (n z : ℕ) → 0 < z → n < n + 4 * z
     within n z some = omega (arith, some)
 
--- slots of two classes do not begin at one word
+-- slots of different classes do not begin at one word
 classes-apart : (owner : ℕ → Option ℕ) (class_at : ℕ → ℕ) (c d w : ℕ) → IsSlot owner class_at c w → IsSlot owner class_at d w → c ≡ d
 classes-apart owner class_at c d w one other = (slots-one owner class_at c d w w (place_of w) one other (first-in c w) (first-in d w)).0
 
--- ---- what stays of pages where the unique blocks change
+-- ---- page invariants under a change of the unique blocks
 
--- the regions, the pages and the demand stay
+-- the regions, the pages and the demand are unchanged
 pub paged-unique : (s : StoreState) (pages : Pages) (free : List ℕ) (unique : List Block) (classes : List ℕ) (memory : Memory) → IsPaged s pages free
     → AreLaidIn pages UNIQUE unique → demand_of (sizes_in s.regions) classes ≡ demand s
     → IsPaged (record s { unique = unique; classes = classes; memory = memory }) pages free
@@ -75,13 +75,13 @@ paged-unique s pages free unique classes memory paged laid same = record {
   chains = paged.chains;
 }
 
--- ---- a block is made in a dead slot
+-- ---- allocating a block in a dead slot
 
 module _ (s : StoreState) (l : Layout) (laid : IsLaidOut s l) (c w : ℕ) (bound : c ≤ greatest_class) (rest : List ℕ) (next : l.dead c ≡ w ∷ rest) where
   first-dead : IsDeadSlot s.unique l.pages.owner l.class c w
   first-dead = (subst (AllByRecursion (IsDeadSlot s.unique l.pages.owner l.class c)) next (laid.slots.dead c bound)).0
 
-  -- there is a place for it
+  -- the block lies in the store's address range
   pub dead-placed : IsPlaced s.pages (slot_block c w)
   dead-placed =
       let dead : IsDeadSlot s.unique l.pages.owner l.class c w = first-dead in
@@ -94,7 +94,7 @@ module _ (s : StoreState) (l : Layout) (laid : IsLaidOut s l) (c w : ℕ) (bound
   pub dead-apart : IsApart (homes s) (slot_block c w)
   dead-apart = slot-apart s l laid c w first-dead.slot first-dead.none
 
-  -- and the classes stay as they are
+  -- the pages of the classes are unchanged
   pub dead-classes : raised s.classes (class_of (2 ^ c)) (suc (live_in (class_of (2 ^ c)) s.unique)) ≡ s.classes
   dead-classes =
       ap (λ n. raised s.classes n (suc (live_in n s.unique))) (class-power c bound)
@@ -107,7 +107,7 @@ module _ (s : StoreState) (l : Layout) (laid : IsLaidOut s l) (c w : ℕ) (bound
   pub dead-demand : demand (made_unique s (slot_block c w)) ≡ demand s
   dead-demand = ap (demand_of (sizes_in s.regions)) dead-classes
 
-  -- the slots afterwards
+  -- the slots after the allocation
   pub dead-slots : AreSlots (s.unique ++ slot_block c w ∷ []) s.classes (with_dead l c rest)
   dead-slots = record {
     bound = laid.slots.bound;
@@ -194,7 +194,7 @@ module _ (s : StoreState) (l : Layout) (laid : IsLaidOut s l) (c w : ℕ) (bound
     slots = subst (λ k. AreSlots (s.unique ++ slot_block c w ∷ []) k (with_dead l c rest)) (sym dead-classes) dead-slots;
   }
 
--- ---- a block is freed
+-- ---- freeing a block
 
 module _ (s : StoreState) (l : Layout) (laid : IsLaidOut s l) (c w : ℕ) (bound : c ≤ greatest_class) (slot : IsSlot l.pages.owner l.class c w)
     (b : Block) (there : lookup address_of s.unique (place_of w) ≡ Some b) where

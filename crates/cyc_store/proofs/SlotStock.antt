@@ -1,4 +1,4 @@
--- A store that is laid out stays so where a free page is cut into slots of a class.
+-- Cutting a free page into slots of a class keeps the layout of a store.
 use Rattle.std.proofs.Common.{◌≡◌, ◌≢◌, ℕ, zero, suc, ◌+◌, ◌*◌, ◌^◌, ◌<◌, ◌≤◌, List, [], ◌∷◌, length, None, Some, refl, sym, ap, subst, ◌∙◌, inl, inr, arith, length-set, get_or-set_same, get_or-set_other, zero-add}
 use Rattle.std.specs.Prelude.{◌==◌, if◌then◌else◌, slice_index, set}
 use Rattle.std.specs.List.{AllByRecursion}
@@ -46,7 +46,7 @@ slots-apart size word (suc count) some = (slots-above size (word + size) count w
 abbrev pub stocked_pages : Pages → (page : ℕ) → Pages
 stocked_pages pages page = filled_to (drawn pages page UNIQUE) page PAGE_WORDS
 
--- a free page is cut into slots, and no block is in any of them
+-- the layout after a free page was cut into slots, all of which are empty
 abbrev pub stocked : Layout → (page : ℕ) → (rest : List ℕ) → (class : ℕ) → Layout
 stocked l page rest class = record {
   pages = stocked_pages l.pages page;

@@ -1,4 +1,4 @@
--- The table of pages, a page at a time.
+-- The table of pages, one page at a time.
 use Rattle.std.proofs.Common.{◌≡◌, ℕ, zero, suc, ◌+◌, ◌-◌, ◌<◌, ◌≤◌, Bool, List, length, sym, ap, ◌∙◌, inl, inr, arith}
 use Rattle.std.specs.Prelude.{◌⊎◌, ◌&&◌, nat_le, nat_lt, slice_index_or, set}
 use Rattle.std.proofs.lemmas.Bool.{and_right, cond-true, cond-false, le-leb, lt-leb, le-ltb, lt-ltb}
@@ -7,7 +7,7 @@ use Rattle.cyc_store.specs.declared.row.Row.{Row}
 use Rattle.cyc_store.specs.declared.row.TheConstants.{NONE}
 use Rattle.cyc_store.specs.Table.{free_row, row_at, given_rows, given_free, AreThere, marked_between}
 
--- so many pages of a chain are left to be freed
+-- this many pages of a chain are still to be freed
 pub record IsGiving (rows : List Row) (page left free : ℕ) (first : List Row) (newest count none : ℕ) : Type 0 where
   pub there : AreThere rows page left free
   pub rows_are : given_rows rows page left free ≡ given_rows first newest count none
@@ -25,11 +25,11 @@ giving-step rows page (suc left) free first newest count none giving some =
     let less : suc left - 1 ≡ left = omega arith in
     rw less (record { there = giving.there.1; rows_are = giving.rows_are; free_is = giving.free_is })
 
--- what is read at a page that is there
+-- the row read for an existing page
 pub row_at-read : (rows : List Row) (page : ℕ) (r : Row) → page < length rows → r ≡ slice_index_or rows page r → row_at rows page ≡ r
 row_at-read rows page r inside is = get_or_default rows page (free_row NONE) r inside ∙ sym is
 
--- ---- marks from one on
+-- ---- marks from an index on
 
 pub marked-in : (old : ℕ → Bool) (first count : ℕ) (mark : Bool) (word : ℕ) → first ≤ word → word < first + count → marked_between old first count mark word ≡ mark
 marked-in old first count mark word low high =

@@ -1,4 +1,4 @@
--- A table keeps its layout where the chain of a region that is closed is freed, one page after another.
+-- Freeing the chain of a closed region, page by page, keeps the table's layout.
 use Rattle.std.proofs.Common.{◌≡◌, ◌≢◌, ℕ, zero, suc, ◌-◌, ◌<◌, List, [], ◌∷◌, ◌++◌, length, Option, None, Some, refl, sym, ap, subst, ◌∙◌, inl, inr, arith, get_or-set_same, get_or-set_other, length-set}
 use Rattle.std.specs.Prelude.{◌⊎◌, set}
 use Rattle.std.specs.List.{AllByRecursion}
@@ -49,7 +49,7 @@ moved-append : (xs ys zs : List ℕ) → moved xs (ys ++ zs) ≡ moved xs ys ++ 
 moved-append [] ys zs = refl
 moved-append (x ∷ xs) ys zs = moved-append xs (x ∷ ys) zs
 
--- ---- a chain is freed
+-- ---- freeing a chain
 
 pub record IsGone (r : Row) : Type 0 where
   pub filled : r.filled ≡ 0
@@ -119,7 +119,7 @@ frees rows page (suc count) free (x ∷ chain) given is linked distinct below aw
         record { filled = ap (λ (r : Row). r.filled) is; role = ap (λ (r : Row). r.role) is }
     first_or_rest p (inr which) rest = rest.gone p which
 
--- ---- a region is closed
+-- ---- closing a region
 
 module _ (t : Table) (lexicals : List ℕ) (classes : ℕ → ClassSlots) (b : Blocks) (l : Layout) (tied : IsTied t lexicals classes b l)
     (h : ℕ) (r : Home) (named : lookup handle_of b.regions h ≡ Some r) (ordinary : h ≡ UNIQUE → ⊥) (rooted : IsRooted t.row l.pages r)
@@ -150,7 +150,7 @@ module _ (t : Table) (lexicals : List ℕ) (classes : ℕ → ClassSlots) (b : B
   halves : (m n : ℕ) → handle_of_page m ≡ handle_of_page n → m ≡ n
   halves m n e = omega (arith, e)
 
-  -- no other region has a page of this one as its first
+  -- no other region has a page of this region as its first page
   rootless : (p : ℕ) → l.pages.owner p ≡ Some h → lookup handle_of (without handle_of b.regions h) (handle_of_page p) ≡ None
   rootless p owned = elim (cases_eq (handle_of_page p) h) [
     | inl same ↦ ap (lookup handle_of (without handle_of b.regions h)) same ∙ lookup-without handle_of b.regions h
@@ -164,7 +164,7 @@ module _ (t : Table) (lexicals : List ℕ) (classes : ℕ → ClassSlots) (b : B
     ]
   ]
 
-  -- the first page has the region's handle
+  -- the first page belongs to the region with its handle
   root-owned : (p : ℕ) → handle_of_page p ≡ h → l.pages.owner p ≡ Some h
   root-owned p same =
       let root : rooted.root ≡ p = halves rooted.root p (sym rooted.handle ∙ (handle-is ∙ sym same)) in

@@ -1,4 +1,4 @@
--- Chains of a table of pages, and a page that is taken from the free ones.
+-- Chains of a table of pages, and taking a free page.
 use Rattle.std.proofs.Common.{◌≡◌, ◌≢◌, ℕ, suc, ◌-◌, ◌<◌, ◌≤◌, List, [], ◌∷◌, ◌++◌, length, refl, sym, ap, subst, ◌∙◌, inl, inr, arith}
 use Rattle.std.specs.Prelude.{◌⊎◌, ◌==◌, if◌then◌else◌}
 use Rattle.std.specs.List.{AllByRecursion}
@@ -14,20 +14,20 @@ use Rattle.cyc_store.specs.declared.row.TheConstants.{NONE}
 use Rattle.cyc_store.specs.declared.row.ClassSlots.{ClassSlots}
 use Rattle.cyc_store.proofs.LookupLemmas.{when_other}
 
--- ---- chains
+-- ---- chains of pages
 
--- a chain stays where its elements name what they named
+-- a chain is unchanged if the links of its elements are
 pub chain-also : (next also : ℕ → ℕ) (first : ℕ) (xs : List ℕ) → AllByRecursion (λ x. also x ≡ next x) xs → IsChain next first xs → IsChain also first xs
 chain-also next also first [] all linked = linked
 chain-also next also first (x ∷ xs) all linked = (linked.0, chain-also next also (also x) xs all.1 (subst (λ n. IsChain next n xs) (sym all.0) linked.1))
 
--- what is kept away from a page does not see that its row changes
+-- changing the row of a page does not affect elements different from that page
 pub all-away : (row : ℕ → Row) (page : ℕ) (r : Row) (xs : List ℕ) → AllByRecursion (λ x. page ≢ x) xs
     → AllByRecursion (λ x. (if x == page then r else row x).next ≡ (row x).next) xs
 all-away row page r [] away = tt
 all-away row page r (x ∷ xs) away = (ap (λ (y : Row). y.next) (when_other x page r (row x) (λ e. away.0 (sym e))), all-away row page r xs away.1)
 
--- ---- a page is taken
+-- ---- taking a page
 
 module _ (t : Table) (lexicals : List ℕ) (classes : ℕ → ClassSlots) (b : Blocks) (l : Layout) (tied : IsTied t lexicals classes b l) where
   below-none : t.count < NONE
@@ -36,7 +36,7 @@ module _ (t : Table) (lexicals : List ℕ) (classes : ℕ → ClassSlots) (b : B
       few : (n m : ℕ) → n ≤ m → m ≤ 65536 → n < 4294967295
       few n m first second = omega (arith, first, second)
 
-  -- where no page that was used is free, the free ones are those that were never used
+  -- if no used page is free, the free pages are those that were never used
   pub all-fresh : t.count ≤ t.free → l.free ≡ numbers_from t.count (t.most - t.count)
   all-fresh past = by tied.given tied.free tied.linked tied.within
     where
@@ -48,7 +48,7 @@ module _ (t : Table) (lexicals : List ℕ) (classes : ℕ → ClassSlots) (b : B
           clash : (f x n : ℕ) → f ≡ x → x < n → n ≤ f → ⊥
           clash f x n same less more = omega (arith, same, less, more)
 
-  -- where no page is free, none is left
+  -- if also no unused page is left, there is no free page
   pub none-free : t.count ≤ t.free → t.most ≤ t.count → l.free ≡ []
   none-free past most = all-fresh past ∙ ap (numbers_from t.count) (nothing t.most t.count most)
     where
@@ -86,7 +86,7 @@ module _ (t : Table) (lexicals : List ℕ) (classes : ℕ → ClassSlots) (b : B
       reach : (p n m : ℕ) → p < n → n ≤ m → p < m
       reach p n m less more = omega (arith, less, more)
 
-  -- one that was in use
+  -- the page was used before
   pub taken-again : t.free < t.count → IsTaken t.free t.count (t.row t.free).next
   taken-again below = by tied.given tied.free tied.linked tied.within
     where
@@ -106,7 +106,7 @@ module _ (t : Table) (lexicals : List ℕ) (classes : ℕ → ClassSlots) (b : B
           same : (n : ℕ) → n ≤ n
           same n = omega arith
 
-  -- one that was never in use
+  -- the page was never used
   pub taken-new : t.count ≤ t.free → t.count < t.most → IsTaken t.count (suc t.count) t.free
   taken-new past room = by tied.given tied.free tied.linked tied.within
     where
@@ -131,9 +131,9 @@ module _ (t : Table) (lexicals : List ℕ) (classes : ℕ → ClassSlots) (b : B
           clash : (f x n : ℕ) → f ≡ x → x < n → n ≤ f → ⊥
           clash f x n same less more = omega (arith, same, less, more)
 
--- ---- what a draw does
+-- ---- the effect of `draw`
 
--- a table that was drawn from reads as before, but for its free pages
+-- after a page is taken, the table reads as before except for the free pages
 pub drawn-table : (old new : PageTable) (page : ℕ) → Draws old new page
     → table_of new ≡ record (table_of old) { count = length new.rows.items; free = new.free }
 drawn-table old new page draws =

@@ -1,4 +1,4 @@
--- A table keeps its layout where a block is made in a region.
+-- Allocating a block in a region keeps the table's layout.
 use Rattle.std.proofs.Common.{◌≡◌, ◌≢◌, ℕ, suc, ◌+◌, ◌<◌, ◌≤◌, List, [], ◌∷◌, length, None, Some, refl, sym, ap, subst, ◌∙◌, inl, inr, arith}
 use Rattle.std.specs.Prelude.{if◌then◌else◌}
 use Rattle.std.specs.List.{AllByRecursion}
@@ -21,7 +21,7 @@ use Rattle.cyc_store.proofs.PagedRegions.{block_in_page, chain-filled, owned-dra
 use Rattle.cyc_store.proofs.TieLemmas.{chain-also, all-away}
 use Rattle.cyc_store.proofs.TieOpening.{with_row, owner-away, owned-away, fresh-handle, free-linked, rooted-drawn}
 
--- ---- what a block in a region does not change
+-- ---- parts unchanged by an allocation in a region
 
 module _ (rs : List Home) (h : ℕ) (r : Home) (named : lookup handle_of rs h ≡ Some r) (b : Block) where
   pub sort-changed : (g : ℕ) → sort_of (lookup handle_of (changed handle_of (with_block b) rs h) g) ≡ sort_of (lookup handle_of rs g)
@@ -47,7 +47,7 @@ lexical-changed (r ∷ rs) h b = elim (cases_eq r.handle h) [
       ∙ ap (λ l. if is_lexical r.sort then r.handle ∷ l else l) (lexical-changed rs h b)
 ]
 
--- ---- in the newest page
+-- ---- allocation in the newest page
 
 abbrev pub filled_row : Row → (filled : ℕ) → Row
 filled_row r filled = record r { filled = filled }
@@ -98,7 +98,7 @@ module _ (t : Table) (lexicals : List ℕ) (classes : ℕ → ClassSlots) (b : B
     moves : mark_of (with_block block r) ≡ record { pages = (mark_of r).pages; filled = mark }
     moves = mark-made r block ∙ mark-stays (mark_of r) size room
 
-    -- the region that has the block
+    -- the region that contains the new block
     stays-rooted : IsRooted now.row (filled_to l.pages page mark) (with_block block r)
     stays-rooted = record {
       root = rooted.root;
@@ -179,7 +179,7 @@ module _ (t : Table) (lexicals : List ℕ) (classes : ℕ → ClassSlots) (b : B
       unmarked = tied.unmarked;
     }
 
--- ---- at the start of a page that was taken
+-- ---- allocation at the start of a new page
 
 abbrev pub next_row : (size next : ℕ) → Row
 next_row size next = record { role = role.Rest; filled = size; next = next; newest = NONE; count = 0 }
@@ -218,7 +218,7 @@ module _ (t : Table) (lexicals : List ℕ) (classes : ℕ → ClassSlots) (b : B
   half-old : (p : ℕ) → (p ≡ page → ⊥) → half.row p ≡ t.row p
   half-old p other = when_other p page (next_row size rooted.chain.newest.page) (t.row p) other
 
-  -- the second write changes what the first page says of its region alone
+  -- the second write changes only the first page's entries about its region
   whole-next : (p : ℕ) → (whole.row p).next ≡ (half.row p).next
   whole-next p = elim (cases_eq p rooted.root) [
     | inl here ↦ ap (λ (x : Row). x.next) (when_equal p rooted.root (longer_row (half.row rooted.root) page) (half.row p) here) ∙ ap (λ n. (half.row n).next) (sym here)

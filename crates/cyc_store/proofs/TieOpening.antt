@@ -1,4 +1,4 @@
--- A table keeps its layout where a page that was taken becomes the first page of a region that is opened.
+-- Making a taken page the first page of a new region keeps the table's layout.
 use Rattle.std.proofs.Common.{◌≡◌, ◌≢◌, ℕ, ◌-◌, ◌<◌, Bool, false, true, List, [], ◌∷◌, ◌++◌, None, Some, refl, sym, ap, subst, ◌∙◌, inl, inr, arith}
 use Rattle.std.specs.Prelude.{◌==◌, if◌then◌else◌}
 use Rattle.std.specs.List.{AllByRecursion}
@@ -20,7 +20,7 @@ use Rattle.cyc_store.proofs.PagedRegions.{still-chained}
 use Rattle.cyc_store.proofs.LiveWords.{odd-apart}
 use Rattle.cyc_store.proofs.TieLemmas.{chain-also, all-away}
 
--- the first row of a region with one page, in which nothing is
+-- the first row of a region with one empty page
 abbrev pub first_row : (sort : Sort) → (page : ℕ) → Row
 first_row sort page = record { role = role_of_sort sort; filled = 0; next = NONE; newest = page; count = 1 }
 
@@ -51,7 +51,7 @@ lexical-append (r ∷ rs) qs = either (is_lexical r.sort) r.handle (lexical_hand
 handle_of_one_page : (m n : ℕ) → handle_of_page m ≡ handle_of_page n → m ≡ n
 handle_of_one_page m n e = omega (arith, e)
 
--- a page whose owner is another keeps its row
+-- a page of another owner keeps its row
 pub owner-away : (pages : Pages) (page p h : ℕ) → pages.owner page ≡ None → pages.owner p ≡ Some h → p ≡ page → ⊥
 owner-away pages page p h none owned e = never_none_and_some none (ap pages.owner (sym e) ∙ owned)
 
@@ -59,7 +59,7 @@ pub owned-away : (pages : Pages) (page h : ℕ) → pages.owner page ≡ None �
 owned-away pages page h none [] all = tt
 owned-away pages page h none (x ∷ xs) all = (λ e. never_none_and_some none (ap pages.owner e ∙ all.0), owned-away pages page h none xs all.1)
 
--- a region stays where another page is drawn
+-- a region is unchanged if another page is taken
 pub rooted-drawn : (row : ℕ → Row) (pages : Pages) (page h : ℕ) (new : Row) (r : Home) → pages.owner page ≡ None → (r.handle ≡ h → ⊥) → IsRooted row pages r
     → IsRooted (λ (other : ℕ). if other == page then new else row other) (drawn pages page h) r
 rooted-drawn row pages page h new r none other rooted = record {

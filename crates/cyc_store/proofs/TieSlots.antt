@@ -1,5 +1,4 @@
--- A table keeps its layout where a unique block fills a slot, where one is freed, and where a page that was taken is cut into
--- slots.
+-- Filling a slot, freeing a unique block, and cutting a taken page into slots keep the table's layout.
 use Rattle.std.proofs.Common.{◌≡◌, ◌≢◌, ℕ, ◌+◌, ◌*◌, ◌/◌, ◌^◌, ◌<◌, ◌≤◌, Bool, List, [], None, Some, refl, sym, ap, subst, ◌∙◌, inl, inr, arith}
 use Rattle.std.specs.Prelude.{◌==◌, ◌⊎◌, if◌then◌else◌, is_some}
 use Rattle.std.specs.List.{AllByRecursion}
@@ -27,7 +26,7 @@ use Rattle.cyc_store.proofs.SlotStock.{stocked}
 use Rattle.cyc_store.proofs.TableLemmas.{marked-in, marked-out}
 use Rattle.cyc_store.proofs.TieOpening.{with_row, owner-away, fresh-handle, free-linked, rooted-drawn}
 
--- ---- what changes in a table
+-- ---- changes of a table
 
 abbrev pub with_marks : Table → (first count : ℕ) → Bool → Table
 with_marks t first count mark = record t { live = marked_between t.live first count mark }
@@ -38,11 +37,11 @@ with_word t at word = record t { word = λ (other : ℕ). if other == at then wo
 abbrev pub with_slots : (ℕ → ClassSlots) → (class : ℕ) → ClassSlots → ℕ → ClassSlots
 with_slots classes class slots = λ (other : ℕ). if other == class then slots else classes other
 
--- one slot has one number
+-- a slot has one number
 split-one : (p q m n : ℕ) → m < 1024 → n < 1024 → 1024 * p + m ≡ 1024 * q + n → (p ≡ q) × (m ≡ n)
 split-one p q m n small also e = (omega (arith, small, also, e), omega (arith, small, also, e))
 
--- ---- a slot is filled, or emptied
+-- ---- filling or emptying a slot
 
 module _ (t : Table) (lexicals : List ℕ) (classes : ℕ → ClassSlots) (b : Blocks) (l : Layout) (tied : IsTied t lexicals classes b l)
     (class word : ℕ) (slot : IsSlot l.pages.owner l.class class word) (mark : Bool) (unique : List Block) (counts : List ℕ)
@@ -53,7 +52,7 @@ module _ (t : Table) (lexicals : List ℕ) (classes : ℕ → ClassSlots) (b : B
   abbrev after_marks : Table
   after_marks = record (with_marks t word (2 ^ class) mark) { word = words }
 
-  -- a word of the slot lies in its page, and its slot begins with the word
+  -- a word of the slot lies in its page, and its slot begins at the slot's first word
   slot-page : (p n : ℕ) → n < 1024 → word ≤ PAGE_WORDS * p + n → PAGE_WORDS * p + n < word + 2 ^ class → p ≡ slot.page
   slot-page p n few low high = one p slot.page n (slot.number * 2 ^ class) (2 ^ class) word slot.at slot.fits few low high
     where
@@ -77,7 +76,7 @@ module _ (t : Table) (lexicals : List ℕ) (classes : ℕ → ClassSlots) (b : B
       first : (m n k : ℕ) → m ≤ n → n < k → m < k
       first m n k low high = omega (arith, low, high)
 
-  -- a word whose slot begins with the word is one of the slot
+  -- a word whose slot begins at this word belongs to the slot
   not-out : (p n : ℕ) → n < 1024 → PAGE_WORDS * p + n / 2 ^ l.class p * 2 ^ l.class p ≡ word → (PAGE_WORDS * p + n < word) ⊎ (word + 2 ^ class ≤ PAGE_WORDS * p + n) → ⊥
   not-out p n few begins (inl below) = clash (PAGE_WORDS * p) (n / 2 ^ l.class p * 2 ^ l.class p) n word begins (div-mul-le_self n (2 ^ l.class p)) below
     where
@@ -134,7 +133,7 @@ module _ (t : Table) (lexicals : List ℕ) (classes : ℕ → ClassSlots) (b : B
     ];
   }
 
--- ---- a page that was taken is cut into slots
+-- ---- cutting a taken page into slots
 
 abbrev pub slots_row : (class : ℕ) → Row
 slots_row class = record { role = role.Slots class; filled = 0; next = NONE; newest = NONE; count = 0 }

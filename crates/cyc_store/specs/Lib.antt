@@ -9,5 +9,6 @@ pub mod Slots
 pub mod Soundness
 pub mod State
 pub mod Table
--- What the functions of this crate promise each other and what its proofs say: no public contract of the product means it.
+-- Contracts between this crate's functions, and statements of its proofs. No public contract of the product depends on these internal
+-- definitions.
 pub mod inside

@@ -1,5 +1,5 @@
--- What a list of calls of a store comes to: a run of the store relation over them, in order. (This project's own
--- choice.)
+-- The result of a list of calls to a store: a run of the store relation over them, in order. The definition of the result of calls is this
+-- project's own choice.
 use Rattle.std.specs.Prelude.{◌≡◌, ◌⊎◌, Bool, true, List, [], ◌∷◌, Option, Some, None}
 use Rattle.cyc_store.specs.State.{StoreState}
 use Rattle.cyc_store.specs.Services as services
@@ -8,7 +8,7 @@ use Rattle.cyc_store.specs.Run.{Exchange, Service, Load, Save, Exchanges, Run}
 use Rattle.cyc_store.specs.declared.runs.Asked.{Asked}
 use Rattle.cyc_store.specs.declared.runs.Asked.TheVariants as asked
 
--- the service that is asked for, if it is not a word that is read or written
+-- the service that a call requests, unless it reads or writes a word
 abbrev pub call_of : Asked → Option Call
 call_of asked.OpenLexical = Some services.OpenLexical
 call_of (asked.CloseTo mark) = Some (services.CloseTo mark)
@@ -19,17 +19,17 @@ call_of (asked.Free address) = Some (services.Free address)
 call_of (asked.Load address) = None
 call_of (asked.Save address word) = None
 
--- the exchange is of this call
+-- the exchange is a possible result of this call
 abbrev pub IsOf : Asked → Exchange → Type 0
 IsOf a (Service call answer) = call_of a ≡ Some call
 IsOf a (Load address word) = a ≡ asked.Load address
 IsOf a (Save address word done) = a ≡ asked.Save address word
 
--- What one call comes to: an exchange with the store, or nothing, where a store that grows wants memory.
+-- The result of one call: an exchange with the store, or nothing, if a growing store runs out of memory.
 abbrev pub Makes : (grows : Bool) → Asked → (s t : StoreState) → Type 0
 Makes grows a s t = ((e : Exchange) × IsOf a e × Exchanges s e t) ⊎ ((grows ≡ true) × (t ≡ s))
 
--- an exchange for each of these calls, in order, but for those that came to nothing
+-- one exchange for each of these calls, in order, except for calls that failed for lack of memory
 abbrev pub AreOf : (grows : Bool) → List Asked → List Exchange → Type 0
 AreOf grows [] [] = Unit {0}
 AreOf grows [] (e ∷ es) = ⊥

@@ -1,6 +1,6 @@
--- The page model: blocks are laid out page by page. A page is free or has an owner, the handle of a region; its words are
--- filled from the first on, up to its fill mark. Nothing here says how pages and marks are kept. (Pages that are filled
--- in order are those of region allocators (Grossman et al. 2002); the model is this project's own choice.)
+-- The page model: blocks are laid out in pages. A page is free or has an owner, the handle of a region. The words of a page are filled from
+-- the first on, up to the page's fill mark. The representation of pages and marks is left open. (Pages that are filled in order are those
+-- of region allocators (Grossman et al. 2002); the model is this project's own choice.)
 use Rattle.std.specs.Prelude.{◌≡◌, ℕ, ◌+◌, ◌*◌, ◌<◌, ◌≤◌, ◌==◌, suc, nat_le, if◌then◌else◌, List, [], ◌∷◌, length, Option, Some, None}
 use Rattle.std.specs.List.{AllByRecursion}
 use Rattle.cyc_words.specs.Distinct.{IsDistinct}
@@ -11,7 +11,7 @@ use Rattle.cyc_store.specs.declared.range.TheConstants.{STORE_BASE, PAGE_WORDS}
 abbrev pub page_start : (page : ℕ) → ℕ
 page_start page = STORE_BASE + 4 * (PAGE_WORDS * page)
 
--- a block lies in the words of a page from number `low` up to number `high`
+-- the block lies in the words of a page between the numbers `low` and `high`
 pub record LiesIn (page low high : ℕ) (b : Block) : Type 0 where
   pub word : ℕ
   pub at : b.address ≡ page_start page + 4 * word
@@ -23,11 +23,11 @@ pub record Pages : Type 0 where
   pub owner : ℕ → Option ℕ
   pub filled : ℕ → ℕ
 
--- no more words of a page are filled than there are
+-- no page is filled past its end
 abbrev pub AreFilled : Pages → Type 0
 AreFilled pages = (page : ℕ) → pages.filled page ≤ PAGE_WORDS
 
--- a block lies in the filled words of a page that its region owns
+-- the block lies in the filled words of a page that its region owns
 pub record IsLaid (pages : Pages) (handle : ℕ) (b : Block) : Type 0 where
   pub page : ℕ
   pub owned : pages.owner page ≡ Some handle
@@ -41,20 +41,20 @@ abbrev pub AreLaid : Pages → List Home → Type 0
 AreLaid pages [] = Unit {0}
 AreLaid pages (r ∷ rs) = AreLaidIn pages r.handle r.blocks × AreLaid pages rs
 
--- ---- what changes
+-- ---- changes of pages
 
--- a page is filled up to this word
+-- the pages with this page filled up to this word
 abbrev pub filled_to : Pages → (page words : ℕ) → Pages
 filled_to pages page words = record pages { filled = put pages.filled page words }
 
--- a free page is drawn, with nothing in it
+-- the pages after this free page was taken, with no words filled
 abbrev pub drawn : Pages → (page handle : ℕ) → Pages
 drawn pages page handle = record {
   owner = λ (other : ℕ). if other == page then Some handle else pages.owner other;
   filled = put pages.filled page 0;
 }
 
--- all pages of a region are given back
+-- the pages after all pages of a region were freed
 abbrev pub owner_without : (handle : ℕ) → Option ℕ → Option ℕ
 owner_without handle None = None
 owner_without handle (Some owner) = if owner == handle then None else Some owner
@@ -64,12 +64,12 @@ given_back pages handle = record pages { owner = λ (page : ℕ). owner_without 
 
 -- ---- the pages and the fill mark of a region
 
--- so many pages, of which the last is filled so far
+-- a number of pages, and the number of filled words in the last one
 pub record Mark : Type 0 where
   pub pages : ℕ
   pub filled : ℕ
 
--- after one block more
+-- a region's fill mark after a further block is allocated
 abbrev pub next_mark : Mark → (size : ℕ) → Mark
 next_mark m size =
     if nat_le (m.filled + size) PAGE_WORDS then record { pages = m.pages; filled = m.filled + size }
@@ -79,17 +79,17 @@ abbrev pub mark_from : Mark → List ℕ → Mark
 mark_from m [] = m
 mark_from m (size ∷ sizes) = mark_from (next_mark m size) sizes
 
--- the pages and the fill mark of a region
+-- the number of pages and the fill mark of a region
 abbrev pub mark_of : Home → Mark
 mark_of r = mark_from (record { pages = 1; filled = 0 }) (sizes_of r.blocks)
 
--- A region's newest page, which it owns, and which is filled as far as its blocks say.
+-- The newest page of a region, which the region owns and which is filled as its blocks require.
 pub record HasNewest (pages : Pages) (r : Home) : Type 0 where
   pub page : ℕ
   pub owned : pages.owner page ≡ Some r.handle
   pub mark : pages.filled page ≡ (mark_of r).filled
 
--- All pages of a region, the newest and those before it.
+-- All pages of a region: the newest and the earlier ones.
 pub record HasChain (pages : Pages) (r : Home) : Type 0 where
   pub newest : HasNewest pages r
   pub older : List ℕ
@@ -97,12 +97,12 @@ pub record HasChain (pages : Pages) (r : Home) : Type 0 where
   pub apart : IsDistinct (newest.page ∷ older)
   pub many : suc (length older) ≡ (mark_of r).pages
 
--- a page that may be drawn
+-- a page that may be taken
 pub record IsFree (count : ℕ) (pages : Pages) (page : ℕ) : Type 0 where
   pub owner : pages.owner page ≡ None
   pub below : page < count
 
--- The blocks of a store are laid out in pages, and the pages that are free are those that demand does not count.
+-- The blocks of a store have a layout in pages, and the free pages are those that the demand does not count.
 pub record IsPaged (s : StoreState) (pages : Pages) (free : List ℕ) : Type 0 where
   pub laid : AreLaid pages (homes s)
   pub filled : AreFilled pages

@@ -1,6 +1,6 @@
--- The services of a store, as a relation: what is asked for, what is answered, and what the store holds then. A store chooses
--- where blocks lie and which handles regions have; this relation allows every choice that does no harm. (Regions are those of
--- Grossman et al. 2002; services, refusals and their order are this project's own choice.)
+-- The services of a store as a relation between the call, the answer and the store afterwards. A store chooses the places of blocks and the
+-- handles of regions; the relation allows every harmless choice. (Regions are those of Grossman et al. 2002; services, refusals and their
+-- order are this project's own choice.)
 use Rattle.std.specs.Prelude.{◌≡◌, ℕ, ◌+◌, ◌*◌, ◌<◌, ◌≤◌, ◌%◌, ◌^◌, ◌==◌, ◌&&◌, nat_le, nat_lt, Bool, true, false, if◌then◌else◌, Option, Some, None, is_some, List}
 use Rattle.cyc_store.specs.State.{lookup, without, Memory, AreWords, Block, address_of, Sort, Heap, Lexical, Dynamic, Uniques, Home, handle_of, StoreState, homes, covers, Holder, holder, demand, opened, lexical_count, down_to, made_in, made_unique, room}
 use Rattle.cyc_store.specs.declared.range.TheConstants.{STORE_BASE, PAGE_WORDS, MOST_BLOCK_WORDS, UNIQUE}
@@ -28,8 +28,8 @@ pub data Answer : Type 0 where
   OpenedLexical : (handle mark : ℕ) → Answer
   Allocated : (address : ℕ) → Answer
 
--- What a store chooses: the handle of a region, the address of a block, and what every word is afterwards. A call takes of it
--- what it needs.
+-- A store's choice: the handle of a region, the address of a block, and the value of every word afterwards. Each call uses only the parts
+-- that it needs.
 pub record Choice : Type 0 where
   pub handle : ℕ
   pub address : ℕ
@@ -38,12 +38,12 @@ pub record Choice : Type 0 where
 abbrev pub block_of : (handle words : ℕ) → Choice → Block
 block_of handle words c = record { address = c.address; size = room handle words }
 
--- ---- what a call that is not refused comes to
+-- ---- the result of a call that is not refused
 
 abbrev pub made : StoreState → (handle : ℕ) → Block → StoreState
 made s handle b = if handle == UNIQUE then made_unique s b else made_in s handle b
 
--- regions and blocks afterwards
+-- the regions and blocks after a call
 abbrev pub changed_by : StoreState → Call → Choice → StoreState
 changed_by s OpenLexical c = opened s c.handle Lexical
 changed_by s (CloseTo mark) c = record s { regions = down_to mark s.regions }
@@ -65,7 +65,7 @@ answer s (Free address) c = Done
 
 -- ---- refusals
 
--- Demand goes by sizes alone, so whether a store is full does not depend on what it would choose.
+-- The demand depends only on sizes, so whether a store is full does not depend on its choice.
 abbrev pub any_choice : StoreState → Choice
 any_choice s = record { handle = 0; address = 0; memory = s.memory }
 
@@ -88,7 +88,7 @@ names_dynamic (Some r) = is_dynamic r.sort
 abbrev pub is_size : (words : ℕ) → Bool
 is_size words = nat_le 1 words && nat_le words MOST_BLOCK_WORDS
 
--- the first reason, where there is one, not to do what is asked for
+-- the first reason to refuse the call, if there is one
 abbrev pub refusal : StoreState → Call → Option Refusal
 refusal s OpenLexical = full_at (is_full s OpenLexical)
 refusal s (CloseTo mark) = if nat_le mark (lexical_count s.regions) then None else Some BadMark
@@ -102,18 +102,18 @@ refusal s (Free address) = if is_some (lookup address_of s.unique address) then 
 
 -- ---- choices
 
--- a block lies in the store's range
+-- the block lies in the store's address range
 pub record IsPlaced (pages : ℕ) (b : Block) : Type 0 where
   pub aligned : b.address % 4 ≡ 0
   pub low : STORE_BASE ≤ b.address
   pub high : b.address + 4 * b.size ≤ STORE_BASE + 4 * (PAGE_WORDS * pages)
   pub some : 0 < b.size
 
--- no live block has an address of this one
+-- no live block shares an address with this one
 abbrev pub IsApart : List Home → Block → Type 0
 IsApart rs b = (address : ℕ) → covers b address ≡ true → holder rs address ≡ None
 
--- a handle that is a word and names nothing
+-- the handle is a word that names no region
 abbrev pub IsFresh : StoreState → (handle : ℕ) → Type 0
 IsFresh s handle = (lookup handle_of (homes s) handle ≡ None) × (handle < 2 ^ 32)
 
@@ -125,7 +125,7 @@ MayChoose s (CloseDynamic handle) c = Unit {0}
 MayChoose s (Allocate handle words) c = IsPlaced s.pages (block_of handle words c) × IsApart (homes s) (block_of handle words c)
 MayChoose s (Free address) c = Unit {0}
 
--- The words of what was live and still is stay. A new block may hold anything, and what is not live may change.
+-- The words of everything that is live before and after stay. A new block may contain anything, and words that are not live may change.
 abbrev pub Keeps : StoreState → StoreState → Type 0
 Keeps s t = (address : ℕ) (h : Holder) → holder (homes s) address ≡ Some h → holder (homes t) address ≡ Some h
     → t.memory address ≡ s.memory address
@@ -135,7 +135,7 @@ pub record IsAllowed (s : StoreState) (call : Call) (c : Choice) : Type 0 where
   pub keeps : Keeps s (served s call c)
   pub words : AreWords c.memory
 
--- ---- the relation
+-- ---- the relation of the services
 
 -- a refusal changes nothing
 abbrev pub ServesBy : StoreState → Call → Option Refusal → Answer → StoreState → Type 0

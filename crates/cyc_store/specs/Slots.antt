@@ -1,5 +1,5 @@
--- The page model with unique blocks: a page of a class is cut into slots of the class's size, and each slot has a live block
--- or none. All slots that no block is in are on the class's list of dead ones. (This project's own choice.)
+-- The page model with unique blocks. A page of a class is cut into slots of the size of the class, and each slot contains at most one live
+-- block. All empty slots are on the class's list of dead slots. The page model with unique blocks is this project's own choice.
 use Rattle.std.specs.Prelude.{◌≡◌, ℕ, zero, suc, ◌+◌, ◌*◌, ◌^◌, ◌<◌, ◌≤◌, true, List, [], ◌∷◌, Option, None, Some, length, slice_index, set}
 use Rattle.std.specs.List.{AllByRecursion}
 use Rattle.cyc_words.specs.Demand.{greatest_class, class_of, blocks_in_page}
@@ -10,12 +10,12 @@ use Rattle.cyc_store.specs.Soundness.{IsSound}
 use Rattle.cyc_store.specs.declared.range.TheConstants.{STORE_BASE, PAGE_WORDS, UNIQUE}
 use Rattle.cyc_store.specs.Pages.{Pages, IsPaged}
 
--- the address of a word, by its number among the words of all pages
+-- the address of a word, given its number among the words of all pages
 abbrev pub place_of : (word : ℕ) → ℕ
 place_of word = STORE_BASE + 4 * word
 
--- How the blocks of a store are laid out: the pages, the free ones among them, the class of each page of unique blocks, and of
--- each class the first words of the slots that no block is in.
+-- The layout of the blocks of a store: the pages, the free pages, and the class of each page of unique blocks. For each class it has the
+-- first words of its empty slots.
 pub record Layout : Type 0 where
   pub pages : Pages
   pub free : List ℕ
@@ -25,7 +25,7 @@ pub record Layout : Type 0 where
 abbrev pub slot_block : (class word : ℕ) → Block
 slot_block class word = record { address = place_of word; size = 2 ^ class }
 
--- a slot of a class begins at this word
+-- a slot of this class begins at this word
 pub record IsSlot (owner : ℕ → Option ℕ) (class_at : ℕ → ℕ) (class word : ℕ) : Type 0 where
   pub page : ℕ
   pub number : ℕ
@@ -53,7 +53,7 @@ pub record AreSlots (unique : List Block) (classes : List ℕ) (l : Layout) : Ty
   pub apart : (class : ℕ) → class ≤ greatest_class → IsDistinct (l.dead class)
   pub count : (class : ℕ) → class ≤ greatest_class → live_in class unique + length (l.dead class) ≡ slice_index classes class * blocks_in_page class
 
--- an address is in a block of this region
+-- the address lies in a block of this region
 pub record IsCovered (rs : List Home) (handle address : ℕ) : Type 0 where
   pub block : Block
   pub at : block_at rs handle block.address ≡ Some block
@@ -66,12 +66,12 @@ pub record IsLaidOut (s : StoreState) (l : Layout) : Type 0 where
       → IsCovered s.regions handle (place_of (PAGE_WORDS * page + word))
   pub slots : AreSlots s.unique s.classes l
 
--- so many slots, one after another
+-- the first words of this many consecutive slots
 abbrev pub slots_from : (size word count : ℕ) → List ℕ
 slots_from size word zero = []
 slots_from size word (suc count) = word ∷ slots_from size (word + size) count
 
--- a page of the class has a slot that no block is in
+-- some page of the class has an empty slot
 abbrev pub HasSlot : StoreState → (class : ℕ) → Type 0
 HasSlot s class = live_in class s.unique < slice_index s.classes class * blocks_in_page class
 
@@ -79,18 +79,18 @@ HasSlot s class = live_in class s.unique < slice_index s.classes class * blocks_
 abbrev pub IsSpent : StoreState → Type 0
 IsSpent s = demand s ≡ s.pages
 
--- the store has one page more of the class
+-- the store with one more page of the class
 abbrev pub with_page : StoreState → (class : ℕ) → StoreState
 with_page s class = record s { classes = set s.classes class (suc (slice_index s.classes class)) }
 
--- a block was made in a slot
+-- the store after a block was allocated in an empty slot
 pub record Fills (s : StoreState) (class address : ℕ) (t : StoreState) : Type 0 where
   pub placed : IsPlaced s.pages (record { address = address; size = 2 ^ class })
   pub apart : IsApart (homes s) (record { address = address; size = 2 ^ class })
   pub classes : raised s.classes (class_of (2 ^ class)) (suc (live_in (class_of (2 ^ class)) s.unique)) ≡ s.classes
   pub held : t ≡ made_unique s (record { address = address; size = 2 ^ class })
 
--- a page was cut into slots
+-- the store after a page was cut into slots
 pub record Stocks (s : StoreState) (class : ℕ) (t : StoreState) : Type 0 where
   pub room : demand (with_page s class) ≤ s.pages
   pub held : t ≡ with_page s class

@@ -1,17 +1,18 @@
--- What is true of every store that began empty and was served. (This project's own choice.)
+-- The invariant of every store that starts empty and is changed only by services. The invariant of stores is this project's own choice.
 use Rattle.std.specs.Prelude.{◌≡◌, ℕ, ◌≤◌, true, List, Some, length, slice_index}
 use Rattle.cyc_words.specs.Demand.{pages_for, greatest_class}
 use Rattle.cyc_store.specs.State.{AreDistinct, AreWords, Block, address_of, Home, handle_of, StoreState, homes, covers, holder, block_at, demand, live_in}
 use Rattle.cyc_store.specs.Services.{IsPlaced}
 
--- Handles name one region each, and a block is found at each of its addresses. So no two blocks overlap.
+-- Each handle names one region, and a block is found at each of its addresses. No two blocks overlap, because each address belongs to at
+-- most one.
 pub record AreSound (pages : ℕ) (rs : List Home) : Type 0 where
   pub handles : AreDistinct handle_of rs
   pub apart : (handle first address : ℕ) (b : Block) → block_at rs handle first ≡ Some b → covers b address ≡ true
       → holder rs address ≡ Some (record { handle = handle; block = b })
   pub placed : (handle first : ℕ) (b : Block) → block_at rs handle first ≡ Some b → IsPlaced pages b
 
--- the pages of every class are enough for its live blocks
+-- the pages of every class suffice for its live blocks
 abbrev pub AreEnough : (unique : List Block) → (classes : List ℕ) → Type 0
 AreEnough unique classes = (class : ℕ) → class ≤ greatest_class → pages_for class (live_in class unique) ≤ slice_index classes class
 

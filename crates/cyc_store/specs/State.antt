@@ -1,36 +1,36 @@
--- What a store holds: regions and unique blocks, and the words of memory beside them. The regions are those of Grossman et al.
--- (2002); a block is an address and a size, and all words are one function of the address, so that writing a word changes no
--- block. What a store does to place blocks is its own affair: nothing here says where a page begins.
+-- The content of a store: regions, unique blocks, and the words of memory. The regions are those of Grossman et al. (2002). A block is an
+-- address and a size; the words are one function of the address, so writing a word changes no block. A store may place blocks anywhere:
+-- page boundaries are not part of the content.
 use Rattle.std.specs.Prelude.{ℕ, zero, suc, ◌+◌, ◌*◌, ◌%◌, ◌^◌, ◌==◌, ◌&&◌, nat_le, nat_lt, max, Bool, true, false, if◌then◌else◌, List, [], ◌∷◌, ◌++◌, map, Option, Some, None, slice_index, set, ◌≡◌}
 use Rattle.cyc_words.specs.Word.{IsWord}
 use Rattle.cyc_words.specs.Demand.{class_of, pages_for, demand_of}
 use Rattle.cyc_store.specs.declared.range.TheConstants.{HEAP, UNIQUE}
 
--- ---- lists that are looked up by a number of each element's own, its key, so that nothing shifts where one is taken out
+-- ---- lists indexed by a key that each element has, so that removing an element does not shift the other elements
 
--- the first element with this number
+-- the first element with this key
 abbrev pub lookup : {A : Type 0} → (key : A → ℕ) → List A → (number : ℕ) → Option A
 lookup key [] number = None
 lookup key (x ∷ xs) number = if key x == number then Some x else lookup key xs number
 
--- all but those with this number
+-- the list without the elements with this key
 abbrev pub without : {A : Type 0} → (key : A → ℕ) → List A → (number : ℕ) → List A
 without key [] number = []
 without key (x ∷ xs) number = if key x == number then without key xs number else x ∷ without key xs number
 
--- the first element with this number is changed
+-- the list with the first element of this key changed
 abbrev pub changed : {A : Type 0} → (key : A → ℕ) → (change : A → A) → List A → (number : ℕ) → List A
 changed key change [] number = []
 changed key change (x ∷ xs) number = if key x == number then change x ∷ xs else x ∷ changed key change xs number
 
--- no number stands twice
+-- all keys in the list are different
 abbrev pub AreDistinct : {A : Type 0} → (key : A → ℕ) → List A → Type 0
 AreDistinct key [] = Unit {0}
 AreDistinct key (x ∷ xs) = (lookup key xs (key x) ≡ None) × AreDistinct key xs
 
 -- ---- memory
 
--- the word that stands at each address
+-- the word at each address
 abbrev pub Memory : Type 0
 Memory = ℕ → ℕ
 
@@ -42,7 +42,7 @@ AreWords memory = (address : ℕ) → IsWord (memory address)
 
 -- ---- blocks and regions
 
--- a block's first address, a multiple of 4, and its words
+-- a block: its first address, a multiple of 4, and its number of words
 pub record Block : Type 0 where
   pub address : ℕ
   pub size : ℕ
@@ -50,14 +50,14 @@ pub record Block : Type 0 where
 abbrev pub address_of : Block → ℕ
 address_of b = b.address
 
--- the heap; a region that ends with its block, or with its key; and the home of the unique blocks
+-- the sort of a region: the heap, a lexical region, a dynamic region, or the home of the unique blocks
 pub data Sort : Type 0 where
   Heap : Sort
   Lexical : Sort
   Dynamic : Sort
   Uniques : Sort
 
--- a region, with its blocks in the order made
+-- a region, with its blocks in the order of their allocation
 pub record Home : Type 0 where
   pub handle : ℕ
   pub sort : Sort
@@ -66,25 +66,25 @@ pub record Home : Type 0 where
 abbrev pub handle_of : Home → ℕ
 handle_of r = r.handle
 
--- a region as it is opened
+-- a newly opened region
 abbrev pub empty_home : (handle : ℕ) → Sort → Home
 empty_home handle sort = record { handle = handle; sort = sort; blocks = [] }
 
--- A store. Its open regions stand in the order in which they were opened, so the lexical ones do.
+-- A store. A store lists its open regions, and the lexical ones among them, in the order of their opening.
 pub record StoreState : Type 0 where
   pub pages : ℕ
   pub regions : List Home
   -- the live unique blocks
   pub unique : List Block
-  -- of each class of unique blocks, the pages for the most of them that were live so far
+  -- for each class of unique blocks, the pages for the largest number of live blocks so far
   pub classes : List ℕ
   pub memory : Memory
 
--- the regions, before them the unique blocks as one region more, which has a handle of its own
+-- all regions, preceded by the unique blocks as one more region with a handle of its own
 abbrev pub homes : StoreState → List Home
 homes s = record { handle = UNIQUE; sort = Uniques; blocks = s.unique } ∷ s.regions
 
--- a new store: the heap, and nothing in it. The classes are those of 1, 2, 4 and so on up to 1,024 words.
+-- a new store, which contains only the empty heap; the classes are those of 1, 2, 4 and so on up to 1,024 words
 abbrev pub start : (pages : ℕ) → Memory → StoreState
 start pages memory = record {
   pages = pages;
@@ -94,12 +94,12 @@ start pages memory = record {
   memory = memory;
 }
 
--- ---- which block an address is in
+-- ---- the block at an address
 
 abbrev pub covers : Block → (address : ℕ) → Bool
 covers b address = nat_le b.address address && nat_lt address (b.address + 4 * b.size)
 
--- a block, and the handle of the region that it is in
+-- a block, and the handle of its region
 pub record Holder : Type 0 where
   pub handle : ℕ
   pub block : Block
@@ -113,7 +113,7 @@ abbrev pub or_else : Option Holder → Option Holder → Option Holder
 or_else None other = other
 or_else (Some h) other = Some h
 
--- the block that has this address
+-- the live block that contains this address
 abbrev pub holder : List Home → (address : ℕ) → Option Holder
 holder [] address = None
 holder (r ∷ rs) address = or_else (holder_in r.handle r.blocks address) (holder rs address)
@@ -132,7 +132,7 @@ abbrev pub word_in : Option Holder → Memory → (address : ℕ) → Option ℕ
 word_in None memory address = None
 word_in (Some h) memory address = Some (memory address)
 
--- the word at an address, where it is that of a word of a live block
+-- the word at an address, if the address is that of a word in a live block
 abbrev pub word_at : StoreState → (address : ℕ) → Option ℕ
 word_at s address = if address % 4 == 0 then word_in (holder (homes s) address) s.memory address else None
 
@@ -140,7 +140,7 @@ abbrev pub has_saved : StoreState → (address word : ℕ) → Option ℕ → St
 has_saved s address word None = s
 has_saved s address word (Some old) = record s { memory = put s.memory address word }
 
--- a word of a live block is written; anywhere else nothing is
+-- the store after a word of a live block is written; a write elsewhere changes nothing
 abbrev pub saved : StoreState → (address word : ℕ) → StoreState
 saved s address word = has_saved s address word (word_at s address)
 
@@ -152,20 +152,20 @@ sizes_of bs = map (λ (b : Block). b.size) bs
 abbrev pub sizes_in : List Home → List (List ℕ)
 sizes_in rs = map (λ (r : Home). sizes_of r.blocks) rs
 
--- the pages that the blocks ask for
+-- the number of pages that the blocks need
 abbrev pub demand : StoreState → ℕ
 demand s = demand_of (sizes_in s.regions) s.classes
 
--- how many blocks are of a class
+-- the number of blocks of a class
 abbrev pub live_in : (class : ℕ) → List Block → ℕ
 live_in class [] = 0
 live_in class (b ∷ bs) = if class_of b.size == class then suc (live_in class bs) else live_in class bs
 
--- the pages of the classes where so many blocks of one class are live
+-- the pages of the classes if this many blocks of one class are live
 abbrev pub raised : (classes : List ℕ) → (class live : ℕ) → List ℕ
 raised classes class live = set classes class (max (slice_index classes class) (pages_for class live))
 
--- ---- what changes
+-- ---- changes of a store
 
 abbrev pub opened : StoreState → (handle : ℕ) → Sort → StoreState
 opened s handle sort = record s { regions = s.regions ++ empty_home handle sort ∷ [] }
@@ -180,7 +180,7 @@ abbrev pub lexical_count : List Home → ℕ
 lexical_count [] = 0
 lexical_count (r ∷ rs) = if is_lexical r.sort then suc (lexical_count rs) else lexical_count rs
 
--- The oldest lexical regions stay, as many as the mark says, and all other regions do.
+-- The regions after closing lexical ones: the oldest, as many as the mark, stay, and so do all other regions.
 abbrev pub down_to : (mark : ℕ) → List Home → List Home
 down_to mark [] = []
 down_to zero (r ∷ rs) = if is_lexical r.sort then down_to zero rs else r ∷ down_to zero rs
@@ -198,12 +198,12 @@ made_unique s b = record s {
   classes = raised s.classes (class_of b.size) (suc (live_in (class_of b.size) s.unique));
 }
 
--- the words of a block that is asked for with so many: a unique block has those of its class
+-- the size of a block for a request of this many words; a unique block has the size of its class
 abbrev pub room : (handle words : ℕ) → ℕ
 room handle words = if handle == UNIQUE then 2 ^ class_of words else words
 
--- ---- the stores that a run may begin with
+-- ---- initial stores of a run
 
--- a new store of so many pages, in which the heap is open; its words are anything
+-- a new store with this many pages, in which the heap is open; its words are arbitrary
 abbrev pub IsNew : (pages : ℕ) → StoreState → Type 0
 IsNew pages store = (memory : Memory) × AreWords memory × (store ≡ start pages memory)

@@ -1,19 +1,19 @@
-//! What a store answers where it does not do what it is asked for.
+//! The results of a store that refuses a call.
 
-/// Why a region was not opened, or a block not made. Where several hold, the first in this order is the answer.
+/// Why a region was not opened, or a block not allocated. If several reasons hold, the first in this order is returned.
 #[derive(Clone, Copy, Debug, PartialEq, Eq)]
 pub enum No {
     /// The handle names no open region.
     BadHandle,
-    /// The size is no number of words from 1 to 1,000.
+    /// The size is not between 1 and 1,000 words.
     BadSize,
-    /// The demand would come to more pages than the store has.
+    /// The demand would exceed the pages of the store.
     Full,
-    /// An allocation of the store's own was refused.
+    /// An allocation by the store failed.
     Memory,
 }
 
-/// Fewer lexical regions are open than the mark says.
+/// Fewer lexical regions are open than the mark states.
 #[derive(Clone, Copy, Debug, PartialEq, Eq)]
 pub struct BadMark;
 
@@ -21,6 +21,6 @@ pub struct BadMark;
 #[derive(Clone, Copy, Debug, PartialEq, Eq)]
 pub struct BadHandle;
 
-/// The address is not the first one of a live unique block.
+/// The address is not the first address of a live unique block.
 #[derive(Clone, Copy, Debug, PartialEq, Eq)]
 pub struct NotABlock;

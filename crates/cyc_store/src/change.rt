@@ -1,4 +1,4 @@
-//! What a service does to the blocks of a store.
+//! The effect of a service on the blocks of a store.
 
 /// A change of the blocks of a store.
 #[derive(Clone, Copy)]
@@ -9,11 +9,11 @@ pub enum Change {
     OpenedDynamic(u32),
     /// The region with this handle was closed.
     Closed(u32),
-    /// In the region with this handle a block was made, at this address, with so many words.
+    /// A block with this address and number of words was allocated in the region with this handle.
     Made(u32, u32, u32),
     /// A page was cut into slots of this class.
     Stocked(u32),
-    /// A unique block was made, at this address, with so many words.
+    /// A unique block with this address and number of words was allocated.
     MadeUnique(u32, u32),
     /// The unique block at this address was freed.
     Freed(u32),

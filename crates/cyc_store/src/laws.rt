@@ -1,18 +1,20 @@
-//! Laws of the definitions in `specs/`. Each function does nothing: its contract is the law, and so it is proved with
-//! the crate. The lemmas behind them stand in `proofs/` for other proofs to cite.
+//! Laws of the definitions in `specs/`. Each function of this file does nothing, and its contract states one law, which is proved with the
+//! crate. The lemmas that other proofs cite are in `proofs/`.
 
 ghost use Rattle.std.specs.Prelude.{◌≡◌, ◌≢◌, ℕ, ◌+◌, ◌*◌, ◌^◌, ◌<◌, ◌≤◌, max, List, [], ◌∷◌, true, Some, None, slice_index};
 ghost use Rattle.cyc_words.specs.Word.{IsWord};
 ghost use Rattle.cyc_words.specs.Demand.{page_words, greatest_class, class_of, pages_for, region_pages};
-ghost use Rattle.cyc_store.specs.State.{lookup, Memory, AreWords, Block, handle_of, StoreState, homes, start, covers, Holder, holder, block_at, word_at, saved, demand, live_in, room};
-ghost use Rattle.cyc_store.specs.Services.{Call, Allocate, CloseDynamic, Free, Refusal, Full, Answer, Refused, Done, Allocated, Choice, served, any_choice, refusal, IsPlaced, IsAllowed, Serves};
+ghost use Rattle.cyc_store.specs.State.{lookup, Memory, AreWords, Block, handle_of, StoreState, homes, start, covers, Holder, holder, block_at};
+ghost use Rattle.cyc_store.specs.State.{word_at, saved, demand, live_in, room};
+ghost use Rattle.cyc_store.specs.Services.{Call, Allocate, CloseDynamic, Free, Refusal, Full, Answer, Refused, Done, Allocated, Choice, served};
+ghost use Rattle.cyc_store.specs.Services.{any_choice, refusal, IsPlaced, IsAllowed, Serves};
 ghost use Rattle.cyc_store.specs.Soundness.{IsSound};
 ghost use Rattle.cyc_store.specs.Run.{Exchange, Run};
 
 use super::range::{PAGE_WORDS, UNIQUE};
 
-/// A new store is sound, and every call of a sound store, whatever is chosen, leaves a sound one: handles name one region each,
-/// blocks are aligned, in the store's range and apart, and the demand is at most the pages.
+/// A new store is sound, and every call of a sound store leaves a sound one, for every choice. In a sound store each handle names one
+/// region, and blocks are aligned, in range and disjoint. The demand is at most the number of pages.
 pub fn stores_stay_sound()
     ensures starts { (pages : ℕ) (memory : Memory) → AreWords memory → 1 ≤ pages → IsSound (start pages memory) }
     ensures served { (s : StoreState) (call : Call) (c : Choice) → IsSound s → refusal s call ≡ None → IsAllowed s call c → IsSound (served s call c) }
@@ -21,7 +23,8 @@ pub fn stores_stay_sound()
     ensures runs { (exchanges : List Exchange) (s t : StoreState) → IsSound s → Run exchanges s t → IsSound t × (t.pages ≡ s.pages) }
 {}
 
-/// Live blocks are aligned and in the store's range, two that share an address are one, and each of their words can be read.
+/// Live blocks are aligned and in the store's range. Two live blocks that share an address are equal, and each word of a live block can be
+/// read.
 pub fn blocks_stand_apart()
     ensures placed { (s : StoreState) → IsSound s → (handle first : ℕ) (b : Block) → block_at (homes s) handle first ≡ Some b → IsPlaced s.pages b }
     ensures one { (s : StoreState) → IsSound s → (g h first other address : ℕ) (b c : Block) → block_at (homes s) g first ≡ Some b
@@ -30,8 +33,7 @@ pub fn blocks_stand_apart()
         → word_at s (b.address + 4 * i) ≡ Some (s.memory (b.address + 4 * i)) }
 {}
 
-/// A block that was made is live, with the words that it has room for; one that was freed is not, and a dynamic region that was
-/// closed has no handle.
+/// An allocated block is live, with the requested words; a freed block is not live, and a closed dynamic region has no handle.
 pub fn blocks_come_and_go()
     ensures made { (s t : StoreState) (handle words address : ℕ) → IsSound s → Serves s (Allocate handle words) (Allocated address) t
         → block_at (homes t) handle address ≡ Some (record { address = address; size = room handle words }) }
@@ -39,19 +41,19 @@ pub fn blocks_come_and_go()
     ensures closed { (s t : StoreState) (handle : ℕ) → Serves s (CloseDynamic handle) Done t → lookup handle_of t.regions handle ≡ None }
 {}
 
-/// A refusal is the first reason there is, and changes nothing.
+/// A refusal gives the first reason that holds, and changes nothing.
 pub fn refusals_change_nothing()
     ensures { (s t : StoreState) (call : Call) (why : Refusal) → Serves s call (Refused why) t → (refusal s call ≡ Some why) × (t ≡ s) }
 {}
 
-/// A call is refused as full exactly where the demand afterwards would exceed the pages, whatever the store would choose.
+/// A call is refused as full exactly if the demand afterwards would exceed the pages, whatever the store would choose.
 pub fn full_goes_by_demand()
     ensures full { (s : StoreState) (call : Call) → refusal s call ≡ Some Full → s.pages < demand (served s call (any_choice s)) }
     ensures fits { (s : StoreState) (call : Call) → IsSound s → refusal s call ≡ None → demand (served s call (any_choice s)) ≤ s.pages }
     ensures choices { (s : StoreState) (call : Call) (c d : Choice) → demand (served s call c) ≡ demand (served s call d) }
 {}
 
-/// The pages of a class of unique blocks never fall: they are the greatest number that its live blocks asked for so far.
+/// The pages of a class of unique blocks never decrease: they are the greatest number that its live blocks needed so far.
 pub fn classes_never_fall()
     ensures never { (s t : StoreState) (call : Call) (a : Answer) (class : ℕ) → IsSound s → Serves s call a t
         → slice_index s.classes class ≤ slice_index t.classes class }
@@ -59,7 +61,7 @@ pub fn classes_never_fall()
         → slice_index t.classes class ≡ max (slice_index s.classes class) (pages_for class (live_in class t.unique)) }
 {}
 
-/// A word that was written is read, and every other word stays; a call leaves the words of what is live before and after it.
+/// A written word is read back, and every other word stays. A call keeps the words of everything that is live before and after it.
 pub fn words_hold()
     ensures same { (s : StoreState) (address word old : ℕ) → word_at s address ≡ Some old → word_at (saved s address word) address ≡ Some word }
     ensures other { (s : StoreState) (address word other : ℕ) → other ≢ address → word_at (saved s address word) other ≡ word_at s other }
@@ -67,14 +69,14 @@ pub fn words_hold()
         → holder (homes s) address ≡ Some h → holder (homes t) address ≡ Some h → word_at t address ≡ word_at s address }
 {}
 
-/// A unique block has the words of its class, which hold those asked for; any other block has those asked for.
+/// A unique block has the size of its class, which covers the request; any other block has the requested size.
 pub fn blocks_have_room()
     ensures unique { (words : ℕ) → room UNIQUE words ≡ 2 ^ class_of words }
     ensures enough { (words : ℕ) → words ≤ page_words → words ≤ 2 ^ class_of words }
     ensures asked { (handle words : ℕ) → handle ≢ UNIQUE → room handle words ≡ words }
 {}
 
-/// The pages of a region are filled in order, and the next one is begun where a block does not fit the rest of the last.
+/// The pages of a region are filled in order; a block that does not fit the rest of the last page begins the next one.
 pub fn pages_are_filled()
     ensures page { PAGE_WORDS ≡ page_words }
     ensures empty { region_pages [] ≡ 1 }

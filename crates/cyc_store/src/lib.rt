@@ -1,8 +1,7 @@
-//! The store of a running program: what a store holds and what its services do, as a relation, and the trait that each
-//! store meets.
+//! The store of a running program: its content, the effect of its services as a relation, and the trait that each store implements.
 //!
-//! The definitions stand in `specs/`: what a store holds (`State`), its services (`Services`), and what stays true of every
-//! store that is served (`Soundness`). [`laws`] has their laws.
+//! The definitions are in `specs/`: the content of a store (`State`), its services (`Services`), and the invariant of every store
+//! (`Soundness`). [`laws`] contains their laws.
 #![tactic(auto)]
 
 mod answer;

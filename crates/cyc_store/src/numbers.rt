@@ -1,11 +1,11 @@
-//! The numbers of words and pages, which every store of pages reckons with.
+//! Arithmetic on the numbers of words and pages, which every store of pages uses.
 
 ghost use Rattle.std.specs.Prelude.{◌≡◌, ◌≢◌, ◌+◌, ◌*◌, ◌%◌, ◌^◌, ◌<◌, ◌≤◌, ◌⊎◌, IsTrue, MatchOption, false};
 ghost use Rattle.cyc_words.specs.Demand.{class_of};
 
 use super::range::{MOST_BLOCK_WORDS, STORE_BASE};
 
-/// The words of a block of a class.
+/// Returns the number of words of a block of a class.
 #[inline]
 pub fn size_of(class: u32) -> u32
     requires { class ≤ 10 }
@@ -14,7 +14,7 @@ pub fn size_of(class: u32) -> u32
     1 << class
 }
 
-/// The class of a block: the exponent of the least power of two that holds it.
+/// Returns the class of a block: the exponent of the least power of two that holds it.
 pub fn class_of(words: u32) -> u32
     requires { words ≤ 1024 }
     ensures { result ≡ class_of words }
@@ -27,7 +27,7 @@ pub fn class_of(words: u32) -> u32
     10
 }
 
-/// Whether a block may be asked for with so many words.
+/// Returns true if a block of this many words may be requested.
 #[inline]
 pub fn is_size(words: u32) -> bool
     ensures yes { IsTrue result → (1 ≤ words) × (words ≤ MOST_BLOCK_WORDS) }
@@ -36,7 +36,7 @@ pub fn is_size(words: u32) -> bool
     1 <= words && words <= MOST_BLOCK_WORDS
 }
 
-/// The address of a word, by its number among the words of all pages.
+/// Returns the address of a word, given its number among the words of all pages.
 #[inline]
 pub fn address_at(word: u32) -> u32
     requires { word < 0x400_0000 }
@@ -45,7 +45,7 @@ pub fn address_at(word: u32) -> u32
     STORE_BASE + 4 * word
 }
 
-/// The number of a word among the words of all pages, by its address.
+/// Returns the number of a word among the words of all pages, given its address.
 #[inline]
 pub fn number_at(address: u32) -> Option<u32>
     ensures { MatchOption result ((address < STORE_BASE) ⊎ (address % 4 ≢ 0)) (λ number. address ≡ STORE_BASE + 4 * number) }

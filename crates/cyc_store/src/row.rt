@@ -5,10 +5,10 @@ ghost use Rattle.std.specs.Prelude.{◌≡◌, ℕ, [], ◌+◌, ◌≤◌, IfOk
 use super::range::PAGE_WORDS;
 use std::alloc::{AllocError, Global};
 
-/// What a page is used for.
+/// The use of a page.
 #[derive(Clone, Copy)]
 pub enum Role {
-    /// It is free, or one of the later pages of a region.
+    /// The page is free, or a later page of a region.
     Rest,
     /// The first page of the heap.
     Heap,
@@ -24,30 +24,30 @@ pub enum Role {
 #[derive(Clone, Copy)]
 pub struct Row {
     pub role: Role,
-    /// Of a region's page, how many of its words are filled.
+    /// For a page of a region, the number of its filled words.
     pub filled: u32,
-    /// The page behind it in its chain: an older one of its region, or a free one.
+    /// The next page in the page's chain: an older page of its region, or a free one.
     pub next: u32,
-    /// Of a region's first page, the region's newest page.
+    /// For a region's first page, the region's newest page.
     pub newest: u32,
-    /// Of a region's first page, how many pages the region has.
+    /// For a region's first page, the number of the region's pages.
     pub count: u32,
 }
 
-/// The slots of one class that no block is in.
+/// The empty slots of one class.
 #[derive(Clone, Copy)]
 pub struct ClassSlots {
-    /// The first of those that a block was in. Each has the next one in its first word.
+    /// The first of the slots that contained a block before. The first word of each such slot is the next one.
     pub dead: u32,
-    /// The first of those behind it in its page that no block was in yet, and how many these are.
+    /// The first of the slots that never contained a block, which are consecutive in one page, and their number.
     pub fresh: u32,
     pub left: u32,
 }
 
-/// No page, and no slot.
+/// The mark for no page and no slot.
 pub const NONE: u32 = 0xffff_ffff;
 
-/// The row of a page that nothing is in.
+/// The row of an empty page.
 pub const BLANK: Row = Row {
     role: Role::Rest,
     filled: 0,
@@ -59,20 +59,20 @@ pub const BLANK: Row = Row {
 /// The pages that were ever used, with their words, one page after another.
 #[derive(Drop)]
 pub struct PageTable {
-    /// How many pages there may be.
+    /// The largest number of pages.
     pub most: u32,
     pub words: Vec<u32>,
-    /// Which words are those of live unique blocks: one mark for each word of all pages.
+    /// For each word of all pages, a mark that it is a word of a live unique block.
     pub live: Vec<bool>,
     pub rows: Vec<Row>,
-    /// The first page of the chain of free ones.
+    /// The first page of the chain of free pages.
     pub free: u32,
 }
 
 impl PageTable {
     ghost use Rattle.cyc_store.specs.Table.{IsWhole, IsSame, Draws, given_rows, given_free, AreThere, marked_between};
 
-    /// A table of no pages.
+    /// Returns a table without pages.
     pub fn new(alloc: Global, most: u32) -> PageTable
         ensures most { result.most ≡ most }
         ensures words { result.words.items ≡ [] }
@@ -89,14 +89,14 @@ impl PageTable {
         }
     }
 
-    /// Whether every page is in use.
+    /// Returns true if every page is in use.
     pub fn is_full(&self) -> bool
         ensures { IsTrue result ↔ ((length self.now.rows.items ≤ self.now.free) × (self.now.most ≤ length self.now.rows.items)) }
     {
         self.rows.len() <= self.free as usize && self.most as usize <= self.rows.len()
     }
 
-    /// Takes a page that is free, or one more.
+    /// Takes a free page, or a new one.
     pub fn draw(&mut self) -> Result<u32, AllocError>
         requires few { length self.old.rows.items ≤ 65536 }
         requires whole { IsWhole self.old }
@@ -121,10 +121,11 @@ impl PageTable {
         Ok(page as u32)
     }
 
-    /// Marks so many words from one on as those of a live unique block, or as those of none.
+    /// Marks this many words as words of a live unique block, or as words of none.
     pub fn mark(&mut self, first: usize, count: usize, mark: bool)
         requires { first + count ≤ length self.old.live.items }
-        ensures live { (word : ℕ) → slice_index_or self.new.live.items word false ≡ marked_between (λ (other : ℕ). slice_index_or self.old.live.items other false) first count mark word }
+        ensures live { (word : ℕ) → slice_index_or self.new.live.items word false
+            ≡ marked_between (λ (other : ℕ). slice_index_or self.old.live.items other false) first count mark word }
         ensures whole { length self.new.live.items ≡ length self.old.live.items }
         ensures words { self.new.words.items ≡ self.old.words.items }
         ensures rows { self.new.rows.items ≡ self.old.rows.items }
@@ -136,7 +137,7 @@ impl PageTable {
         }
     }
 
-    /// Frees a chain of so many pages.
+    /// Frees a chain of this many pages.
     pub fn give_back(&mut self, newest: u32, count: u32)
         requires { AreThere self.old.rows.items newest count self.old.free }
         ensures rows { self.new.rows.items ≡ given_rows self.old.rows.items newest count self.old.free }

@@ -1,4 +1,4 @@
-//! Lists of calls of a store: each list is a run of the store relation, and where blocks lie page by page it can always go on.
+//! Lists of calls to a store. Each list is a run of the store relation; if the blocks have a layout in pages, the run can always continue.
 
 ghost use Rattle.std.specs.Prelude.{◌≡◌, ℕ, ◌≤◌, List, None};
 ghost use Rattle.cyc_words.specs.Word.{IsWord};
@@ -11,7 +11,7 @@ ghost use Rattle.cyc_store.specs.declared.runs.Asked.TheVariants.{Save};
 use super::range::MOST_PAGES;
 use super::store::Store;
 
-/// A call of a store, with what it is given.
+/// A call to a store, with its arguments.
 #[derive(Clone, Copy)]
 pub enum Asked {
     OpenLexical,
@@ -24,14 +24,14 @@ pub enum Asked {
     Save { address: u32, word: u32 },
 }
 
-/// Writes a word of a store, whatever it answers.
+/// Writes a word of a store, and ignores the result.
 fn write<S: Store>(store: &mut S, address: u32, word: u32)
     ensures { Makes S.GROWS (Save address word) (S.held store.old) (S.held store.new) }
 {
     let _done = store.save(address, word);
 }
 
-/// Makes a call of a store, whatever it answers.
+/// Calls a store, and ignores the result.
 fn make<S: Store>(store: &mut S, asked: Asked)
     ensures { Makes S.GROWS asked (S.held store.old) (S.held store.new) }
 {
@@ -61,10 +61,10 @@ fn make<S: Store>(store: &mut S, asked: Asked)
     }
 }
 
-/// Makes calls of a store, one after another, whatever it answers.
+/// Calls a store several times in order, and ignores the results.
 ///
-/// What the store holds then is the end of a run of the store relation over these calls, from what it held before. A call that wants
-/// memory is no part of it, and changes nothing; a store that does not grow has none.
+/// The content of the store afterwards is the end of a run of the store relation over these calls, from its content before. A call that
+/// fails for lack of memory is not part of that run, and changes nothing. A store that does not grow has no such calls.
 pub fn make_all<S: Store>(store: &mut S, calls: &[Asked])
     ensures { MakesAll S.GROWS calls.now (S.held store.old) (S.held store.new) }
 {
@@ -73,9 +73,9 @@ pub fn make_all<S: Store>(store: &mut S, calls: &[Asked])
     }
 }
 
-/// Where the blocks of a store lie page by page, the store relation allows a choice for each call that is not refused, after which they
-/// lie so still. So there is a place wherever demand allows a call, and every list of calls has a run that answers each of them. A new
-/// store begins so, and writing a word changes nothing of it.
+/// The blocks of a store may have a layout in pages. If they have one, the store relation allows a choice for each call that is not
+/// refused, and a layout exists afterwards. There is room whenever the demand allows a call. Every list of calls has a run with a result
+/// for each call. A new store has a layout, and writing a word keeps it.
 pub fn choices_exist()
     ensures begins { (pages : ℕ) (s : StoreState) → IsNew pages s → 1 ≤ pages → pages ≤ MOST_PAGES → IsOrdered s }
     ensures chooses { (s : StoreState) (call : Call) → IsOrdered s → refusal s call ≡ None → HasChoice s call }

@@ -1,4 +1,4 @@
-//! The trait that each store meets.
+//! The trait that each store implements.
 
 ghost use Rattle.std.specs.Prelude.{◌≡◌, ◌+◌, ◌*◌, ◌<◌, ◌≤◌, Bool, IsSome, IsTrue, is_some};
 ghost use Rattle.cyc_store.specs.Answers.{Responds, allocated, done_unless, opened_dynamic, opened_lexical};
@@ -9,20 +9,20 @@ ghost use Rattle.cyc_store.specs.declared.range.TheConstants.{STORE_BASE, PAGE_W
 
 use super::answer::{BadHandle, BadMark, No, NotABlock};
 
-/// A store: regions that are opened and closed, blocks that are made in them, unique blocks that are freed one at a time, and
-/// the words of what is live.
+/// A store of regions and blocks. Regions are opened and closed, blocks are allocated in them, unique blocks are freed one at a time, and
+/// the words of live blocks are read and written.
 ///
-/// What it holds is its ghost member `held`, and each method does to that what the relation of the services allows.
-/// Which handle a region gets and where a block lies is the store's choice. A refusal changes nothing.
+/// The content of the store is its ghost member `held`. Each method changes it as the relation of the services allows. The store chooses
+/// the handle of a region and the place of a block. A refused call changes nothing in the store.
 pub trait Store {
     ghost held: { Self → StoreState };
 
-    /// Whether the store may want memory after it was made. Where this is false no call answers [`No::Memory`].
+    /// True if the store may run out of memory after its creation. If false, no call returns [`No::Memory`].
     const GROWS: bool;
 
     ghost GROWS: { Bool };
 
-    /// Opens a lexical region. Gives its handle, which nothing had, and the number of lexical regions that were open before.
+    /// Opens a lexical region. Returns its handle, which is new, and the number of lexical regions that were open before.
     fn open_lexical(&mut self) -> Result<(u32, u32), No>
         ensures { Responds GROWS (held self.old) OpenLexical (opened_lexical result) (held self.new) };
 
@@ -30,7 +30,7 @@ pub trait Store {
     fn close_to(&mut self, mark: u32) -> Result<(), BadMark>
         ensures { Responds GROWS (held self.old) (CloseTo mark) (done_unless services.BadMark result) (held self.new) };
 
-    /// Opens a dynamic region. Gives its handle, which nothing had.
+    /// Opens a dynamic region. Returns the region's handle, which is new.
     fn open_dynamic(&mut self) -> Result<u32, No>
         ensures { Responds GROWS (held self.old) OpenDynamic (opened_dynamic result) (held self.new) };
 
@@ -38,8 +38,8 @@ pub trait Store {
     fn close_dynamic(&mut self, handle: u32) -> Result<(), BadHandle>
         ensures { Responds GROWS (held self.old) (CloseDynamic handle) (done_unless services.BadHandle result) (held self.new) };
 
-    /// Makes a block of so many words, with any contents, in the region with this handle, and gives its address. In the unique
-    /// region the block has the words of its class, the least power of two that holds those asked for.
+    /// Allocates a block of this many words, with arbitrary contents, in the region with this handle, and returns its address. In the
+    /// unique region the block has the size of its class, the least power of two that holds the request.
     fn alloc(&mut self, handle: u32, words: u32) -> Result<u32, No>
         ensures { Responds GROWS (held self.old) (Allocate handle words) (allocated result) (held self.new) };
 
@@ -47,12 +47,13 @@ pub trait Store {
     fn free(&mut self, address: u32) -> Result<(), NotABlock>
         ensures { Responds GROWS (held self.old) (Free address) (done_unless services.NotABlock result) (held self.new) };
 
-    /// The word at an address, where it is that of a word of a live block, which lies in the store's pages.
+    /// Returns the word at an address, if it is a word of a live block; such a word lies in the store's pages.
     fn load(&self, address: u32) -> Option<u32>
         ensures word { result ≡ word_at (held self.now) address }
         ensures inside { IsSome result → (STORE_BASE ≤ address) × (address < STORE_BASE + 4 * (PAGE_WORDS * (held self.now).pages)) };
 
-    /// Writes a word of a live block, which lies in the store's pages. False where the address is that of none; then nothing changes.
+    /// Writes a word of a live block, which lies in the store's pages. Returns false, without a change, if the address is not in a live
+    /// block.
     fn save(&mut self, address: u32, word: u32) -> bool
         ensures done { result ≡ is_some (word_at (held self.old) address) }
         ensures inside { IsTrue result → (STORE_BASE ≤ address) × (address < STORE_BASE + 4 * (PAGE_WORDS * (held self.old).pages)) }

@@ -1,5 +1,5 @@
--- How a table of pages keeps a layout: what its rows, words and marks say, as functions, and the heads of its chains. Nothing
--- here says where these stand. (This project's own choice.)
+-- How a table of pages represents a layout: its rows, words and marks, as functions, and the heads of its chains. Where these are stored is
+-- left open. The representation of a layout by a page table is this project's own choice.
 use Rattle.std.specs.Prelude.{◌≡◌, ℕ, zero, suc, ◌+◌, ◌-◌, ◌*◌, ◌/◌, ◌^◌, ◌<◌, ◌≤◌, ◌==◌, ◌⊎◌, Bool, false, List, [], ◌∷◌, ◌++◌, Option, None, Some, is_some, if◌then◌else◌, length, slice_index, slice_index_or}
 use Rattle.std.specs.List.{AllByRecursion}
 use Rattle.cyc_words.specs.Demand.{greatest_class}
@@ -16,7 +16,7 @@ use Rattle.cyc_store.specs.declared.range.TheConstants.{PAGE_WORDS, UNIQUE, MOST
 use Rattle.cyc_store.specs.Pages.{Pages, HasChain}
 use Rattle.cyc_store.specs.Slots.{place_of, Layout, IsLaidOut, slots_from}
 
--- what is read of a table
+-- the readable content of a table
 pub record Table : Type 0 where
   pub most : ℕ
   pub count : ℕ
@@ -25,7 +25,7 @@ pub record Table : Type 0 where
   pub word : ℕ → ℕ
   pub live : ℕ → Bool
 
--- a chain: each element names the next one, and the last the end
+-- a chain: each element names the next one, and the last names the end
 abbrev pub IsChain : (next : ℕ → ℕ) → (first : ℕ) → List ℕ → Type 0
 IsChain next first [] = first ≡ NONE
 IsChain next first (x ∷ xs) = (first ≡ x) × IsChain next (next x) xs
@@ -34,19 +34,19 @@ abbrev pub IsOneOf : List ℕ → ℕ → Type 0
 IsOneOf [] p = ⊥
 IsOneOf (x ∷ xs) p = (p ≡ x) ⊎ IsOneOf xs p
 
--- so many numbers, one after another
+-- `count` consecutive numbers from `first` on
 abbrev pub numbers_from : (first count : ℕ) → List ℕ
 numbers_from first zero = []
 numbers_from first (suc count) = first ∷ numbers_from (suc first) count
 
 -- ---- the row of a page
 
--- how far the words of a page are live without a look at their slots
+-- the number of words of a page that are live without a look at their marks
 abbrev pub limit : (owner : Option ℕ) → (filled : ℕ) → ℕ
 limit None filled = 0
 limit (Some h) filled = if h == UNIQUE then 0 else filled
 
--- Unique blocks are no region of the table, so theirs is any role of a first page.
+-- The role of the first page of a region of this sort. Unique blocks are not a region of the table, so they have no such role.
 abbrev pub role_of_sort : Sort → Role
 role_of_sort Heap = role.Heap
 role_of_sort Lexical = role.Lexical
@@ -57,7 +57,7 @@ abbrev pub role_of_owner : (owner : Option ℕ) → (class : ℕ) → Role
 role_of_owner None class = role.Rest
 role_of_owner (Some h) class = if h == UNIQUE then role.Slots class else role.Rest
 
--- the role of a page, by the region that it is the first page of, and by its owner
+-- the role of a page, given the region whose first page it is, and its owner
 abbrev pub role_of : Option Sort → (owner : Option ℕ) → (class : ℕ) → Role
 role_of (Some sort) owner class = role_of_sort sort
 role_of None owner class = role_of_owner owner class
@@ -66,7 +66,7 @@ abbrev pub sort_of : Option Home → Option Sort
 sort_of None = None
 sort_of (Some r) = Some r.sort
 
--- the handle of the region whose first page this is
+-- the handle of the region that has this as its first page
 abbrev pub handle_of_page : (page : ℕ) → ℕ
 handle_of_page page = 2 * page + 1
 
@@ -98,13 +98,13 @@ pub record IsStocked (word : ℕ → ℕ) (slots : ClassSlots) (class : ℕ) (de
   pub all : dead ≡ chain ++ slots_from (2 ^ class) slots.fresh slots.left
   pub linked : IsChain word slots.dead chain
 
--- the first slot, and the others
+-- the first empty slot, and the remaining ones
 abbrev pub next_slot_of : ClassSlots → (words : List ℕ) → (class : ℕ) → ℕ × ClassSlots
 next_slot_of slots words class =
     if slots.dead == NONE then (slots.fresh, record { dead = NONE; fresh = slots.fresh + 2 ^ class; left = slots.left - 1 })
     else (slots.dead, record slots { dead = slice_index words slots.dead })
 
--- ---- all of it
+-- ---- the whole table
 
 pub record IsTied (t : Table) (lexicals : List ℕ) (classes : ℕ → ClassSlots) (b : Blocks) (l : Layout) : Type 0 where
   pub most : t.most ≤ MOST_PAGES
@@ -138,7 +138,7 @@ table_of t = record {
   live = λ (slot : ℕ). slice_index_or t.live.items slot false;
 }
 
--- what is true of every store on such a table
+-- the invariant of every store on such a table
 pub record IsKept (t : PageTable) (lexicals : List ℕ) (classes : List ClassSlots) (b : Blocks) : Type 0 where
   pub whole : IsWhole t
   pub eleven : length classes ≡ 11

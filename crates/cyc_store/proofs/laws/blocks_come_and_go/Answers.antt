@@ -1,4 +1,4 @@
--- What is made and freed.
+-- Allocated and freed blocks.
 use Rattle.cyc_store.proofs.BlockLemmas.{serves-made, serves-freed, serves-closed}
 use Rattle.cyc_store.proofs.laws.blocks_come_and_go.Goals as goal
 

@@ -1,4 +1,4 @@
--- Room.
+-- Blocks have the requested size.
 use Rattle.std.proofs.Common.{◌^◌, refl}
 use Rattle.cyc_words.specs.Demand.{class_of}
 use Rattle.cyc_words.proofs.Numbers.{when_equal}

@@ -1,4 +1,4 @@
--- Blocks.
+-- Live blocks are disjoint.
 use Rattle.cyc_store.proofs.ServiceLemmas.{one_block, word-live}
 use Rattle.cyc_store.proofs.laws.blocks_stand_apart.Goals as goal
 

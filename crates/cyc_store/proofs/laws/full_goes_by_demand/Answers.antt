@@ -1,4 +1,4 @@
--- Full.
+-- A store is full by its demand.
 use Rattle.cyc_store.proofs.ServiceLemmas.{full-past, fits, demand-served}
 use Rattle.cyc_store.proofs.laws.full_goes_by_demand.Goals as goal
 

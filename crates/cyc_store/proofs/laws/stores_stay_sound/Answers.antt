@@ -1,4 +1,4 @@
--- Soundness.
+-- Stores stay sound.
 use Rattle.cyc_store.proofs.ServiceLemmas.{start-sound, served-sound, serves-sound, saved-sound, run-sound}
 use Rattle.cyc_store.proofs.laws.stores_stay_sound.Goals as goal
 

@@ -1,4 +1,4 @@
--- Words.
+-- Words are kept.
 use Rattle.cyc_store.proofs.ServiceLemmas.{saved-same, saved-other, serves-words}
 use Rattle.cyc_store.proofs.laws.words_hold.Goals as goal
 
