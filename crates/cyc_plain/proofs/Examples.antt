@@ -23,7 +23,7 @@ use Rattle.cyc_plain.specs.inside.State.{State, output_of, input_of, status_of, 
 use Rattle.cyc_plain.specs.inside.Step.{run, start}
 use Rattle.cyc_plain.proofs.RunLaws.{zeros}
 
--- a function with four slots that takes so many words and returns one
+-- A function with four slots, this many parameters and one result word.
 abbrev function : ℕ → List Instruction → Routine
 function parameters code = record {
   name = record { line = 1; column = 1 };
@@ -40,11 +40,11 @@ program code = record { functions = function 0 code ∷ []; globals = 3 ∷ []; 
 abbrev empty_store : StoreState
 empty_store = stores.start 3 (λ (address : ℕ). 0)
 
--- the state of a program after so many steps, with room for so many calls
+-- The state of a program after `n` steps, with this limit of calls.
 abbrev after : ℕ → ℕ → Program → List ℕ → State
 after steps calls p input = run p 3 calls zeros steps (start p 0x7ffff000 empty_store input)
 
--- the same from a store with a block of two words
+-- The state after `n` steps from a store with a block of two words.
 abbrev two_words : StoreState
 two_words = stores.made_in empty_store 1 (record { address = 0x20000000; size = 2 })
 
@@ -136,7 +136,7 @@ plain_greater_or_equal = refl
 
 -- ---- branches
 
--- the sum of 5, 4, .. 1
+-- The program computes the sum 5 + 4 + .. + 1.
 abbrev sum_down : Program
 sum_down = program (
     Move 0 (Word 0) ∷ Move 1 (Word 5) ∷ Move 2 (Word 1)
@@ -158,7 +158,7 @@ runs_off_the_end = refl
 
 -- ---- calls
 
--- f prints A and calls itself with one less, down to 0; main calls f(3)
+-- Function `f` prints `A` and calls `f` recursively with its argument minus 1, down to 0; `main` calls `f(3)`.
 abbrev recursion : Program
 recursion = record {
   functions =
@@ -178,7 +178,7 @@ recursion_ends = refl
 recursion_prints : output_of (after 40 5 recursion []) ≡ 65 ∷ 65 ∷ 65 ∷ 65 ∷ []
 recursion_prints = refl
 
--- with room for four calls there is none for the fifth, and the output is as before it
+-- With a limit of four calls the fifth ends the run, and the output is as before it.
 recursion_is_full : status_of (after 40 4 recursion []) ≡ Ended Full
 recursion_is_full = refl
 
@@ -191,9 +191,9 @@ recursion_depth = refl
 call_counts_its_argument : size (function 0 (Move 0 (Word 3) ∷ Call 1 0 1 0 ∷ Return 0 ∷ [])) ≡ 68
 call_counts_its_argument = refl
 
--- ---- room for a call that is not made
+-- ---- checks of stack room
 
--- main asks room for a call of itself and returns
+-- `main` checks stack room for a recursive call and returns.
 abbrev asking : Program
 asking = program (instructions.Enter 0 ∷ Move 0 (Word 7) ∷ Return 0 ∷ [])
 
@@ -238,9 +238,9 @@ plain_uncaught = refl
 plain_places : places_of (program (Move 0 (Word 0) ∷ Return 0 ∷ [])) ≡ record { function = 0; index = 0 } ∷ record { function = 0; index = 1 } ∷ []
 plain_places = refl
 
--- ---- comparisons of a branch, and operands that are words
+-- ---- comparisons of a branch, and constant operands
 
--- a branch on these two words returns 1 where it is taken, and 0 elsewhere
+-- Returns 1 if the branch on these two words is taken, else 0.
 abbrev of_branch : Comparison → ℕ → ℕ → Status
 of_branch comparison a b =
     status_of (after 4 1 (program (Branch comparison (Word a) (Word b) 3 ∷ Move 0 (Word 0) ∷ Return 0 ∷ Move 0 (Word 1) ∷ Return 0 ∷ [])) [])
@@ -277,8 +277,8 @@ stored_is_loaded = refl
 other_words_stay : status_of (after_with_block 3 (program (instructions.Store (Word 0x20000000) 4 (Word 7) ∷ instructions.Load 0 (Word 0x20000000) 0 ∷ Return 0 ∷ []))) ≡ Ended (Returned (pos 0))
 other_words_stay = refl
 
-load_behind_the_block_is_stuck : status_of (after_with_block 1 (program (instructions.Load 0 (Word 0x20000000) 8 ∷ Return 0 ∷ []))) ≡ Failed
-load_behind_the_block_is_stuck = refl
+load_after_the_block_is_stuck : status_of (after_with_block 1 (program (instructions.Load 0 (Word 0x20000000) 8 ∷ Return 0 ∷ []))) ≡ Failed
+load_after_the_block_is_stuck = refl
 
 store_before_the_block_is_stuck : status_of (after_with_block 1 (program (instructions.Store (Word 0x20000000) 0xfffffffc (Word 7) ∷ Return 0 ∷ []))) ≡ Failed
 store_before_the_block_is_stuck = refl
@@ -295,8 +295,8 @@ byte_at_the_highest_address_is_the_low_one = refl
 low_byte_is_stored_and_the_others_stay : status_of (after_with_block 4 (program (instructions.Store (Word 0x20000000) 4 (Word 0x12345678) ∷ instructions.StoreByte (Word 0x20000006) 0 (Word 0x341) ∷ instructions.Load 0 (Word 0x20000000) 4 ∷ Return 0 ∷ []))) ≡ Ended (Returned (pos 0x12344178))
 low_byte_is_stored_and_the_others_stay = refl
 
-byte_behind_the_block_is_stuck : status_of (after_with_block 1 (program (instructions.LoadByte 0 (Word 0x20000000) 8 ∷ Return 0 ∷ []))) ≡ Failed
-byte_behind_the_block_is_stuck = refl
+byte_after_the_block_is_stuck : status_of (after_with_block 1 (program (instructions.LoadByte 0 (Word 0x20000000) 8 ∷ Return 0 ∷ []))) ≡ Failed
+byte_after_the_block_is_stuck = refl
 
 byte_stored_before_the_block_is_stuck : status_of (after_with_block 1 (program (instructions.StoreByte (Word 0x20000000) 0xffffffff (Word 7) ∷ Return 0 ∷ []))) ≡ Failed
 byte_stored_before_the_block_is_stuck = refl
@@ -321,7 +321,7 @@ slot_is_loaded_by_its_address = refl
 slot_that_is_not_named_has_no_address : status_of (after 2 1 (program (instructions.AddressOf 0 2 1 ∷ instructions.Load 1 (Slot 0) 4 ∷ Return 1 ∷ [])) []) ≡ Failed
 slot_that_is_not_named_has_no_address = refl
 
--- `main` passes the address of its slot 2 to a function that stores there
+-- `main` passes the address of its slot 2 to a function that stores a word there.
 abbrev passes_an_address : Program
 passes_an_address = record {
   functions =
@@ -338,12 +338,12 @@ slot_of_the_caller_is_stored = refl
 global_is_stored_by_its_address : status_of (after 3 1 (program (instructions.Store (Word 0x10000000) 0 (Word 8) ∷ LoadGlobal 0 0 ∷ Return 0 ∷ [])) []) ≡ Ended (Returned (pos 8))
 global_is_stored_by_its_address = refl
 
-no_global_behind_the_last : status_of (after 1 1 (program (instructions.Load 0 (Word 0x10000000) 4 ∷ Return 0 ∷ [])) []) ≡ Failed
-no_global_behind_the_last = refl
+no_global_after_the_last : status_of (after 1 1 (program (instructions.Load 0 (Word 0x10000000) 4 ∷ Return 0 ∷ [])) []) ≡ Failed
+no_global_after_the_last = refl
 
--- ---- calls of the store
+-- ---- requests to the store
 
--- from a new store of three pages, where each block is made at this address, and each region gets this handle
+-- The status after requests to a new store of three pages, where each block has this address and each region this handle.
 abbrev after_calls : (steps : ℕ) → List Instruction → Status
 after_calls steps code =
     status_of (run (program code) 3 1 (record { contents = λ (slot : ℕ). 0; base = 0; serving = record { handle = 7; address = 0x20000000; memory = λ (address : ℕ). 0 } }) steps (start (program code) 0x7ffff000 empty_store []))
@@ -381,8 +381,8 @@ block_of_no_words_is_stuck = refl
 handle_comes_to_a_slot : after_calls 2 (open_lexical 0 ∷ Return 0 ∷ []) ≡ Ended (Returned (pos 7))
 handle_comes_to_a_slot = refl
 
-mark_comes_behind_it : after_calls 3 (open_lexical 0 ∷ open_lexical 2 ∷ Return 3 ∷ []) ≡ Ended (Returned (pos 1))
-mark_comes_behind_it = refl
+mark_comes_after_it : after_calls 3 (open_lexical 0 ∷ open_lexical 2 ∷ Return 3 ∷ []) ≡ Ended (Returned (pos 1))
+mark_comes_after_it = refl
 
 region_past_the_pages_is_full : after_calls 3 (open_lexical 0 ∷ open_dynamic 0 ∷ open_lexical 0 ∷ Return 0 ∷ []) ≡ Ended Full
 region_past_the_pages_is_full = refl
@@ -416,7 +416,7 @@ block_is_freed_once = refl
 
 -- ---- handlers
 
--- with two calls under way at most
+-- The status of a program with handlers, if two calls are allowed at once.
 abbrev after_throws : (steps : ℕ) → List Instruction → List Instruction → Status
 after_throws steps code callee =
     status_of (run (record { functions = function 0 code ∷ function 0 callee ∷ []; globals = []; main = 0 }) 3 2 zeros steps

@@ -7,9 +7,9 @@ pub mod WordLaws
 pub mod MemoryLaws
 pub mod CallLaws
 pub mod Straight
--- room for a call that is not made
+-- checks of stack room
 pub mod Rooms
--- programs that ask for none
+-- programs without checks of stack room
 pub mod Uniform
 -- worked examples
 pub mod Examples

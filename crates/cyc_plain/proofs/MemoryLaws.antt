@@ -1,5 +1,5 @@
--- Where loads and stores find words: each global, each word of a live block, and each slot that is named by its address has an
--- address of its own, since the slots of the calls under way lie one below the other.
+-- The words that loads and stores find. Each global, each word of a live block, and each slot whose address is taken has an address of its
+-- own. The slots of different calls are disjoint, since those of each call lie below those of its caller.
 use Rattle.std.proofs.Common.{◌≡◌, ◌≢◌, ℕ, zero, suc, ◌+◌, ◌-◌, ◌*◌, ◌/◌, ◌<◌, ◌≤◌, Bool, true, false, ◌&&◌, List, [], ◌∷◌, length, Option, None, Some, set, slice_get, refl, sym, ap, subst, ◌∙◌, arith, inl, inr}
 use Rattle.std.specs.Prelude.{◌==◌, nat_le, nat_lt, if◌then◌else◌}
 use Rattle.std.proofs.lemmas.Bool.{cond-true, cond-false, and_from, and_parts, eq-eqb, eqb-true, ltb-true, leb-true, lt-ltb, le-leb, le-ltb, or_left, or_right, or_cases}
@@ -16,7 +16,7 @@ use Rattle.cyc_plain.specs.inside.Memory.{slots_base, slots_end, AreBelow, Range
 use Rattle.cyc_plain.proofs.Placed.{routine_in}
 use Rattle.cyc_plain.proofs.Steps.{function_known}
 
--- ---- words one behind the other
+-- ---- consecutive words
 
 pub numbered-there : (is_asked : ℕ → Bool) (base n : ℕ) → is_asked n ≡ true → numbered is_asked base (base + 4 * n) ≡ Some n
 numbered-there is_asked base n asked =
@@ -41,9 +41,9 @@ numbered-none is_asked base a apart = go (numbered is_asked base a) refl
     go None found = refl
     go (Some n) found = absurd (apart n (numbered-from is_asked base a n found).1 (numbered-from is_asked base a n found).0)
 
--- ---- slots that are named by their address
+-- ---- slots whose address is taken
 
--- an instruction of the code names it
+-- An instruction of the code takes the address of the slot.
 record IsPinned (code : List Instruction) (slot : ℕ) : Type 0 where
   index : ℕ
   destination : ℕ
@@ -71,7 +71,7 @@ pinned_is_pinned (i ∷ code) slot pinned = elim (or_cases (pins i slot) (is_pin
 address_of_pins : (destination first count slot : ℕ) → first ≤ slot → slot < first + count → pins (instructions.AddressOf destination first count) slot ≡ true
 address_of_pins destination first count slot from below = and_from (nat_le first slot) (nat_lt slot (first + count)) (le-leb first slot from) (lt-ltb slot (first + count) below)
 
--- the slots that an instruction of the code names
+-- The slots whose address an instruction takes are pinned.
 pub pinned-at : (code : List Instruction) (index destination first count slot : ℕ) → slice_get code index ≡ Some (instructions.AddressOf destination first count)
     → first ≤ slot → slot < first + count → is_pinned code slot ≡ true
 pinned-at [] index destination first count slot at from below = absurd (let e : None ≡ Some (instructions.AddressOf destination first count) = at in cc)
@@ -81,7 +81,7 @@ pinned-at (i ∷ code) zero destination first count slot at from below =
 pinned-at (i ∷ code) (suc index) destination first count slot at from below =
     or_right (pins i slot) (is_pinned code slot) (pinned-at code index destination first count slot at from below)
 
--- it is a slot of the function
+-- A pinned slot is a slot of the function.
 pub pinned-inside : (program : Program) → IsWellFormed program → (function slot : ℕ) → is_pinned (routine_at program function).code slot ≡ true → slot < (routine_at program function).slots
 pinned-inside program well function slot pinned =
     let p = pinned_is_pinned (routine_at program function).code slot pinned in
@@ -91,9 +91,9 @@ pinned-inside program well function slot pinned =
     All_at (IsInRange program (routine_at program function)) (routine_at program function).code p.index (instructions.AddressOf p.destination p.first p.count) routine.instructions p.at in
     omega (arith, p.below, range.2)
 
--- ---- the calls that wait
+-- ---- waiting calls
 
--- the slots of a call lie below those of the calls that wait for it
+-- The slots of a call lie below those of the calls that wait for it.
 pub below-waiting : (program : Program) (function base : ℕ) (frames : List Frame) (k : ℕ) (f : Frame) → AreBelow program function base frames → slice_get frames k ≡ Some f
     → base + 4 * (routine_at program function).slots ≤ f.caller.base
 below-waiting program function base [] k f below at = absurd (let e : None ≡ Some f = at in cc)
@@ -111,7 +111,7 @@ pub below-low : (program : Program) (function base : ℕ) (frames : List Frame) 
 below-low program function base [] below = below.low
 below-low program function base (f ∷ frames) (first, rest) = first.low
 
--- a call that waits, with the calls that wait for it
+-- A waiting call lies below the calls that wait for it.
 pub below-there : (program : Program) (function base : ℕ) (frames : List Frame) (k : ℕ) (f : Frame) → AreBelow program function base frames → slice_get frames k ≡ Some f
     → (others : List Frame) × AreBelow program f.caller.function f.caller.base others
 below-there program function base [] k f below at = absurd (let e : None ≡ Some f = at in cc)
@@ -120,7 +120,7 @@ below-there program function base (h ∷ frames) zero f (first, rest) at =
     (frames, subst (λ (g : Frame). AreBelow program g.caller.function g.caller.base frames) same rest)
 below-there program function base (h ∷ frames) (suc k) f (first, rest) at = below-there program h.caller.function h.caller.base frames k f rest at
 
--- a slot of a call that waits is found, and written, by its address
+-- A pinned slot of a waiting call is read and written at its address.
 waiting-hidden : (program : Program) → IsWellFormed program → (h : Frame) (a : ℕ) → h.caller.base + 4 * (routine_at program h.caller.function).slots ≤ a → slot_at program h.caller a ≡ None
 waiting-hidden program well h a past =
     numbered-none (is_pinned (routine_at program h.caller.function).code) h.caller.base a
@@ -140,7 +140,7 @@ found-waiting program well function base (h ∷ frames) (suc k) f slot (first, r
     ap (λ (o : Option ℕ). word_or o h.caller.slots (word_waiting program frames (f.caller.base + 4 * slot))) hidden
     ∙ found-waiting program well h.caller.function h.caller.base frames k f slot rest at pinned
 
--- the call with a slot written
+-- The waiting call with one slot written.
 abbrev pub with_slot_of : Frame → (slot word : ℕ) → Frame
 with_slot_of f slot word = record f { caller = record f.caller { slots = put f.caller.slots slot word } }
 
@@ -160,7 +160,7 @@ written-waiting program well function base (h ∷ frames) (suc k) f slot word (f
     ap (λ (o : Option ℕ). put_or o word h frames (with_waiting program frames a word)) hidden
     ∙ ap (λ (fs : List Frame). h ∷ fs) (written-waiting program well h.caller.function h.caller.base frames k f slot word rest at pinned)
 
--- the calls stay where they are
+-- A write to a slot keeps the addresses of the waiting calls.
 pub waiting-below : (program : Program) (function base : ℕ) (frames : List Frame) (a word : ℕ) → AreBelow program function base frames → AreBelow program function base (with_waiting program frames a word)
 waiting-below program function base [] a word below = below
 waiting-below program function base (f ∷ frames) a word (first, rest) =
@@ -179,7 +179,7 @@ length-waiting program (f ∷ frames) a word = go (slot_at program f.caller a) (
     go (Some number) others = refl
     go None others = ap (λ (n : ℕ). suc n) others
 
--- what a store leaves of a state, wherever its word is
+-- The parts of a configuration that a store leaves unchanged, wherever its word is.
 pub record IsLeft (c d : Configuration) : Type 0 where
   pub function : d.active.function ≡ c.active.function
   pub next : d.active.next ≡ c.active.next
@@ -203,7 +203,7 @@ memory-left program c a word = by (range_of a)
     by OfStore = record { function = refl; next = refl; depth = refl; output = refl; input = refl }
     by OfSlots = by_slot (slot_at program c.active a)
 
--- ---- the three ranges
+-- ---- the three ranges of memory
 
 pub range-globals : (a : ℕ) → a < STORE_BASE → range_of a ≡ OfGlobals
 range-globals a below = cond-true (nat_lt a STORE_BASE) OfGlobals (if nat_lt a slots_base then OfStore else OfSlots) (lt-ltb a STORE_BASE below)
@@ -218,11 +218,11 @@ range-slots a from =
     cond-false (nat_lt a STORE_BASE) OfGlobals (if nat_lt a slots_base then OfStore else OfSlots) (le-ltb a STORE_BASE (omega (arith, from)))
     ∙ cond-false (nat_lt a slots_base) OfStore OfSlots (le-ltb a slots_base from)
 
--- a word of the store
+-- An address in the store's range denotes a word of the store.
 pub memory-store : (program : Program) (c : Configuration) (a : ℕ) → STORE_BASE ≤ a → a < slots_base → memory_at program c a ≡ word_at c.store a
 memory-store program c a from below = ap (word_in program c a) (range-store a from below)
 
--- the word of a live block, where its address is in the store's range
+-- The word of a live block, if its address is in the store's range.
 abbrev pub store_word_in : StoreState → (address : ℕ) → Range → Option ℕ
 store_word_in s address OfGlobals = None
 store_word_in s address OfStore = word_at s address
@@ -242,7 +242,7 @@ stored-word s a word there = go (range_of a) there
     go OfStore found = found
     go OfSlots found = absurd (let e : None ≡ Some word = found in cc)
 
--- it is found by its address, and written by it, whatever else is in memory
+-- A word of a live block is read and written at its address, whatever else memory contains.
 module _ (program : Program) (c : Configuration) (a word : ℕ) (there : store_word c.store a ≡ Some word) where
   in-store : range_of a ≡ OfStore
   in-store = go (range_of a) refl there
@@ -259,7 +259,7 @@ module _ (program : Program) (c : Configuration) (a word : ℕ) (there : store_w
   written-stored new = ap (with_word program c a new) in-store
 
 module _ (program : Program) (well : IsWellFormed program) (c : Configuration) where
-  -- a global
+  -- A global has its own address.
   global-there : (number : ℕ) → number < length program.globals → global_at program (GLOBALS_BASE + 4 * number) ≡ Some number
   global-there number below = numbered-there (λ (n : ℕ). nat_lt n (length program.globals)) GLOBALS_BASE number (lt-ltb number (length program.globals) below)
 
@@ -274,7 +274,7 @@ module _ (program : Program) (well : IsWellFormed program) (c : Configuration) w
       ∙ ap (λ (o : Option ℕ). with_global c o word) (global-there number below)
 
   module _ (lie : AreBelow program c.active.function c.active.base c.frames) where
-    -- a slot of the call that is executed
+    -- A pinned slot of the active call has its own address.
     active-there : (slot : ℕ) → is_pinned (routine_at program c.active.function).code slot ≡ true → slot_at program c.active (c.active.base + 4 * slot) ≡ Some slot
     active-there slot pinned = numbered-there (is_pinned (routine_at program c.active.function).code) c.active.base slot pinned
 
@@ -292,7 +292,7 @@ module _ (program : Program) (well : IsWellFormed program) (c : Configuration) w
         ap (with_word program c (c.active.base + 4 * slot) word) (active-range slot)
         ∙ ap (λ (o : Option ℕ). with_slot program c o (c.active.base + 4 * slot) word) (active-there slot pinned)
 
-    -- a slot of a call that waits
+    -- A pinned slot of a waiting call has its own address.
     module _ (k : ℕ) (f : Frame) (at : slice_get c.frames k ≡ Some f) where
       above : c.active.base + 4 * (routine_at program c.active.function).slots ≤ f.caller.base
       above = below-waiting program c.active.function c.active.base c.frames k f lie at

@@ -36,7 +36,7 @@ routine_in program function well below =
 last_is_some : (r : Routine) → IsSomeAnd (slice_get r.code (length r.code - 1)) (λ i. leaves i ≡ true) → (i : Instruction) → slice_get r.code (length r.code - 1) ≡ Some i → leaves i ≡ true
 last_is_some r last i at = subst (λ (o : Option Instruction). IsSomeAnd o (λ j. leaves j ≡ true)) at last
 
--- a function has code
+-- A well-formed function has code.
 pub has_code : (program : Program) (r : Routine) → IsRoutine program r → 0 < length r.code
 has_code program r routine = go r.code routine.last
   where
@@ -44,9 +44,9 @@ has_code program r routine = go r.code routine.last
     go [] last = absurd last
     go (i ∷ code) last = omega arith
 
--- behind an instruction that does not leave stands another
-pub goes_behind : (program : Program) (r : Routine) (place : ℕ) (i : Instruction) → IsRoutine program r → slice_get r.code place ≡ Some i → leaves i ≡ false → place + 1 < length r.code
-goes_behind program r place i routine at stays =
+-- An instruction that may fall through is followed by another.
+pub goes_after : (program : Program) (r : Routine) (place : ℕ) (i : Instruction) → IsRoutine program r → slice_get r.code place ≡ Some i → leaves i ≡ false → place + 1 < length r.code
+goes_after program r place i routine at stays =
     elim (cases_lt (place + 1) (length r.code)) [
       | inl below ↦ below
       | inr end ↦
@@ -61,7 +61,7 @@ goes_behind program r place i routine at stays =
 abbrev pub IsPlacedAt : Program → (function next : ℕ) → Type 0
 IsPlacedAt program function next = (function < length program.functions) × (next < length (routine_at program function).code)
 
--- handlers of a function stand in its code
+-- The open handlers of a function have their places in its code.
 abbrev pub ArePlaced : Program → (function : ℕ) → List Handler → Type 0
 ArePlaced program function [] = Unit {0}
 ArePlaced program function (Open index first contents ∷ handlers) =
@@ -71,7 +71,7 @@ ArePlaced program function (Caught ∷ handlers) = ArePlaced program function ha
 abbrev pub IsWaiting : Program → Frame → Type 0
 IsWaiting program f = IsPlacedAt program f.caller.function f.caller.next × ArePlaced program f.caller.function f.caller.handlers
 
--- the place of a run that goes on, and those of the calls that wait
+-- The places of the active call and of the waiting calls are in the code.
 abbrev pub IsPlaced : Program → State → Type 0
 IsPlaced program (Running c) =
     IsPlacedAt program c.active.function c.active.next × ArePlaced program c.active.function c.active.handlers × AllByRecursion (IsWaiting program) c.frames
@@ -82,7 +82,7 @@ return_is_placed : (program : Program) (c : Configuration) (value results : ℕ)
 return_is_placed program c value results [] waiting = tt
 return_is_placed program c value results (f ∷ frames) (first, rest) = (first.0, first.1, rest)
 
--- a store changes no place
+-- A store to a waiting call's slot keeps the call's place.
 waiting_written : (program : Program) (frames : List Frame) (address word : ℕ) → AllByRecursion (IsWaiting program) frames → AllByRecursion (IsWaiting program) (with_waiting program frames address word)
 waiting_written program [] address word waiting = tt
 waiting_written program (f ∷ frames) address word (first, rest) = go (slot_at program f.caller address) (waiting_written program frames address word rest)
@@ -98,9 +98,9 @@ module _ (program : Program) (well : IsWellFormed program) (choice : Choice) (c 
   routine : IsRoutine program here
   routine = routine_in program c.active.function well inside
 
-  -- the place behind an instruction that does not leave
-  behind : (i : Instruction) → slice_get here.code c.active.next ≡ Some i → leaves i ≡ false → IsPlacedAt program c.active.function (c.active.next + 1)
-  behind i at stays = (inside, goes_behind program here c.active.next i routine at stays)
+  -- The next place is in the code after an instruction that may fall through.
+  following : (i : Instruction) → slice_get here.code c.active.next ≡ Some i → leaves i ≡ false → IsPlacedAt program c.active.function (c.active.next + 1)
+  following i at stays = (inside, goes_after program here c.active.next i routine at stays)
 
   chosen : (b : Bool) (target : ℕ) → IsPlacedAt program c.active.function target → IsPlacedAt program c.active.function (c.active.next + 1) → IsPlacedAt program c.active.function (if b then target else c.active.next + 1)
   chosen true target first second = first
@@ -178,47 +178,47 @@ module _ (program : Program) (well : IsWellFormed program) (choice : Choice) (c 
   finished value results (h ∷ handlers) = tt
 
   performs : (i : Instruction) → slice_get here.code c.active.next ≡ Some i → IsInRange program here i → IsPlaced program (performed program choice c i)
-  performs (instructions.Move destination source) at range = (behind _ at refl, handling, waiting)
-  performs (instructions.MoveWords destination source count) at range = (behind _ at refl, handling, waiting)
+  performs (instructions.Move destination source) at range = (following _ at refl, handling, waiting)
+  performs (instructions.MoveWords destination source count) at range = (following _ at refl, handling, waiting)
   performs (instructions.Load destination address offset) at range =
-      loaded destination (memory_at program c (add_of (operand_word c.active.slots address) offset)) (behind (instructions.Load destination address offset) at refl)
+      loaded destination (memory_at program c (add_of (operand_word c.active.slots address) offset)) (following (instructions.Load destination address offset) at refl)
   performs (instructions.Store address offset source) at range =
-      saved (add_of (operand_word c.active.slots address) offset) (operand_word c.active.slots source) (memory_at program c (add_of (operand_word c.active.slots address) offset)) (behind (instructions.Store address offset source) at refl)
+      saved (add_of (operand_word c.active.slots address) offset) (operand_word c.active.slots source) (memory_at program c (add_of (operand_word c.active.slots address) offset)) (following (instructions.Store address offset source) at refl)
   performs (instructions.LoadByte destination address offset) at range =
-      loaded_byte destination (add_of (operand_word c.active.slots address) offset) (memory_at program c (word_of (add_of (operand_word c.active.slots address) offset))) (behind (instructions.LoadByte destination address offset) at refl)
+      loaded_byte destination (add_of (operand_word c.active.slots address) offset) (memory_at program c (word_of (add_of (operand_word c.active.slots address) offset))) (following (instructions.LoadByte destination address offset) at refl)
   performs (instructions.StoreByte address offset source) at range =
-      saved_byte (add_of (operand_word c.active.slots address) offset) (operand_word c.active.slots source % 256) (memory_at program c (word_of (add_of (operand_word c.active.slots address) offset))) (behind (instructions.StoreByte address offset source) at refl)
-  performs (instructions.Unary operator destination operand) at range = (behind _ at refl, handling, waiting)
+      saved_byte (add_of (operand_word c.active.slots address) offset) (operand_word c.active.slots source % 256) (memory_at program c (word_of (add_of (operand_word c.active.slots address) offset))) (following (instructions.StoreByte address offset source) at refl)
+  performs (instructions.Unary operator destination operand) at range = (following _ at refl, handling, waiting)
   performs (instructions.Binary operator destination left right) at range =
-      if_either (IsPlaced program) (has_no_result operator (operand_word c.active.slots right)) (Stuck c.output c.input) (gives c destination (binary_result operator (operand_word c.active.slots left) (operand_word c.active.slots right))) tt (behind (instructions.Binary operator destination left right) at refl, handling, waiting)
+      if_either (IsPlaced program) (has_no_result operator (operand_word c.active.slots right)) (Stuck c.output c.input) (gives c destination (binary_result operator (operand_word c.active.slots left) (operand_word c.active.slots right))) tt (following (instructions.Binary operator destination left right) at refl, handling, waiting)
   performs (instructions.Jump target) at range = ((inside, range), handling, waiting)
   performs (instructions.Branch comparison left right target) at (first, second, reached) =
-      (chosen (compares comparison (operand_word c.active.slots left) (operand_word c.active.slots right)) target (inside, reached) (behind (instructions.Branch comparison left right target) at refl), handling, waiting)
+      (chosen (compares comparison (operand_word c.active.slots left) (operand_word c.active.slots right)) target (inside, reached) (following (instructions.Branch comparison left right target) at refl), handling, waiting)
   performs (instructions.Call function arguments count result) at range =
-      ((range.function_in_range, has_code program (routine_at program function) (routine_in program function well range.function_in_range)), tt, ((behind _ at refl, handling), waiting))
+      ((range.function_in_range, has_code program (routine_at program function) (routine_in program function well range.function_in_range)), tt, ((following _ at refl, handling), waiting))
   performs (instructions.Return value) at range = return_is_placed program c value here.results c.frames waiting
-  performs (instructions.ReadByte destination) at range = (behind _ at refl, handling, waiting)
-  performs (instructions.WriteByte source) at range = (behind _ at refl, handling, waiting)
-  performs (instructions.AddressOf destination slot count) at range = (behind _ at refl, handling, waiting)
-  performs (instructions.LoadGlobal destination global) at range = (behind _ at refl, handling, waiting)
-  performs (instructions.StoreGlobal global source) at range = (behind _ at refl, handling, waiting)
-  performs (instructions.CountLexical destination) at range = (behind _ at refl, handling, waiting)
+  performs (instructions.ReadByte destination) at range = (following _ at refl, handling, waiting)
+  performs (instructions.WriteByte source) at range = (following _ at refl, handling, waiting)
+  performs (instructions.AddressOf destination slot count) at range = (following _ at refl, handling, waiting)
+  performs (instructions.LoadGlobal destination global) at range = (following _ at refl, handling, waiting)
+  performs (instructions.StoreGlobal global source) at range = (following _ at refl, handling, waiting)
+  performs (instructions.CountLexical destination) at range = (following _ at refl, handling, waiting)
   performs (instructions.Ask request) at range =
-      served (destination_of request) (call_in c.active.slots request) (refusal c.store (call_in c.active.slots request)) (behind (instructions.Ask request) at refl)
+      served (destination_of request) (call_in c.active.slots request) (refusal c.store (call_in c.active.slots request)) (following (instructions.Ask request) at refl)
   performs (instructions.Try first handler) at range =
-      tried first handler c.active.handlers handling range.handler_in_range (behind (instructions.Try first handler) at refl)
-  performs (instructions.Leave first) at range = closed first c.active.handlers handling (behind (instructions.Leave first) at refl)
+      tried first handler c.active.handlers handling range.handler_in_range (following (instructions.Try first handler) at refl)
+  performs (instructions.Leave first) at range = closed first c.active.handlers handling (following (instructions.Leave first) at refl)
   performs (instructions.Throw tag value) at range =
       thrown (operand_word c.active.slots tag) (operand_word c.active.slots value) c.active c.frames inside handling waiting
   performs (instructions.Finish value) at range = finished value here.results c.active.handlers
   performs (instructions.Uncaught tag value) at range = tt
-  performs (instructions.Enter function) at range = (behind _ at refl, handling, waiting)
+  performs (instructions.Enter function) at range = (following _ at refl, handling, waiting)
 
   executes : (o : Option Instruction) → slice_get here.code c.active.next ≡ o → IsPlaced program (executed program choice c o)
   executes (Some i) at = performs i at (All_at (IsInRange program here) here.code c.active.next i routine.instructions at)
   executes None at = tt
 
--- each step goes to a place in the code
+-- Each step from a place in the code leads to a place in the code.
 pub placed_step : (program : Program) (choice : Choice) (s : State) → IsWellFormed program → IsPlaced program s → IsPlaced program (step program choice s)
 placed_step program choice (Running c) well ((inside, next), handling, waiting) = executes program well choice c inside next handling waiting (instruction_at program (place_of (Running c))) refl
 placed_step program choice (Ended ending output input) well placed = tt
@@ -235,12 +235,12 @@ placed_run program pages calls (suc n) old new well placed (mid, (choice, allowe
 pub placed_start : (program : Program) (base : ℕ) (store : StoreState) (input : List ℕ) → IsWellFormed program → IsPlaced program (start program base store input)
 placed_start program base store input well = ((well.main, has_code program (routine_at program program.main) (routine_in program program.main well well.main)), tt, tt)
 
--- ---- getting stuck
+-- ---- stuck states
 
 running_not_failed : (c : Configuration) → simulation.Running ≡ simulation.Failed → ⊥
 running_not_failed c e = cc
 
--- why a run cannot go on
+-- The reasons why a run gets stuck.
 abbrev Stops : Program → State → Type 0
 Stops program s = DividesByZero program s ⊎ (AsksForNoWord program s ⊎ (AsksInVain program s ⊎ AsksForHandlers program s))
 
@@ -250,13 +250,13 @@ divides : (program : Program) (c : Configuration) (operator : BinaryOperator) (d
 divides program c operator destination left right true is at failed = inl (operator, destination, left, right, at, is)
 divides program c operator destination left right false is at failed = absurd (running_not_failed c failed)
 
--- a load or a store, by what is found at the address
+-- A load or a store gets stuck only if memory has no word at the address.
 access_stops : (program : Program) (c : Configuration) (i : Instruction) (address : ℕ) (found : Option ℕ) (after : Option ℕ → State) → memory_at program c address ≡ found → instruction_at program (place_of (Running c)) ≡ Some i
     → AsksAt c address i → ((word : ℕ) → status_of (after (Some word)) ≡ simulation.Running) → status_of (after found) ≡ simulation.Failed → Stops program (Running c)
 access_stops program c i address None after is at asks goes failed = inr (inl (i, address, at, asks, is))
 access_stops program c i address (Some word) after is at asks goes failed = absurd (running_not_failed c (sym (goes word) ∙ failed))
 
--- a call of the store
+-- A request gets stuck only if the store refuses it for a reason other than room.
 asks_stop : (program : Program) (choice : Choice) (c : Configuration) (destination : ℕ) (call : Call) (o : Option Refusal) → refusal c.store call ≡ o → asked program (Running c) ≡ Some call
     → status_of (asks choice.serving c destination call o) ≡ simulation.Failed → Stops program (Running c)
 asks_stop program choice c destination call None is called failed = absurd (running_not_failed c failed)
@@ -321,7 +321,8 @@ fails_placed program choice (Running c) well ((inside, next), handling, waiting)
 fails_placed program choice (Ended ending output input) well placed running failed = absurd (let e : simulation.Ended ending ≡ simulation.Running = running in cc)
 fails_placed program choice (Stuck output input) well placed running failed = absurd (let e : simulation.Failed ≡ simulation.Running = running in cc)
 
--- A run of a well-formed program gets stuck only where it divides by 0, or asks for a word that memory does not have.
+-- A run of a well-formed program gets stuck only at a division by 0, an address without a word, a refused request, or an instruction for
+-- handlers.
 pub few_get_stuck : (program : Program) (pages calls n base : ℕ) (store : StoreState) (input : List ℕ) (old new : State) → IsWellFormed program → Run (machine program pages calls) n (start program base store input) old
     → status_of old ≡ simulation.Running → Step program pages calls old new → status_of new ≡ simulation.Failed → Stops program old
 few_get_stuck program pages calls n base store input old new well run running (choice, allowed, is) failed =

@@ -25,7 +25,7 @@ use Rattle.cyc_plain.specs.inside.Step.{Choice, IsAllowed, MayServe, MayLie, giv
 use Rattle.cyc_plain.specs.inside.Step.{call_in, call_of, asked, callee_of, called, performed, executed, instruction_at, step, is_within, limit_of, limit_at, limited, limited_step, Step, start, machine}
 use Rattle.cyc_words.proofs.Simulation.{Run-grows, Run-stays}
 
--- an instruction that calls neither a function nor the store, and asks room for no call
+-- An instruction that calls neither a function nor the store, and checks no stack room.
 abbrev pub calls_nothing : Instruction → Bool
 calls_nothing (instructions.Ask request) = false
 calls_nothing (instructions.Call function arguments count result) = false
@@ -40,7 +40,7 @@ over_within pages calls ending output input = and_from _ _ (le-leb 0 pages (omeg
 pub stuck_within : (pages calls : ℕ) (output input : List ℕ) → is_within pages calls (Stuck output input) ≡ true
 stuck_within pages calls output input = and_from _ _ (le-leb 0 pages (omega arith)) (le-leb 0 calls (omega arith))
 
--- what is within a limit of calls is within a higher one, and no instruction raises the limit
+-- A state within a limit of calls is within any higher one, and no instruction raises the limit.
 pub within_more : (pages less more : ℕ) (s : State) → less ≤ more → is_within pages less s ≡ true → is_within pages more s ≡ true
 within_more pages less more s over within =
     let (paged, some) = and_parts (nat_le (demand s) pages) (nat_le (depth s) less) within in
@@ -56,19 +56,19 @@ limit_at_most program (Running c) calls = limit_of_most (instruction_at program 
 limit_at_most program (Ended ending output input) calls = omega arith
 limit_at_most program (Stuck output input) calls = omega arith
 
--- where nothing is called, none is lowered
+-- An instruction that calls nothing does not lower the limit.
 pub limit_free : (i : Instruction) (calls : ℕ) → calls_nothing i ≡ true → limit_of (Some i) calls ≡ calls
 limit_free (instructions.Enter function) calls free = absurd (let e : false ≡ true = free in cc)
 limit_free i calls free = refl
 
--- a step within the limits is the step, and any other ends the run
+-- A step within the limits is the step without limits, and any other step ends the run.
 pub limited-within : (pages calls : ℕ) (old new : State) → is_within pages calls new ≡ true → limited pages calls old new ≡ new
 limited-within pages calls old new within = ap (λ (b : Bool). if b then new else Ended Full (output_of old) (input_of old)) within
 
 pub limited-full : (pages calls : ℕ) (old new : State) → is_within pages calls new ≡ false → limited pages calls old new ≡ Ended Full (output_of old) (input_of old)
 limited-full pages calls old new within = ap (λ (b : Bool). if b then new else Ended Full (output_of old) (input_of old)) within
 
--- what holds of a step, and of the end in its place, holds of the limited step
+-- A property of the step and of the ended state holds for the step with limits.
 pub limited_either : (P : State → Type 0) (pages calls : ℕ) (old new : State) → (is_within pages calls new ≡ true → P new) → P (Ended Full (output_of old) (input_of old)) → P (limited pages calls old new)
 limited_either P pages calls old new first second = go (is_within pages calls new) refl
   where
@@ -82,8 +82,7 @@ pub if_either : (P : State → Type 0) (b : Bool) (s t : State) → P s → P t 
 if_either P true s t first second = first
 if_either P false s t first second = second
 
--- nothing is printed but by the one instruction
--- what was printed stays, and what is left to read is a rest of what was
+-- An instruction that prints nothing keeps the output, and the remaining input is a rest of the former one.
 abbrev Shrinks : List ℕ → List ℕ → Type 0
 Shrinks old new = (read : List ℕ) × (old ≡ read ++ new)
 
@@ -214,9 +213,9 @@ limited_steps program pages calls old new (choice, allowed, is) =
     subst (StateGoesOn old) (sym is)
     (limited_either (StateGoesOn old) pages (limit_at program old calls) old (step program choice old) (λ within. each_step_goes_on program choice old) (IsPrefix-refl (output_of old), ([], refl)))
 
--- ---- a run that is over
+-- ---- ended runs
 
--- any choice will do where nothing is called
+-- A choice of zeros, which will do for a step that calls nothing.
 abbrev pub zeros : Choice
 zeros = record {
   contents = λ (slot : ℕ). 0;
@@ -232,7 +231,7 @@ lies_none : (program : Program) (base : ℕ) (callee : Option ℕ) (s : State) �
 lies_none program base None s none = tt
 lies_none program base (Some function) s none = absurd (let e : Some function ≡ None = none in cc)
 
--- wherever the slots of a new call would lie, an instruction that calls no function may be executed
+-- An instruction that calls no function is allowed whatever address is chosen for a new call.
 pub lies_at : (program : Program) (c : Configuration) (i : Instruction) (base : ℕ) → instruction_at program (place_of (Running c)) ≡ Some i → callee_of (Some i) ≡ None
     → MayLie program base (called program (Running c)) (Running c)
 lies_at program c i base at free = lies_none program base (called program (Running c)) (Running c) (ap callee_of at ∙ free)
@@ -256,7 +255,7 @@ callee_none i free = refl
 pub zeros_at : (program : Program) (c : Configuration) (i : Instruction) → instruction_at program (place_of (Running c)) ≡ Some i → calls_nothing i ≡ true → IsAllowed program (Running c) zeros
 zeros_at program c i at free = zeros_allowed program (Running c) (ap (call_of c.active.slots) at ∙ asks_none c.active.slots i free) (ap callee_of at ∙ callee_none i free)
 
--- a state that is over asks nothing
+-- A state that has ended makes no request.
 over_asks : (program : Program) (s : State) (ending : Ending) → status_of s ≡ simulation.Ended ending → asked program s ≡ None
 over_asks program (Running c) ending ended = absurd (let e : simulation.Running ≡ simulation.Ended ending = ended in cc)
 over_asks program (Ended other output input) ending ended = refl
@@ -267,11 +266,11 @@ over_calls program (Running c) ending ended = absurd (let e : simulation.Running
 over_calls program (Ended other output input) ending ended = refl
 over_calls program (Stuck output input) ending ended = refl
 
--- nor is anything chosen where a call is refused
+-- A refused request allows any choice of the store.
 refused_serves : (serving : services.Choice) (call : Call) (why : Refusal) (c : Configuration) → refusal c.store call ≡ Some why → MayServe serving (Some call) (Running c)
 refused_serves serving call why c refused none = absurd (let e : Some why ≡ None = sym refused ∙ none in cc)
 
--- what asks the store calls no function
+-- An instruction that makes a request calls no function.
 asking_calls : (slots : Words) (o : Option Instruction) (call : Call) → call_of slots o ≡ Some call → callee_of o ≡ None
 asking_calls slots None call asks = refl
 asking_calls slots (Some (instructions.Call function arguments count result)) call asks = absurd (let e : None ≡ Some call = asks in cc)
@@ -285,13 +284,13 @@ zeros_refused program c call why asks refused = record {
   serves = subst (λ (o : Option Call). MayServe zeros.serving o (Running c)) (sym asks) (refused_serves zeros.serving call why c refused);
 }
 
--- and what calls a function does not ask the store
+-- An instruction that calls a function makes no request.
 calling_asks : (slots : Words) (o : Option Instruction) (function : ℕ) → callee_of o ≡ Some function → call_of slots o ≡ None
 calling_asks slots None function calls = refl
 calling_asks slots (Some (instructions.Ask request)) function calls = absurd (let e : None ≡ Some function = calls in cc)
 calling_asks slots (Some i) function calls = refl
 
--- where a function is called, its slots may lie wherever there is room for them
+-- A call of a function is allowed at any address with room for its slots.
 pub called_at : (program : Program) (c : Configuration) (function : ℕ) (choice : Choice) → called program (Running c) ≡ Some function → AreWords choice.contents
     → IsBelow program function choice.base c.active.base → IsAllowed program (Running c) choice
 called_at program c function choice calls contents below = record {
@@ -324,7 +323,7 @@ output_grows program pages calls n old new run = (Run-grows (machine program pag
 pub input_shrinks : (program : Program) (pages calls n : ℕ) (old new : State) → Run (machine program pages calls) n old new → (read : List ℕ) × (input_of old ≡ read ++ input_of new)
 input_shrinks program pages calls n old new run = (Run-grows (machine program pages calls) (lawful program pages calls) n old new run).1
 
--- there is a step where nothing is called, where a function is that has room, and where the store refuses
+-- A step exists if the instruction calls no function, if the callee has room, or if the store refuses the request.
 pub goes_on : (program : Program) (pages calls : ℕ) (old : State) → asked program old ≡ None → called program old ≡ None → (new : State) × Step program pages calls old new
 goes_on program pages calls old none nobody = (limited_step program pages calls zeros old, (zeros, zeros_allowed program old none nobody, refl))
 
@@ -339,7 +338,7 @@ pub goes_on_refused : (program : Program) (pages calls : ℕ) (c : Configuration
 goes_on_refused program pages calls c call why asks refused =
     (limited_step program pages calls zeros (Running c), (zeros, zeros_refused program c call why asks refused, refl))
 
--- a run that starts within its limits stays within them
+-- A run that starts within its limits stays within them.
 pub stays_within : (program : Program) (pages calls n : ℕ) (old new : State) → is_within pages calls old ≡ true → Run (machine program pages calls) n old new → is_within pages calls new ≡ true
 stays_within program pages calls zero old new within run = ap (is_within pages calls) run ∙ within
 stays_within program pages calls (suc n) old new within (mid, (choice, allowed, is), rest) =

@@ -1,4 +1,4 @@
--- Steps of the plain machine, where the instruction is known.
+-- Steps of the plain machine whose instruction is known.
 use Rattle.std.proofs.Common.{◌≡◌, ℕ, zero, suc, ◌+◌, ◌<◌, true, List, [], ◌∷◌, length, map, Option, Some, None, slice_get, sym, ap, subst, ◌∙◌, arith, inl, inr}
 use Rattle.std.specs.Prelude.{Contains}
 use Rattle.std.proofs.lemmas.Bool.{cases_lt}
@@ -20,7 +20,7 @@ use Rattle.cyc_plain.specs.inside.State.{Configuration, State, Running, Ended, p
 use Rattle.cyc_plain.specs.inside.Step.{Choice, IsAllowed, IsServed, MayServe, call_in, call_of, served_to, asks, performed, executed, instruction_at, step, is_within, limit_of, limit_at, limited, limited_step, Step}
 use Rattle.cyc_plain.proofs.RunLaws.{limited-within, over_within}
 
--- Where the instruction is known, and what it does is within the limits, a step does that.
+-- If the instruction is known and its effect is within the limits, a step has that effect.
 pub step_performs : (program : Program) (pages calls : ℕ) (c : Configuration) (i : Instruction) (new : State)
     → instruction_at program (place_of (Running c)) ≡ Some i
     → ((choice : Choice) → is_within pages (limit_of (Some i) calls) (performed program choice c i) ≡ true)
@@ -32,7 +32,7 @@ step_performs program pages calls c i new at within (choice, allowed, is) =
     let limit : limit_at program (Running c) calls ≡ limit_of (Some i) calls = ap (λ (o : Option Instruction). limit_of o calls) at in
     (choice, allowed, is ∙ ap (λ (n : ℕ). limited pages n (Running c) (step program choice (Running c))) limit ∙ limited-within pages (limit_of (Some i) calls) (Running c) (step program choice (Running c)) keeps ∙ does)
 
--- The same where the store is called: it serves the call by a choice that it allows, or there is no room.
+-- A step that makes a request serves it by a choice that the store allows, or ends the run for lack of room.
 module _ (program : Program) (pages calls : ℕ) (c : Configuration) (request : Request) (new : State)
     (at : instruction_at program (place_of (Running c)) ≡ Some (instructions.Ask request)) (stepped : Step program pages calls (Running c) new) where
   abbrev call : Call
@@ -61,7 +61,7 @@ module _ (program : Program) (pages calls : ℕ) (c : Configuration) (request : 
       let keeps : is_within pages calls (step program choice (Running c)) ≡ true = ap (is_within pages calls) does ∙ over_within pages calls Full c.output c.input in
       stepped.2 ∙ same_limit choice ∙ limited-within pages calls (Running c) (step program choice (Running c)) keeps ∙ does
 
--- an instruction stands in a function that there is
+-- An instruction belongs to an existing function.
 pub function_known : (program : Program) (place : CodePlace) (i : Instruction) → instruction_at program place ≡ Some i → place.function < length program.functions
 function_known program place i at = elim (cases_lt place.function (length program.functions)) [
   | inl below ↦ below
@@ -91,7 +91,7 @@ in_functions first (suc k) i (s ∷ routines) r at below =
     Contains-append_right _ (places_from (suc first) routines) _
     (subst (λ (f : ℕ). Contains (places_from (suc first) routines) (record { function = f; index = i })) next (in_functions (suc first) k i routines r at below))
 
--- where an instruction stands is one of the program's places
+-- The place of an instruction is among the program's places.
 pub place_known : (program : Program) (place : CodePlace) (i : Instruction) → instruction_at program place ≡ Some i → Contains (places_of program) place
 place_known program place i at =
     let known = slice_get-get_or program.functions place.function no_routine (function_known program place i at) in

@@ -1,4 +1,4 @@
--- Straight code runs to the configuration that it says, and meets no place twice.
+-- Straight-line code runs to the configuration that it determines, and visits no place twice.
 use Rattle.std.proofs.Common.{◌≡◌, ◌≢◌, ℕ, zero, suc, ◌+◌, ◌<◌, true, false, List, [], ◌∷◌, ◌++◌, length, Some, slice_get, refl, sym, ap, subst, ◌∙◌, arith, length-append, append_assoc}
 use Rattle.std.specs.List.{AllByRecursion}
 use Rattle.cyc_words.specs.Distinct.{IsDistinct}
@@ -12,10 +12,10 @@ use Rattle.cyc_plain.specs.declared.instruction.Operand.{Operand}
 use Rattle.cyc_plain.specs.inside.Program.{Program, CodePlace, routine_at}
 use Rattle.cyc_plain.specs.inside.State.{Frame, Configuration, State, Running}
 use Rattle.cyc_plain.specs.inside.Step.{Choice, performed, is_within, limit_of, Step, machine}
-use Rattle.cyc_plain.specs.inside.Straight.{At, HasAt, is_total, is_straight, AreStraight, configuration_or, executed_in, places_behind}
+use Rattle.cyc_plain.specs.inside.Straight.{At, HasAt, is_total, is_straight, AreStraight, configuration_or, executed_in, places_after}
 use Rattle.cyc_plain.proofs.Steps.{step_performs}
 
--- ---- where code stands
+-- ---- code at a place
 
 pub has_front : (code : List Instruction) (p : ℕ) (a b : List Instruction) → HasAt code p (a ++ b) → HasAt code p a
 has_front code p [] b has = tt
@@ -39,20 +39,20 @@ has_from front (i ∷ code) =
           (subst (λ l. HasAt l (length (front ++ i ∷ [])) code) (append_assoc front (i ∷ []) code) (has_from (front ++ i ∷ []) code)),
     )
 
--- a code has itself
+-- Every code contains the whole code at index 0.
 pub has_whole : (code : List Instruction) → HasAt code 0 code
 has_whole code = has_from [] code
 
 -- ---- one instruction
 
--- what is the same before and behind it
+-- The parts of a configuration that a straight-line instruction keeps.
 record Keeps (c d : Configuration) : Type 0 where
   pub function : d.active.function ≡ c.active.function
   pub next : d.active.next ≡ c.active.next + 1
   pub frames : d.frames ≡ c.frames
   pub store : d.store ≡ c.store
 
--- it leads to one configuration, whatever is chosen
+-- A straight-line instruction leads to one configuration, for every choice.
 record IsOne (program : Program) (choice : Choice) (c : Configuration) (i : Instruction) : Type 0 where
   pub gives : (other : Choice) → performed program other c i ≡ Running (configuration_or (performed program choice c i) c)
   pub keeps : Keeps c (configuration_or (performed program choice c i) c)
@@ -80,17 +80,17 @@ is_one program choice c i straight = absurd (let e : false ≡ true = straight i
 abbrev place_at : (function index : ℕ) → CodePlace
 place_at function index = record { function = function; index = index }
 
--- a place behind has a greater index
-greater : (function index first count : ℕ) → index < first → AllByRecursion (λ p. place_at function index ≢ p) (places_behind function first count)
+-- A place before a range of places differs from each place in the range.
+greater : (function index first count : ℕ) → index < first → AllByRecursion (λ p. place_at function index ≢ p) (places_after function first count)
 greater function index first zero less = tt
 greater function index first (suc count) less =
     ((λ same. let e : index ≡ first = ap (λ (p : CodePlace). p.index) same in omega (arith, e, less)), greater function index (first + 1) count (omega (arith, less)))
 
-pub behind-distinct : (function index count : ℕ) → IsDistinct (places_behind function index count)
-behind-distinct function index zero = tt
-behind-distinct function index (suc count) = (greater function index (index + 1) count (omega arith), behind-distinct function (index + 1) count)
+pub following-distinct : (function index count : ℕ) → IsDistinct (places_after function index count)
+following-distinct function index zero = tt
+following-distinct function index (suc count) = (greater function index (index + 1) count (omega arith), following-distinct function (index + 1) count)
 
--- ---- runs
+-- ---- runs through straight-line code
 
 module _ (program : Program) (pages calls : ℕ) (choice : Choice) where
   abbrev after : Configuration → Instruction → Configuration
@@ -107,21 +107,21 @@ module _ (program : Program) (pages calls : ℕ) (choice : Choice) where
       ap (λ (s : StoreState). is_within pages calls (Running (record d { store = s }))) k.store
       ∙ ap (λ (fs : List Frame). is_within pages calls (Running (record d { frames = fs; store = c.store }))) k.frames
 
-  stands_behind : (c d : Configuration) (is : List Instruction) → Keeps c d → HasAt (routine_at program c.active.function).code (c.active.next + 1) is → Stands d is
-  stands_behind c d is k has =
+  stands_after : (c d : Configuration) (is : List Instruction) → Keeps c d → HasAt (routine_at program c.active.function).code (c.active.next + 1) is → Stands d is
+  stands_after c d is k has =
       subst (λ n. HasAt (routine_at program d.active.function).code n is) (sym k.next)
       (subst (λ f. HasAt (routine_at program f).code (c.active.next + 1) is) (sym k.function) has)
 
-  places_same : (c d : Configuration) (count : ℕ) → Keeps c d → places_behind d.active.function d.active.next count ≡ places_behind c.active.function (c.active.next + 1) count
+  places_same : (c d : Configuration) (count : ℕ) → Keeps c d → places_after d.active.function d.active.next count ≡ places_after c.active.function (c.active.next + 1) count
   places_same c d count k =
-      ap (λ f. places_behind f d.active.next count) k.function ∙ ap (λ n. places_behind c.active.function n count) k.next
+      ap (λ f. places_after f d.active.next count) k.function ∙ ap (λ n. places_after c.active.function n count) k.next
 
-  -- it asks room for no call
+  -- A straight-line instruction checks no stack room.
   no_more : (i : Instruction) → is_straight i ≡ true → limit_of (Some i) calls ≡ calls
   no_more (instructions.Enter function) straight = absurd (let e : false ≡ true = straight in cc)
   no_more i straight = refl
 
-  -- a step leads to the configuration that the instruction says
+  -- A step leads to the configuration that the instruction determines.
   goes : (c : Configuration) (i : Instruction) (new : State) → is_straight i ≡ true → At (routine_at program c.active.function).code c.active.next i → IsWithin c
       → Step program pages calls (Running c) new → new ≡ Running (after c i)
   goes c i new straight at within step =
@@ -129,14 +129,14 @@ module _ (program : Program) (pages calls : ℕ) (choice : Choice) where
       let (other, allowed, is) = step_performs program pages calls c i new at (λ x. ap (λ (n : ℕ). is_within pages n (performed program x c i)) (no_more i straight) ∙ ap (is_within pages calls) (one.gives x) ∙ same_limits c (after c i) one.keeps ∙ within) step in
       is ∙ one.gives other
 
-  -- Each run through straight code comes to the configuration that it says.
+  -- Each run through straight-line code reaches the configuration that it determines.
   pub runs : (is : List Instruction) (c : Configuration) (new : State) → AreStraight is → Stands c is → IsWithin c
-      → Path (machine program pages calls) (places_behind c.active.function c.active.next (length is)) (Running c) new → new ≡ Running (executed_in program choice c is)
+      → Path (machine program pages calls) (places_after c.active.function c.active.next (length is)) (Running c) new → new ≡ Running (executed_in program choice c is)
   runs [] c new straight has within path = path
   runs (i ∷ is) c new (first, rest) (at, has) within (mid, here, step, path) =
       let one = is_one program choice c i first in
       let d = after c i in
       let to : mid ≡ Running d = goes c i mid first at within step in
-      runs is d new rest (stands_behind c d is one.keeps has) (same_limits c d one.keeps ∙ within)
+      runs is d new rest (stands_after c d is one.keeps has) (same_limits c d one.keeps ∙ within)
       (subst (λ (places : List CodePlace). Path (machine program pages calls) places (Running d) new) (sym (places_same c d (length is) one.keeps))
-      (subst (λ (s : State). Path (machine program pages calls) (places_behind c.active.function (c.active.next + 1) (length is)) s new) to path))
+      (subst (λ (s : State). Path (machine program pages calls) (places_after c.active.function (c.active.next + 1) (length is)) s new) to path))

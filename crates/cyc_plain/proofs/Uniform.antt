@@ -1,5 +1,4 @@
--- Steps of the machine whose limit of calls is the same at each instruction, and that a program without `Enter` does on its own
--- machine what it does on that one.
+-- Steps of the machine with equal limits of calls at each instruction. A program without `Enter` has the same steps on both machines.
 use Rattle.std.proofs.Common.{◌≡◌, ℕ, true, List, [], ◌∷◌, Option, Some, None, refl, sym, ap, subst, ◌∙◌, inl, inr}
 use Rattle.std.specs.Prelude.{◌⊎◌}
 use Rattle.cyc_words.specs.Ending.{Full}
@@ -17,7 +16,7 @@ use Rattle.cyc_plain.specs.inside.Step.{Choice, IsAllowed, IsServed, MayServe, c
 use Rattle.cyc_plain.specs.inside.Uniform.{AsksNoRoom, UniformStep, uniform_machine}
 use Rattle.cyc_plain.proofs.RunLaws.{limited-within, over_within, lawful}
 
--- Where the instruction is known, and what it does is within the limits, a step does that.
+-- If the instruction is known and its effect is within the limits, a step has that effect.
 pub uniform_performs : (program : Program) (pages calls : ℕ) (c : Configuration) (i : Instruction) (new : State)
     → instruction_at program (place_of (Running c)) ≡ Some i
     → ((choice : Choice) → is_within pages calls (performed program choice c i) ≡ true)
@@ -28,7 +27,7 @@ uniform_performs program pages calls c i new at within (choice, allowed, is) =
     let keeps : is_within pages calls (step program choice (Running c)) ≡ true = ap (is_within pages calls) does ∙ within choice in
     (choice, allowed, is ∙ limited-within pages calls (Running c) (step program choice (Running c)) keeps ∙ does)
 
--- The same where the store is called: it serves the call by a choice that it allows, or there is no room.
+-- A step that makes a request serves it by a choice that the store allows, or ends the run for lack of room.
 module _ (program : Program) (pages calls : ℕ) (c : Configuration) (request : Request) (new : State)
     (at : instruction_at program (place_of (Running c)) ≡ Some (instructions.Ask request)) (stepped : UniformStep program pages calls (Running c) new) where
   abbrev call : Call
@@ -85,9 +84,9 @@ module _ (program : Program) (none : AsksNoRoom program) (pages calls : ℕ) whe
   module _ (above : Machine) (before : List CodePlace) (own : above.Place → List CodePlace) (start : above.State) (from : State) where
     way : (met : List CodePlace) (now : State) → IsUnderWay above (uniform_machine program pages calls) before own start met now ⊎ IsOver above (uniform_machine program pages calls) start now
         → IsUnderWay above (machine program pages calls) before own start met now ⊎ IsOver above (machine program pages calls) start now
-    way met now (inl u) = inl (record { places = u.places; state = u.state; path = u.path; running = u.running; goes_on = u.goes_on; ahead = u.ahead; behind = u.behind; cost = u.cost })
+    way met now (inl u) = inl (record { places = u.places; state = u.state; path = u.path; running = u.running; goes_on = u.goes_on; ahead = u.ahead; following = u.following; cost = u.cost })
     way met now (inr o) = inr (record { places = o.places; state = o.state; path = o.path; ending = o.ending; ended = o.ended; over = o.over; seen = o.seen })
 
-    -- what is shown of the one machine holds of the other
+    -- A simulation proved for the machine with uniform limits holds for the program's own machine.
     pub follows_uniform : Follows above (uniform_machine program pages calls) before own start from → Follows above (machine program pages calls) before own start from
     follows_uniform f = record { runs = λ met now path. way met now (f.runs met now (path_uniform met from now path)) }

@@ -29,7 +29,7 @@ use Rattle.cyc_plain.specs.inside.Program.{Program, CodePlace, no_routine, routi
 use Rattle.cyc_plain.specs.declared.limits.TheConstants.{RECORD_WORDS}
 use Rattle.cyc_plain.specs.inside.State.{Words, AreWords, put, copied, Handler, Open, Caught, Activation, Frame, Configuration, State, Running, Ended, Stuck, place_of, HoldsWords}
 use Rattle.cyc_plain.specs.inside.Memory.{Range, OfGlobals, OfStore, OfSlots, range_of, global_at, slot_at, word_or, word_waiting, put_or, with_waiting, word_in, memory_at, with_global, with_slot, with_word}
-use Rattle.cyc_plain.specs.inside.Step.{Choice, IsAllowed, IsServed, MayServe, HasAnswerWords, gives, operand_word, returns, loads, saves, loads_byte, saves_byte, advanced, told}
+use Rattle.cyc_plain.specs.inside.Step.{Choice, IsAllowed, IsServed, MayServe, HasAnswerWords, gives, operand_word, returns, loads, saves, loads_byte, saves_byte, advanced, reported}
 use Rattle.cyc_plain.specs.inside.Step.{asks, is_intact, tries, closes, lands, throws, finishes, call_in, call_of, performed, executed, instruction_at, step, limit_at, start, machine}
 use Rattle.cyc_plain.specs.inside.WellFormed.{IsOfWord, HasWord, HasWords}
 use Rattle.cyc_plain.proofs.RunLaws.{limited_either, if_either}
@@ -81,13 +81,13 @@ stored_words : (s : StoreState) (address word : ℕ) (found : Option ℕ) → st
 stored_words s address word None all w = all
 stored_words s address word (Some old) all w = put_words s.memory address word all w
 
-told_words : (a : Answer) (destination : ℕ) (slots : Words) → AreWords slots → HasAnswerWords a → AreWords (told a destination slots)
-told_words (services.Refused why) destination slots all words = all
-told_words services.Done destination slots all words = all
-told_words (services.Opened handle) destination slots all word = put_words slots destination handle all word
-told_words (services.OpenedLexical handle mark) destination slots all (first, second) =
+reported_words : (a : Answer) (destination : ℕ) (slots : Words) → AreWords slots → HasAnswerWords a → AreWords (reported a destination slots)
+reported_words (services.Refused why) destination slots all words = all
+reported_words services.Done destination slots all words = all
+reported_words (services.Opened handle) destination slots all word = put_words slots destination handle all word
+reported_words (services.OpenedLexical handle mark) destination slots all (first, second) =
     put_words (put slots destination handle) (suc destination) mark (put_words slots destination handle all first) second
-told_words (services.Allocated address) destination slots all word = put_words slots destination address all word
+reported_words (services.Allocated address) destination slots all word = put_words slots destination address all word
 
 first_word : (input : List ℕ) → AllByRecursion IsWord input → IsWord (unwrap_or (slice_get input 0) (2 ^ 32 - 1))
 first_word [] all = omega arith
@@ -110,7 +110,7 @@ or_word : (number : Option ℕ) (words : Words) (other : Option ℕ) → AreWord
 or_word (Some number) words other all rest = all number
 or_word None words other all rest = rest
 
--- a slot of a call that waits is read, and written
+-- A slot of a waiting call that is read or written holds a word.
 waiting_word : (program : Program) (frames : List Frame) (address : ℕ) → AreFrames frames → AreWordsOf (word_waiting program frames address)
 waiting_word program [] address all = tt
 waiting_word program (f ∷ frames) address (first, rest) =
@@ -140,7 +140,7 @@ module _ (program : Program) (choice : Choice) (allowed : AreWords choice.conten
   returned value results [] all = tt
   returned value results (f ∷ waiting) (first, rest) = (copied_words c.active.slots f.caller.slots value results f.result slots first, rest, globals, store, input)
 
-  -- the word of the store that a load finds, or of a global, or of a slot
+  -- A load finds a word: of the store, of a global, or of a slot.
   stored_word : (address : ℕ) (aligned : Bool) (found : Option Holder) → AreWordsOf (if aligned then stores.word_in found c.store.memory address else None)
   stored_word address false found = tt
   stored_word address true None = tt
@@ -187,7 +187,7 @@ module _ (program : Program) (choice : Choice) (allowed : AreWords choice.conten
   served : (destination : ℕ) (call : Call) (o : Option Refusal) → (o ≡ None → IsServed c.store call choice.serving) → HoldsWords (asks choice.serving c destination call o)
   served destination call None serves =
       let is = serves refl in
-      (told_words (answer c.store call choice.serving) destination c.active.slots slots is.words, frames, globals, is.allowed.words, input)
+      (reported_words (answer c.store call choice.serving) destination c.active.slots slots is.words, frames, globals, is.allowed.words, input)
   served destination call (Some services.BadMark) serves = tt
   served destination call (Some services.BadHandle) serves = tt
   served destination call (Some services.BadSize) serves = tt
@@ -281,7 +281,7 @@ words_step program choice (Running c) words allowed (slots, frames, globals, sto
 words_step program choice (Ended ending output input) words allowed holds = tt
 words_step program choice (Stuck output input) words allowed holds = tt
 
--- every value in a run is a word
+-- Every value in a run is a word.
 pub words_stay : (program : Program) (pages calls n : ℕ) (old new : State) → HasWords program → HoldsWords old → Run (machine program pages calls) n old new → HoldsWords new
 words_stay program pages calls zero old new words holds run = subst HoldsWords (sym run) holds
 words_stay program pages calls (suc n) old new words holds (mid, (choice, allowed, is), rest) =

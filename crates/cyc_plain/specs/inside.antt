@@ -1,9 +1,9 @@
--- what the type `Plain` and its facts rest on
+-- the definitions that the type `Plain` and its invariant rest on
 pub mod Requests
 pub mod Program
 pub mod Uses
 pub mod WellFormed
--- what a plain program means
+-- the meaning of a plain program
 pub mod Operators
 pub mod State
 pub mod Memory

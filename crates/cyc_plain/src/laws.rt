@@ -1,5 +1,5 @@
-//! Laws of the definitions in `specs/`. Each function does nothing: its contract is the law, and so it is proved with
-//! the crate. The lemmas behind them stand in `proofs/` for other proofs to cite.
+//! Laws of the definitions in `specs/`. Each function of this file is empty, and its contract states one law, which is proved with the
+//! crate. The lemmas that other proofs cite are in `proofs/`.
 
 ghost use Rattle.std.specs.Prelude.{◌≡◌, ◌≢◌, ◌⊎◌, ℕ, ◌+◌, ◌*◌, ◌<◌, ◌≤◌, List, length, ◌++◌, true, false, Some, None, slice_get, Contains};
 ghost use Rattle.std.specs.List.{AllByRecursion};
@@ -23,18 +23,19 @@ ghost use Rattle.cyc_plain.specs.inside.State as state;
 ghost use Rattle.cyc_plain.specs.inside.Memory.{slots_base, slots_end, IsBelow, LieBelow, is_pinned, memory_at};
 ghost use Rattle.cyc_plain.specs.declared.limits.TheConstants.{GLOBALS_BASE};
 ghost use Rattle.cyc_store.specs.declared.range.TheConstants.{STORE_BASE};
-ghost use Rattle.cyc_plain.specs.inside.Step.{Choice, IsServed, Step, advanced, asked, call_in, called, instruction_at, is_within, limit_at, limit_of, limited_step, machine, performed, served_to, start, step};
-ghost use Rattle.cyc_plain.specs.inside.Straight.{HasAt, AreStraight, executed_in, places_behind};
+ghost use Rattle.cyc_plain.specs.inside.Step.{Choice, IsServed, Step, advanced, asked, call_in, called, instruction_at, is_within, limit_at};
+ghost use Rattle.cyc_plain.specs.inside.Step.{limit_of, limited_step, machine, performed, served_to, start, step};
+ghost use Rattle.cyc_plain.specs.inside.Straight.{HasAt, AreStraight, executed_in, places_after};
 ghost use Rattle.cyc_plain.specs.inside.Uniform.{AsksNoRoom, UniformStep};
 ghost use Rattle.cyc_plain.specs.inside.WellFormed.{IsWellFormed, HasWords, DividesByZero, AsksForNoWord, AsksInVain, AsksForHandlers};
 
-/// A run that is over stays as it is.
+/// A run that has ended stays as it is.
 pub fn ended_stays()
     ensures { (program : Program) (pages calls count : ℕ) (old new : State) (ending : Ending) → status_of old ≡ simulation.Ended ending
         → Run (machine program pages calls) count old new → new ≡ old }
 {}
 
-/// What was printed stays printed, and input is read from its front.
+/// Output only grows, and input is consumed from its front.
 pub fn output_grows()
     ensures output { (program : Program) (pages calls count : ℕ) (old new : State) → Run (machine program pages calls) count old new
         → IsPrefix (output_of old) (output_of new) }
@@ -42,9 +43,8 @@ pub fn output_grows()
         → (read : List ℕ) × (input_of old ≡ read ++ input_of new) }
 {}
 
-/// From every state there is a step where nothing is called, where a function is whose slots have room below, and where the
-/// store refuses what it is called for. (Of a call that it does not refuse the relation says what may be chosen, and the
-/// store that is called that something is.)
+/// From every state there is a step unless the instruction calls a function without room for its slots or makes a request that the store
+/// serves. (For such a request the relation describes the allowed choices, and the store promises that one exists.)
 pub fn steps_go_on()
     ensures free { (program : Program) (pages calls : ℕ) (old : State) → asked program old ≡ None → called program old ≡ None
         → (new : State) × Step program pages calls old new }
@@ -55,21 +55,22 @@ pub fn steps_go_on()
         → (new : State) × Step program pages calls (state.Running c) new }
 {}
 
-/// A run keeps its limits: a step that keeps them is the program's own, and one that does not ends the run with `Full`, with
-/// output and input as before it. Where room is asked for a call the limit of that step is one call less.
+/// Every state of a limited run is within the limits. A step within them is the program's own step; any other step ends the run with
+/// `Full`, with output and input as before it. For `Enter` the limit of calls is one less.
 pub fn limits_are_kept()
     ensures starts { (program : Program) (pages calls base : ℕ) (store : StoreState) (input : List ℕ) → IsNew pages store → 1 ≤ pages → 1 ≤ calls
         → is_within pages calls (start program base store input) ≡ true }
     ensures stays { (program : Program) (pages calls count : ℕ) (old new : State) → is_within pages calls old ≡ true
         → Run (machine program pages calls) count old new → is_within pages calls new ≡ true }
-    ensures within { (program : Program) (pages calls : ℕ) (choice : Choice) (old : State) → is_within pages (limit_at program old calls) (step program choice old) ≡ true
+    ensures within { (program : Program) (pages calls : ℕ) (choice : Choice) (old : State)
+        → is_within pages (limit_at program old calls) (step program choice old) ≡ true
         → limited_step program pages calls choice old ≡ step program choice old }
-    ensures full { (program : Program) (pages calls : ℕ) (choice : Choice) (old : State) → is_within pages (limit_at program old calls) (step program choice old) ≡ false
+    ensures full { (program : Program) (pages calls : ℕ) (choice : Choice) (old : State)
+        → is_within pages (limit_at program old calls) (step program choice old) ≡ false
         → limited_step program pages calls choice old ≡ state.Ended Full (output_of old) (input_of old) }
 {}
 
-/// `Enter` goes on, and nothing else is done, where one call more may be under way, and ends the run where that may not be: just where
-/// a call of the function would.
+/// `Enter` continues without further effect if one more call is allowed, and else ends the run, exactly when a call of the function would.
 pub fn room_is_asked()
     ensures room { (program : Program) (pages calls : ℕ) (c : Configuration) (function : ℕ) (new : State)
         → instruction_at program (place_of (state.Running c)) ≡ Some (instructions.Enter function)
@@ -84,7 +85,7 @@ pub fn room_is_asked()
         ≡ is_within pages calls (performed program other c (instructions.Call function arguments count result)) }
 {}
 
-/// A program without `Enter` has just the steps that it has where the limits are the same at each instruction.
+/// A program without `Enter` has the same steps as on the machine with the same limits at each instruction.
 pub fn room_is_not_asked()
     ensures uniform { (program : Program) (pages calls : ℕ) (old new : State) → AsksNoRoom program
         → Step program pages calls old new → UniformStep program pages calls old new }
@@ -92,8 +93,8 @@ pub fn room_is_not_asked()
         → UniformStep program pages calls old new → Step program pages calls old new }
 {}
 
-/// Where the store is called and does not refuse, it serves the call by a choice that it allows, and the run goes on
-/// with what it answers. Where there is no room, the run ends.
+/// A request that the store does not refuse is served by a choice that it allows, and the run continues with the result. If there is no
+/// room, the run ends.
 pub fn calls_are_served()
     ensures served { (program : Program) (pages calls : ℕ) (c : Configuration) (request : Request) (new : State)
         → instruction_at program (place_of (state.Running c)) ≡ Some (instructions.Ask request)
@@ -109,9 +110,9 @@ pub fn calls_are_served()
         → new ≡ state.Ended Full c.output c.input }
 {}
 
-/// A run of a well-formed program is never stuck but at a division by 0, where it asks for a word that memory does not
-/// have, where the store refuses what it is called for, not for want of room, and at an instruction that closes a
-/// handler, throws, or returns from a function that opens some.
+/// A run of a well-formed program gets stuck only in four cases. The program divides by 0, accesses an address without a word, or makes a
+/// request that the store refuses for a reason other than room. A program also gets stuck if its instruction closes a handler, throws, or
+/// returns from a function with handlers.
 pub fn few_get_stuck()
     ensures { (program : Program) (pages calls count base : ℕ) (store : StoreState) (input : List ℕ) (old new : State) → IsWellFormed program
         → Run (machine program pages calls) count (start program base store input) old → status_of old ≡ simulation.Running
@@ -119,21 +120,21 @@ pub fn few_get_stuck()
         → DividesByZero program old ⊎ (AsksForNoWord program old ⊎ (AsksInVain program old ⊎ AsksForHandlers program old)) }
 {}
 
-/// In a run of a program whose numbers are words, from a store of words and on an input of bytes, every value is a word.
+/// If the numbers of a program, its store and its input are words and bytes, every value in its runs is a word.
 pub fn values_are_words()
     ensures { (program : Program) (pages calls count base : ℕ) (store : StoreState) (input : List ℕ) (new : State) → HasWords program
         → stores.AreWords store.memory → AllByRecursion (λ b. b < 256) input → Run (machine program pages calls) count (start program base store input) new
         → HoldsWords new }
 {}
 
-/// The slots of the calls under way lie one below the other, in each state of a run from a start where those of `main` lie so.
+/// In each state of a run, the slots of each call lie below those of its caller, if those of `main` lie in the range of slots.
 pub fn calls_lie_apart()
     ensures { (program : Program) (pages calls count base : ℕ) (store : StoreState) (input : List ℕ) (new : State)
         → IsBelow program program.main base slots_end → Run (machine program pages calls) count (start program base store input) new → LieBelow program new }
 {}
 
-/// A word of memory is found by its address: that of a global, that of the store, and where the calls lie so, each slot that an
-/// instruction of its function names, of the call that is executed and of each one that waits.
+/// Each word of memory is found at its address: globals, words of the store, and the slots of active and waiting calls whose address is
+/// taken.
 pub fn words_have_addresses()
     ensures global { (program : Program) (c : Configuration) (number : ℕ) → IsWellFormed program → number < length program.globals
         → memory_at program c (GLOBALS_BASE + 4 * number) ≡ Some (c.globals number) }
@@ -147,22 +148,22 @@ pub fn words_have_addresses()
         → memory_at program c (f.caller.base + 4 * slot) ≡ Some (f.caller.slots slot) }
 {}
 
-/// Where an instruction stands is one of the program's places.
+/// The place of each instruction is among the program's places.
 pub fn places_are_listed()
     ensures { (program : Program) (place : CodePlace) (i : Instruction) → instruction_at program place ≡ Some i
         → Contains (places_of program) place }
 {}
 
-/// Each run through straight code comes to the configuration that it says, whatever is chosen, and meets no place twice.
+/// Each run through straight-line code reaches the configuration that the code determines, for every choice, and visits no place twice.
 pub fn straight_code_runs()
     ensures runs { (program : Program) (pages calls : ℕ) (choice : Choice) (is : List Instruction) (c : Configuration) (new : State) → AreStraight is
         → HasAt (routine_at program c.active.function).code c.active.next is → is_within pages calls (state.Running c) ≡ true
-        → Path (machine program pages calls) (places_behind c.active.function c.active.next (length is)) (state.Running c) new
+        → Path (machine program pages calls) (places_after c.active.function c.active.next (length is)) (state.Running c) new
         → new ≡ state.Running (executed_in program choice c is) }
-    ensures distinct { (function index count : ℕ) → IsDistinct (places_behind function index count) }
+    ensures distinct { (function index count : ℕ) → IsDistinct (places_after function index count) }
 {}
 
-/// A slot holds what was last put or copied into it.
+/// A slot holds the word last written or copied to it.
 pub fn slots_hold()
     ensures same { (words : Words) (number word : ℕ) → put words number word number ≡ word }
     ensures other { (words : Words) (number other word : ℕ) → other ≢ number → put words number word other ≡ words other }

@@ -1,5 +1,5 @@
-//! The plain program: the intermediate form between the source and the machine. It has functions with numbered slots of
-//! words, three-address instructions, and every check as a branch; its meaning stands in `specs/`.
+//! The plain program: the intermediate representation between source and machine. A plain program has functions with numbered slots of
+//! words, three-address instructions, and explicit branches for all checks. The meaning of a plain program is defined in `specs/`.
 #![tactic(auto)]
 
 pub mod instruction;

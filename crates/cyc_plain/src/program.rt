@@ -7,24 +7,24 @@ use crate::instruction::Instruction;
 use cyc_words::Span;
 use std::marker::Model;
 
-/// A function. Its first slots are its parameters.
+/// A function. A function's first slots are its parameters.
 #[derive(Drop)]
 pub struct Function {
-    /// Where its name stands in the source.
+    /// The position of the function's name in the source.
     pub name: Span,
-    /// How many words it takes.
+    /// The number of parameter words.
     pub parameters: usize,
-    /// How many words it returns.
+    /// The number of result words.
     pub results: usize,
-    /// How many slots it has.
+    /// The number of slots.
     pub slots: usize,
-    /// How many words its frame may have.
+    /// The most words of the function's frame.
     pub frame_count: usize,
     pub code: Vec<Instruction>,
 }
 
-/// A plain program. It is well formed, its numbers are words, and its code is not too large: who makes one proves it, and
-/// who is given one knows it.
+/// A plain program. A plain program is well-formed, its numbers are words, and its code is not too large. The code that constructs a
+/// `Plain` proves this, and every user may rely on it.
 #[derive(Drop)]
 pub struct Plain {
     functions: Vec<Function>,
@@ -32,7 +32,7 @@ pub struct Plain {
     main: usize,
 }
 
-/// What a plain program is made of.
+/// The parts of a plain program.
 #[derive(Drop)]
 pub struct Parts {
     pub functions: Vec<Function>,
@@ -52,8 +52,7 @@ impl Model for Plain {
 }
 
 impl Plain {
-    /// A program of these functions, with what each global holds at the start and the number of the function that is called
-    /// first.
+    /// Returns the program with these functions, the initial word of each global, and the number of the function that is called first.
     pub fn new(functions: Vec<Function>, globals: Vec<u32>, main: usize) -> Plain
         requires { IsPlain (program_of functions.items globals.items main) }
         ensures { result ≡ program_of functions.items globals.items main }
@@ -65,7 +64,7 @@ impl Plain {
         }
     }
 
-    /// What the program is made of, for another one to be made of it.
+    /// Returns the parts of the program, from which a pass builds another one.
     pub fn into_parts(self) -> Parts
         ensures value { program_of result.functions.items result.globals.items result.main ≡ self }
         ensures plain { IsPlain self }
@@ -77,7 +76,7 @@ impl Plain {
         }
     }
 
-    /// The functions, in the order of their numbers.
+    /// Returns the functions, in the order of their numbers.
     pub fn functions(&self) -> &[Function]
         ensures value { map routine_of result.now ≡ self.now.functions }
         ensures plain { IsPlain self.now }
@@ -85,7 +84,7 @@ impl Plain {
         &self.functions
     }
 
-    /// The function of this number.
+    /// Returns the function of this number.
     pub fn function(&self, number: usize) -> &Function
         requires { number < length self.now.functions }
         ensures { routine_of result.now ≡ routine_at self.now number }
@@ -93,14 +92,14 @@ impl Plain {
         &self.functions[number]
     }
 
-    /// What each global holds at the start.
+    /// Returns the initial word of each global.
     pub fn globals(&self) -> &[u32]
         ensures { result.now ≡ self.now.globals }
     {
         &self.globals
     }
 
-    /// The number of the function that is called first.
+    /// Returns the number of the function that is called first.
     pub fn main(&self) -> usize
         ensures value { result ≡ self.now.main }
         ensures in_range { result < length self.now.functions }
@@ -109,7 +108,7 @@ impl Plain {
     }
 }
 
-/// Whether a program is well formed. Each is, since who makes one has proved it.
+/// Returns true if a program is well-formed. Every `Plain` is, by its invariant.
 pub fn well_formed(program: &Plain) -> bool
     ensures { IsTrue result ↔ IsWellFormed program.now }
 {

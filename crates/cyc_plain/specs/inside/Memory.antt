@@ -1,6 +1,5 @@
--- Memory as loads and stores see it. It has three ranges: the words of the globals, those of the store's live blocks, and of each
--- call under way the slots whose address its code takes. Every other slot is private to its call, as a register is: no store by an
--- address changes it.
+-- Memory as seen by loads and stores. Memory has three ranges: the globals, the live blocks of the store, and the slots of active calls
+-- whose address is taken. Every other slot is private to its call, like a register: no store changes it.
 use Rattle.std.specs.Prelude.{◌≡◌, ℕ, ◌+◌, ◌-◌, ◌*◌, ◌/◌, ◌%◌, ◌^◌, ◌≤◌, Bool, false, ◌&&◌, ◌||◌, ◌==◌, nat_le, nat_lt, if◌then◌else◌, List, [], ◌∷◌, length, Option, Some, None}
 use Rattle.cyc_store.specs.State.{word_at, saved}
 use Rattle.cyc_store.specs.declared.range.TheConstants.{STORE_BASE, PAGE_WORDS, MOST_PAGES}
@@ -10,22 +9,22 @@ use Rattle.cyc_plain.specs.declared.limits.TheConstants.{GLOBALS_BASE}
 use Rattle.cyc_plain.specs.inside.Program.{Program, routine_at}
 use Rattle.cyc_plain.specs.inside.State.{Words, put, Activation, Frame, Configuration, State, Running, Ended, Stuck}
 
--- ---- where the slots of calls lie
+-- ---- addresses of the slots of calls
 
--- behind all addresses that a store may have, and in the lower half of memory
+-- After all addresses of the store, and in the lower half of memory.
 abbrev pub slots_base : ℕ
 slots_base = STORE_BASE + 4 * (PAGE_WORDS * MOST_PAGES)
 
 abbrev pub slots_end : ℕ
 slots_end = 2 ^ 31
 
--- Where the slots of a call of this function may lie: from `base` on, and below `above`.
+-- The slots of a call of this function may be allocated from `base` on: they end below `above`.
 pub record IsBelow (program : Program) (function base above : ℕ) : Type 0 where
   pub aligned : base % 4 ≡ 0
   pub low : slots_base ≤ base
   pub high : base + 4 * (routine_at program function).slots ≤ above
 
--- The slots of each call lie below those of the one that waits for it.
+-- The slots of each call lie below those of its caller.
 abbrev pub AreBelow : Program → (function base : ℕ) → List Frame → Type 0
 AreBelow program function base [] = IsBelow program function base slots_end
 AreBelow program function base (f ∷ frames) =
@@ -36,9 +35,9 @@ LieBelow program (Running c) = AreBelow program c.active.function c.active.base 
 LieBelow program (Ended ending output input) = Unit {0}
 LieBelow program (Stuck output input) = Unit {0}
 
--- ---- which words have an address
+-- ---- words with an address
 
--- an instruction by which this slot can be loaded and stored
+-- An instruction that takes the address of this slot, so that it can be loaded and stored.
 abbrev pub pins : Instruction → (slot : ℕ) → Bool
 pins (instructions.AddressOf destination first count) slot = nat_le first slot && nat_lt slot (first + count)
 pins instruction slot = false
@@ -47,26 +46,26 @@ abbrev pub is_pinned : List Instruction → (slot : ℕ) → Bool
 is_pinned [] slot = false
 is_pinned (i ∷ code) slot = pins i slot || is_pinned code slot
 
--- of words that lie one behind the other from `base` on, the number of the one with this address, where it is one of those asked for
+-- The number of the word at this address among consecutive words from `base` on, if `is_asked` accepts the number.
 abbrev pub numbered : (is_asked : ℕ → Bool) → (base address : ℕ) → Option ℕ
 numbered is_asked base address =
     if base + 4 * ((address - base) / 4) == address && is_asked ((address - base) / 4) then Some ((address - base) / 4) else None
 
--- the global at this address
+-- The number of the global at this address.
 abbrev pub global_at : Program → (address : ℕ) → Option ℕ
 global_at program address = numbered (λ (number : ℕ). nat_lt number (length program.globals)) GLOBALS_BASE address
 
--- the slot of a call at this address
+-- The number of the slot of a call at this address.
 abbrev pub slot_at : Program → Activation → (address : ℕ) → Option ℕ
 slot_at program a address = numbered (is_pinned (routine_at program a.function).code) a.base address
 
--- ---- the calls that wait
+-- ---- waiting calls
 
 abbrev pub word_or : Option ℕ → Words → (other : Option ℕ) → Option ℕ
 word_or (Some number) words other = Some (words number)
 word_or None words other = other
 
--- the word at an address, where it is that of a slot of one of these calls
+-- The word at an address, if it is that of a slot of one of these calls.
 abbrev pub word_waiting : Program → List Frame → (address : ℕ) → Option ℕ
 word_waiting program [] address = None
 word_waiting program (f ∷ frames) address =
@@ -77,7 +76,7 @@ put_or (Some slot) word f frames others =
     record f { caller = record f.caller { slots = put f.caller.slots slot word } } ∷ frames
 put_or None word f frames others = f ∷ others
 
--- it is written there
+-- The waiting calls after a word is written to an address.
 abbrev pub with_waiting : Program → List Frame → (address word : ℕ) → List Frame
 with_waiting program [] address word = []
 with_waiting program (f ∷ frames) address word =
@@ -85,7 +84,7 @@ with_waiting program (f ∷ frames) address word =
 
 -- ---- loads and stores
 
--- which range an address is in
+-- The range of memory that an address belongs to.
 pub data Range : Type 0 where
   OfGlobals : Range
   OfStore : Range
@@ -101,7 +100,7 @@ word_in program c address OfStore = word_at c.store address
 word_in program c address OfSlots =
     word_or (slot_at program c.active address) c.active.slots (word_waiting program c.frames address)
 
--- the word at an address, where there is one
+-- The word at an address, if memory has one there.
 abbrev pub memory_at : Program → Configuration → (address : ℕ) → Option ℕ
 memory_at program c address = word_in program c address (range_of address)
 
@@ -119,6 +118,6 @@ with_word program c address word OfGlobals = with_global c (global_at program ad
 with_word program c address word OfStore = record c { store = saved c.store address word }
 with_word program c address word OfSlots = with_slot program c (slot_at program c.active address) address word
 
--- the word at an address is written, where there is one
+-- The configuration after a word is written to an address, if memory has a word there.
 abbrev pub with_memory : Program → Configuration → (address word : ℕ) → Configuration
 with_memory program c address word = with_word program c address word (range_of address)

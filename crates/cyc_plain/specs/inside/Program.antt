@@ -1,5 +1,5 @@
--- What a plain program is, as mathematical data. The form (three-address code over numbered slots) is the field's; what
--- it has, and all numbers, are this project's own choice.
+-- Plain programs as mathematical data. The form (three-address code over numbered slots) is the field's; its contents, and all numbers, are
+-- this project's own choice.
 use Rattle.std.specs.Prelude.{ℕ, suc, ◌+◌, ◌*◌, List, [], ◌∷◌, ◌++◌, length, map, sum_by, slice_index_or}
 use Rattle.std.specs.List.{range_with_len}
 use Rattle.cyc_words.specs.declared.span.Span.{Span}
@@ -10,7 +10,7 @@ use Rattle.cyc_plain.specs.declared.instruction.BinaryOperator.TheVariants as bi
 use Rattle.cyc_plain.specs.declared.program.Function.{Function}
 use Rattle.cyc_plain.specs.inside.Requests.{request_size}
 
--- a function: where its name stands, how many words it takes and returns, its slots, the words of its frame, its code
+-- A function: the position of its name, the numbers of its parameter words, result words, slots and frame words, and its code.
 pub record Routine : Type 0 where
   pub name : Span
   pub parameters : ℕ
@@ -19,7 +19,7 @@ pub record Routine : Type 0 where
   pub frame_count : ℕ
   pub code : List Instruction
 
--- its functions, what its globals hold at the start, and which function is called first
+-- A program: its functions, the initial words of its globals, and the function that is called first.
 pub record Program : Type 0 where
   pub functions : List Routine
   pub globals : List ℕ
@@ -39,7 +39,7 @@ abbrev pub program_of : (functions : List Function) → (globals : List ℕ) →
 program_of functions globals main =
     record { functions = map routine_of functions; globals = globals; main = main }
 
--- The function of this index; where there is none, one without code.
+-- The function of this number; a function without code if there is none.
 abbrev pub no_routine : Routine
 no_routine = record {
   name = record { line = 0; column = 0 };
@@ -53,8 +53,8 @@ no_routine = record {
 abbrev pub routine_at : Program → ℕ → Routine
 routine_at program function = slice_index_or program.functions function no_routine
 
--- Size, in words of text: so many may the code of an instruction have, with two more for each slot that it names, since
--- what keeps values in registers saves some and loads others there. A call's code has words for each word that it passes.
+-- Size: an upper bound of the words of machine code for an instruction. The bound allows two more words for each slot that the instruction
+-- names, since register allocation saves and loads some. The code of a call has words for each word passed.
 abbrev pub operator_size : BinaryOperator → ℕ
 operator_size binary.Divide = 18
 operator_size binary.Remainder = 18
@@ -90,18 +90,18 @@ instruction_size (instructions.Enter function) = 6
 abbrev pub size : Routine → ℕ
 size r = sum_by instruction_size r.code
 
--- where an instruction stands: its function, and its index in the code
+-- The place of an instruction: its function, and its index in the code.
 pub record CodePlace : Type 0 where
   pub function : ℕ
   pub index : ℕ
 
--- the places of the code of functions, of which the first has this index
+-- The places of the code of functions, the first of which has this number.
 abbrev pub places_from : ℕ → List Routine → List CodePlace
 places_from function [] = []
 places_from function (r ∷ routines) =
     map (λ (i : ℕ). record { function = function; index = i }) (range_with_len 0 (length r.code))
     ++ places_from (suc function) routines
 
--- all places of a program's code
+-- All places of a program's code.
 abbrev pub places_of : Program → List CodePlace
 places_of program = places_from 0 program.functions

@@ -1,5 +1,5 @@
--- The state of a plain program that runs. Every value is a word; slots and globals are functions from numbers to words,
--- of which a well-formed program asks only for those that there are.
+-- The state of a running plain program. Every value of a plain program is a word. Slots and globals are total functions from numbers to
+-- words; a well-formed program uses only the numbers that exist.
 use Rattle.std.specs.Prelude.{ℕ, suc, ◌+◌, ◌-◌, ◌==◌, ◌&&◌, nat_le, nat_lt, List, length, if◌then◌else◌}
 use Rattle.std.specs.List.{AllByRecursion}
 use Rattle.cyc_words.specs.Word.{IsWord}
@@ -10,14 +10,14 @@ use Rattle.cyc_store.specs.State as stores
 use Rattle.cyc_store.specs.State.{StoreState}
 use Rattle.cyc_plain.specs.inside.Program.{CodePlace}
 
--- the word that each slot, or each global, holds
+-- The word in each slot, or in each global.
 abbrev pub Words : Type 0
 Words = ℕ → ℕ
 
 abbrev pub put : Words → ℕ → ℕ → Words
 put words number word = λ (other : ℕ). if other == number then word else words other
 
--- `count` words from `source` on are copied to `destination` and the places that follow it
+-- The slots after `count` words from `source` on are copied to `destination` and the following places.
 abbrev pub copied : (from : Words) → (source count : ℕ) → (to : Words) → (destination : ℕ) → Words
 copied from source count to destination = λ (number : ℕ).
     if nat_le destination number && nat_lt number (destination + count) then from (source + (number - destination)) else to number
@@ -25,14 +25,14 @@ copied from source count to destination = λ (number : ℕ).
 abbrev pub AreWords : Words → Type 0
 AreWords words = (number : ℕ) → IsWord (words number)
 
--- A handler that a call has open: the index of the instruction that opened it, the first slot of its record, and what its
--- record holds. Or one that an exception has come to.
+-- An open handler of a call: the index of the instruction that opened it, the first slot of its record, and the contents of its record. The
+-- handler may also be one that an exception has reached.
 pub data Handler : Type 0 where
   Open : (index first : ℕ) → (contents : Words) → Handler
   Caught : Handler
 
--- A call under way: its function, the index of the instruction to be executed next, the address of its first slot, its slots,
--- and the handlers that it has open, newest first.
+-- An active call: its function, the index of the next instruction, the address of its first slot, its slots, and its open handlers, newest
+-- first.
 pub record Activation : Type 0 where
   pub function : ℕ
   pub next : ℕ
@@ -40,12 +40,12 @@ pub record Activation : Type 0 where
   pub slots : Words
   pub handlers : List Handler
 
--- a call that waits for another, and the first of the slots that get what this returns
+-- A waiting call, and the first of its slots that receive the callee's result.
 pub record Frame : Type 0 where
   pub caller : Activation
   pub result : ℕ
 
--- a run that goes on: the call that is executed, the calls that wait, newest first, and what all of them share
+-- A running configuration: the active call, the waiting calls, newest first, and the parts of the state that all calls share.
 pub record Configuration : Type 0 where
   pub active : Activation
   pub frames : List Frame
@@ -54,13 +54,13 @@ pub record Configuration : Type 0 where
   pub output : List ℕ
   pub input : List ℕ
 
--- A state: under way, ended, or unable to go on.
+-- A state: running, ended, or stuck.
 pub data State : Type 0 where
   Running : Configuration → State
   Ended : Ending → (output input : List ℕ) → State
   Stuck : (output input : List ℕ) → State
 
--- all that was printed, and what is still to be read
+-- The output of a state so far, and its remaining input.
 abbrev pub output_of : State → List ℕ
 output_of (Running c) = c.output
 output_of (Ended ending output input) = output
@@ -79,13 +79,13 @@ status_of (Running c) = simulation.Running
 status_of (Ended ending output input) = simulation.Ended ending
 status_of (Stuck output input) = simulation.Failed
 
--- where the run stands; a run that is over stands nowhere
+-- The place of the next instruction; none for a run that has ended.
 abbrev pub place_of : State → CodePlace
 place_of (Running c) = record { function = c.active.function; index = c.active.next }
 place_of (Ended ending output input) = record { function = 0; index = 0 }
 place_of (Stuck output input) = record { function = 0; index = 0 }
 
--- the pages of the store that its blocks ask for, and the calls under way
+-- The pages that the store's blocks require, and the number of calls.
 abbrev pub demand : State → ℕ
 demand (Running c) = stores.demand c.store
 demand (Ended ending output input) = 0
@@ -96,7 +96,7 @@ depth (Running c) = suc (length c.frames)
 depth (Ended ending output input) = 0
 depth (Stuck output input) = 0
 
--- all that the slots, the globals, the store and the input hold are words
+-- The slots, the globals, the store and the input contain only words.
 abbrev pub HoldsWords : State → Type 0
 HoldsWords (Running c) =
     AreWords c.active.slots

@@ -1,5 +1,5 @@
--- What a plain program does: a step is a function of the state and of what is chosen. So the steps of a program are a
--- relation, since nothing is said of the choice but that it is allowed.
+-- The meaning of a plain program. A step is a function of the state and of a choice; the steps are a relation, since any allowed choice may
+-- be made.
 use Rattle.std.specs.Prelude.{◌≡◌, ℕ, zero, suc, ◌+◌, ◌-◌, ◌*◌, ◌%◌, ◌^◌, Bool, ◌==◌, ◌&&◌, nat_le, List, [], ◌∷◌, ◌++◌, drop, Option, Some, None, unwrap_or, slice_get, slice_index, if◌then◌else◌}
 use Rattle.cyc_words.specs.Word.{IsWord, signed, add_of}
 use Rattle.cyc_words.specs.Bytes.{byte_in, with_byte, word_of}
@@ -21,14 +21,14 @@ use Rattle.cyc_words.specs.Simulation.{Machine}
 use Rattle.cyc_plain.specs.inside.Memory.{IsBelow, memory_at, with_memory}
 use Rattle.cyc_plain.specs.inside.State.{Words, AreWords, put, copied, Handler, Open, Caught, Activation, Frame, Configuration, State, Running, Ended, Stuck, output_of, input_of, seen_of, status_of, place_of, demand, depth}
 
--- What a step may choose: the words that are in the slots of a new call before they are written, the address of the first of
--- them, and what the store chooses where it is called.
+-- The choice of a step: the initial words of a new call's slots, the address of the first slot, and the store's choice if it receives a
+-- request.
 pub record Choice : Type 0 where
   pub contents : Words
   pub base : ℕ
   pub serving : services.Choice
 
--- Parts of a configuration changed.
+-- Configurations with one part changed.
 
 abbrev pub with_slots : Configuration → Words → Configuration
 with_slots c slots = record c { active = record c.active { slots = slots } }
@@ -36,18 +36,18 @@ with_slots c slots = record c { active = record c.active { slots = slots } }
 abbrev pub at : Configuration → ℕ → Configuration
 at c index = record c { active = record c.active { next = index } }
 
--- the next instruction of the code is executed next
+-- The configuration with the next instruction as the current one.
 abbrev pub advanced : Configuration → Configuration
 advanced c = at c (c.active.next + 1)
 
--- a slot gets a word, and then the next instruction
+-- Writes a slot and continues with the next instruction.
 abbrev pub gives : Configuration → ℕ → ℕ → State
 gives c destination word = Running (advanced (with_slots c (put c.active.slots destination word)))
 
 abbrev pub branches : Configuration → Bool → ℕ → State
 branches c taken target = Running (at c (if taken then target else c.active.next + 1))
 
--- A call: the new activation has its arguments in its first slots, and the caller waits behind the call.
+-- A call: the new activation has its arguments in its first slots, and the caller waits after the call.
 abbrev pub calls : Choice → Configuration → (function arguments count result : ℕ) → State
 calls choice c function arguments count result =
     Running (record c {
@@ -61,7 +61,7 @@ calls choice c function arguments count result =
       frames = record { caller = (advanced c).active; result = result } ∷ c.frames;
     })
 
--- a return of so many words to the newest caller; with none it is `main` that returns
+-- Returns `results` words to the newest caller. Without a caller, `main` returns and the run ends.
 abbrev pub returns : Configuration → (value results : ℕ) → List Frame → State
 returns c value results [] = Ended (Returned (signed (c.active.slots value))) c.output c.input
 returns c value results (f ∷ frames) =
@@ -70,12 +70,12 @@ returns c value results (f ∷ frames) =
       frames = frames;
     })
 
--- the word that an operand stands for
+-- The word that an operand denotes.
 abbrev pub operand_word : Words → Operand → ℕ
 operand_word slots (operands.Slot number) = slots number
 operand_word slots (operands.Word word) = word
 
--- A word of memory comes to a slot, or a word comes to memory. Where memory has none there, the run cannot go on.
+-- Loads a word of memory into a slot, or stores a word. If memory has no word at the address, the run gets stuck.
 
 abbrev pub loads : Configuration → (destination : ℕ) → Option ℕ → State
 loads c destination (Some word) = gives c destination word
@@ -85,7 +85,7 @@ abbrev pub saves : Program → Configuration → (address word : ℕ) → Option
 saves program c address word (Some old) = Running (advanced (with_memory program c address word))
 saves program c address word None = Stuck c.output c.input
 
--- A byte of the word at its address comes to a slot, or a byte comes into that word, whose others stay.
+-- Loads a byte of the word at its address into a slot, or stores a byte into that word, whose other bytes stay.
 
 abbrev pub loads_byte : Configuration → (destination address : ℕ) → Option ℕ → State
 loads_byte c destination address (Some word) = gives c destination (byte_in word (address % 4))
@@ -96,7 +96,7 @@ saves_byte program c address byte (Some old) =
     Running (advanced (with_memory program c (word_of address) (with_byte old (address % 4) byte)))
 saves_byte program c address byte None = Stuck c.output c.input
 
--- the call of the store that a request is
+-- The call of the store that a request makes.
 abbrev pub call_in : Words → Request → Call
 call_in slots (requests.OpenLexical destination) = services.OpenLexical
 call_in slots (requests.CloseTo mark) = services.CloseTo (operand_word slots mark)
@@ -106,35 +106,35 @@ call_in slots (requests.Allocate destination handle words) =
     services.Allocate (operand_word slots handle) (operand_word slots words)
 call_in slots (requests.Free address) = services.Free (operand_word slots address)
 
--- the slots behind it: what the store answers comes to those from this one on
-abbrev pub told : Answer → (destination : ℕ) → Words → Words
-told (services.Opened handle) destination slots = put slots destination handle
-told (services.OpenedLexical handle mark) destination slots = put (put slots destination handle) (suc destination) mark
-told (services.Allocated address) destination slots = put slots destination address
-told other destination slots = slots
+-- The slots after the store's result is written to those from `destination` on.
+abbrev pub reported : Answer → (destination : ℕ) → Words → Words
+reported (services.Opened handle) destination slots = put slots destination handle
+reported (services.OpenedLexical handle mark) destination slots = put (put slots destination handle) (suc destination) mark
+reported (services.Allocated address) destination slots = put slots destination address
+reported other destination slots = slots
 
--- the store has served a call
+-- The configuration after the store has served a call.
 abbrev pub served_to : services.Choice → Configuration → (destination : ℕ) → Call → Configuration
 served_to serving c destination call =
-    advanced (with_slots (record c { store = served c.store call serving }) (told (answer c.store call serving) destination c.active.slots))
+    advanced (with_slots (record c { store = served c.store call serving }) (reported (answer c.store call serving) destination c.active.slots))
 
--- The store is called, which refuses or does not. Where there is no room for what it would come to the run ends, whatever
--- would be chosen: demand goes by sizes alone. What is refused for another reason leaves a run that cannot go on.
+-- Calls the store. If there is no room for the result, the run ends, for every choice: demand depends on sizes only. A refusal for another
+-- reason makes the run stuck.
 abbrev pub asks : services.Choice → Configuration → (destination : ℕ) → Call → Option Refusal → State
 asks serving c destination call None = Running (served_to serving c destination call)
 asks serving c destination call (Some services.Full) = Ended Full c.output c.input
 asks serving c destination call (Some why) = Stuck c.output c.input
 
--- Handlers. The record of one is words of slots, which only the code below this one reads; where they were written over, the
--- run cannot go on.
+-- Handlers. The record of a handler occupies slots and is read only by the code generated below this level. If the record was overwritten,
+-- the run gets stuck.
 
--- the record holds what it held when the handler was opened
+-- The record still holds the contents from when the handler was opened.
 abbrev pub is_intact : Words → (first : ℕ) → (contents : Words) → Bool
 is_intact slots first contents =
     slots first == contents 0
     && (slots (first + 1) == contents 1 && (slots (first + 2) == contents 2 && slots (first + 3) == contents 3))
 
--- a handler more is open
+-- Opens one more handler.
 abbrev pub opens : Choice → Configuration → (first : ℕ) → State
 opens choice c first =
     Running (record c {
@@ -145,14 +145,14 @@ opens choice c first =
       };
     })
 
--- one is opened, or it catches the exception that has come to it
+-- Opens a handler, or catches the exception that has reached it.
 abbrev pub tries : Choice → Configuration → (first handler : ℕ) → List Handler → State
 tries choice c first handler [] = opens choice c first
 tries choice c first handler (Open index other contents ∷ handlers) = opens choice c first
 tries choice c first handler (Caught ∷ handlers) =
     Running (record c { active = record c.active { next = handler; handlers = handlers } })
 
--- the handler with this record is closed, and those before it are
+-- Closes the handler with this record, and every newer one.
 abbrev pub closes : Configuration → (first : ℕ) → List Handler → State
 closes c first [] = Stuck c.output c.input
 closes c first (Caught ∷ handlers) = Stuck c.output c.input
@@ -163,7 +163,7 @@ closes c first (Open index other contents ∷ handlers) =
     else Stuck c.output c.input
     else closes c first handlers
 
--- An exception comes to the newest handler of a call, or goes on from it. Its tag and its word come into the record.
+-- Passes an exception to the newest handler of a call, or on to its caller. The tag and the value are written to the handler's record.
 abbrev pub lands : Configuration → (tag value : ℕ) → Activation → List Frame → (beyond : State) → List Handler → State
 lands c tag value a frames beyond [] = beyond
 lands c tag value a frames beyond (Caught ∷ handlers) = Stuck c.output c.input
@@ -184,12 +184,12 @@ throws c tag value a [] = lands c tag value a [] (Ended (Uncaught tag (signed va
 throws c tag value a (f ∷ frames) =
     lands c tag value a (f ∷ frames) (throws c tag value f.caller frames) a.handlers
 
--- a return with no handler open
+-- Returns from a function with no handler open.
 abbrev pub finishes : Configuration → (value results : ℕ) → List Handler → State
 finishes c value results [] = returns c value results c.frames
 finishes c value results (h ∷ handlers) = Stuck c.output c.input
 
--- what an instruction does
+-- The state after an instruction.
 abbrev pub performed : Program → Choice → Configuration → Instruction → State
 performed program choice c (instructions.Move destination source) =
     gives c destination (operand_word c.active.slots source)
@@ -244,30 +244,30 @@ performed program choice c (instructions.Uncaught tag value) =
     Ended (Uncaught tag (signed (operand_word c.active.slots value))) c.output c.input
 performed program choice c (instructions.Enter function) = Running (advanced c)
 
--- the instruction to be executed
+-- The instruction to be executed.
 abbrev pub instruction_at : Program → CodePlace → Option Instruction
 instruction_at program place = slice_get (routine_at program place.function).code place.index
 
--- the call of the store that an instruction makes, if it makes one
+-- The call of the store that an instruction makes, if it makes one.
 abbrev pub call_of : Words → Option Instruction → Option Call
 call_of slots (Some (instructions.Ask request)) = Some (call_in slots request)
 call_of slots (Some instruction) = None
 call_of slots None = None
 
--- the call of the store that the next step makes
+-- The call of the store that the next step makes, if it makes one.
 abbrev pub asked : Program → State → Option Call
 asked program (Running c) = call_of c.active.slots (instruction_at program (place_of (Running c)))
 asked program (Ended ending output input) = None
 asked program (Stuck output input) = None
 
--- what the store answers is words
+-- The store's result consists of words.
 abbrev pub HasAnswerWords : Answer → Type 0
 HasAnswerWords (services.Opened handle) = IsWord handle
 HasAnswerWords (services.OpenedLexical handle mark) = IsWord handle × IsWord mark
 HasAnswerWords (services.Allocated address) = IsWord address
 HasAnswerWords other = Unit {0}
 
--- A call that is not refused is served by a choice that the store allows, and answered by words.
+-- A call that is not refused is served by a choice that the store allows, and its result consists of words.
 pub record IsServed (store : StoreState) (call : Call) (serving : services.Choice) : Type 0 where
   pub allowed : services.IsAllowed store call serving
   pub words : HasAnswerWords (answer store call serving)
@@ -276,25 +276,26 @@ abbrev pub MayServe : services.Choice → Option Call → State → Type 0
 MayServe serving (Some call) (Running c) = refusal c.store call ≡ None → IsServed c.store call serving
 MayServe serving call s = Unit {0}
 
--- the function that an instruction calls, or asks room for a call of, if there is one
+-- The function that an instruction calls, or checks stack room for, if there is one.
 abbrev pub callee_of : Option Instruction → Option ℕ
 callee_of (Some (instructions.Call function arguments count result)) = Some function
 callee_of (Some (instructions.Enter function)) = Some function
 callee_of (Some instruction) = None
 callee_of None = None
 
--- the function that the next step calls, or asks room for
+-- The function that the next step calls, or checks stack room for.
 abbrev pub called : Program → State → Option ℕ
 called program (Running c) = callee_of (instruction_at program (place_of (Running c)))
 called program (Ended ending output input) = None
 called program (Stuck output input) = None
 
--- the slots of a new call lie below those of the call that makes it; where room is asked for a call, its slots could lie there
+-- The slots of a new call lie below those of its caller. A check of stack room requires that they could.
 abbrev pub MayLie : Program → (base : ℕ) → Option ℕ → State → Type 0
 MayLie program base (Some function) (Running c) = IsBelow program function base c.active.base
 MayLie program base callee s = Unit {0}
 
--- Which choices a program has in a state: words, room for the slots of a new call, and what the store allows where it is called.
+-- The allowed choices of a program in a state: words, an address with room for the slots of a new call, and a choice of the store that it
+-- allows.
 pub record IsAllowed (program : Program) (s : State) (choice : Choice) : Type 0 where
   pub contents : AreWords choice.contents
   pub lies : MayLie program choice.base (called program s) s
@@ -304,28 +305,28 @@ abbrev pub executed : Program → Choice → Configuration → Option Instructio
 executed program choice c (Some instruction) = performed program choice c instruction
 executed program choice c None = Stuck c.output c.input
 
--- One step, without limits. A run that is over stays as it is.
+-- One step of a plain program, without limits. A run that has ended stays as it is.
 abbrev pub step : Program → Choice → State → State
 step program choice (Running c) = executed program choice c (instruction_at program (place_of (Running c)))
 step program choice (Ended ending output input) = Ended ending output input
 step program choice (Stuck output input) = Stuck output input
 
--- Limits: so many pages of the store, and so many calls under way. A step that would go past one of them ends the run
--- instead, with output and input as before it.
+-- Limits: at most `pages` pages of the store and `calls` calls. A step that would exceed a limit ends the run instead, with output and
+-- input as before the step.
 abbrev pub is_within : (pages calls : ℕ) → State → Bool
 is_within pages calls s = nat_le (demand s) pages && nat_le (depth s) calls
 
 abbrev pub limited : (pages calls : ℕ) → (old new : State) → State
 limited pages calls old new = if is_within pages calls new then new else Ended Full (output_of old) (input_of old)
 
--- How many calls may be under way behind an instruction: one less behind `Enter`, so that there is room for the call that
--- it asks for and does not make.
+-- The limit of calls after an instruction. The limit is one less after `Enter`, so that there is room for the call that `Enter` checks and
+-- does not make.
 abbrev pub limit_of : Option Instruction → (calls : ℕ) → ℕ
 limit_of (Some (instructions.Enter function)) calls = calls - 1
 limit_of (Some instruction) calls = calls
 limit_of None calls = calls
 
--- how many may be under way behind the next step
+-- The limit of calls after the next step.
 abbrev pub limit_at : Program → State → (calls : ℕ) → ℕ
 limit_at program (Running c) calls = limit_of (instruction_at program (place_of (Running c))) calls
 limit_at program (Ended ending output input) calls = calls
@@ -334,12 +335,12 @@ limit_at program (Stuck output input) calls = calls
 abbrev pub limited_step : Program → (pages calls : ℕ) → Choice → State → State
 limited_step program pages calls choice s = limited pages (limit_at program s calls) s (step program choice s)
 
--- from old, a program with these limits may step to new
+-- A program with these limits may step from `old` to `new`.
 abbrev pub Step : Program → (pages calls : ℕ) → State → State → Type 0
 Step program pages calls old new =
     (choice : Choice) × IsAllowed program old choice × (new ≡ limited_step program pages calls choice old)
 
--- `main` is called, with its slots from this address on, nothing is printed yet, and all of the input is still to be read
+-- The initial state: `main` is called with its slots from `base` on, nothing is printed, and all input is unread.
 abbrev pub start : Program → (base : ℕ) → StoreState → List ℕ → State
 start program base store input =
     Running (record {
@@ -351,7 +352,7 @@ start program base store input =
       input = input;
     })
 
--- a program with limits, as a machine
+-- A program with limits, as a transition system.
 abbrev pub machine : Program → (pages calls : ℕ) → Machine
 machine program pages calls = record {
   State = State;
@@ -362,7 +363,7 @@ machine program pages calls = record {
   status = status_of;
 }
 
--- the state after so many steps, where each makes the same choice
+-- The state after `n` steps with one choice for all steps.
 abbrev pub run : Program → (pages calls : ℕ) → Choice → ℕ → State → State
 run program pages calls choice zero s = s
 run program pages calls choice (suc n) s =

@@ -1,5 +1,5 @@
--- Straight code: instructions without jumps, which run one after the other to a configuration that is a function of the
--- first one. What a pass makes of such code is shown at once, and not instruction by instruction.
+-- Straight-line code: instructions without jumps. The final configuration of straight-line code is a function of the initial one. A pass
+-- that emits straight-line code is proved at once, not instruction by instruction.
 use Rattle.std.specs.Prelude.{◌≡◌, ℕ, zero, suc, ◌+◌, Bool, true, false, List, [], ◌∷◌, Some, slice_get}
 use Rattle.cyc_plain.specs.declared.instruction.Instruction.{Instruction}
 use Rattle.cyc_plain.specs.declared.instruction.Instruction.TheVariants as instructions
@@ -9,7 +9,7 @@ use Rattle.cyc_plain.specs.inside.Program.{Program, CodePlace}
 use Rattle.cyc_plain.specs.inside.State.{Configuration, State, Running, Ended, Stuck}
 use Rattle.cyc_plain.specs.inside.Step.{Choice, performed}
 
--- where instructions stand in a code, one behind the other
+-- The code contains this instruction at this index.
 abbrev pub At : List Instruction → ℕ → Instruction → Type 0
 At code p i = slice_get code p ≡ Some i
 
@@ -17,13 +17,13 @@ abbrev pub HasAt : List Instruction → ℕ → List Instruction → Type 0
 HasAt code p [] = Unit {0}
 HasAt code p (i ∷ is) = At code p i × HasAt code (p + 1) is
 
--- an operator with a result for any words
+-- An operator with a result for all words.
 abbrev pub is_total : BinaryOperator → Bool
 is_total binary.Divide = false
 is_total binary.Remainder = false
 is_total operator = true
 
--- an instruction behind which the next one is always executed
+-- An instruction that is always followed by the next one.
 abbrev pub is_straight : Instruction → Bool
 is_straight (instructions.Move destination source) = true
 is_straight (instructions.MoveWords destination source count) = true
@@ -41,20 +41,20 @@ abbrev pub AreStraight : List Instruction → Type 0
 AreStraight [] = Unit {0}
 AreStraight (i ∷ is) = (is_straight i ≡ true) × AreStraight is
 
--- the configuration of a run that goes on
+-- The configuration of a running state.
 abbrev pub configuration_or : State → Configuration → Configuration
 configuration_or (Running c) other = c
 configuration_or (Ended ending output input) other = other
 configuration_or (Stuck output input) other = other
 
--- Straight code, executed: nothing is chosen in it.
+-- The configuration after straight-line code, in which nothing depends on choices.
 abbrev pub executed_in : Program → Choice → Configuration → List Instruction → Configuration
 executed_in program choice c [] = c
 executed_in program choice c (i ∷ is) =
     executed_in program choice (configuration_or (performed program choice c i) c) is
 
--- so many places of a function's code, from one on
-abbrev pub places_behind : (function index count : ℕ) → List CodePlace
-places_behind function index zero = []
-places_behind function index (suc count) =
-    record { function = function; index = index } ∷ places_behind function (index + 1) count
+-- The `count` places of a function's code from `index` on.
+abbrev pub places_after : (function index count : ℕ) → List CodePlace
+places_after function index zero = []
+places_after function index (suc count) =
+    record { function = function; index = index } ∷ places_after function (index + 1) count

@@ -1,5 +1,5 @@
--- The machine whose limit of calls is the same at each instruction: `Enter` asks room for nothing on it. A program without
--- `Enter` does on it what it does on its own, and what makes such a program is shown on it.
+-- The machine with equal limits of calls at each instruction, so that `Enter` has no effect. A program without `Enter` has equal steps on
+-- both machines, and passes that produce such programs are proved on the uniform machine.
 use Rattle.std.specs.Prelude.{◌≡◌, ℕ, Some}
 use Rattle.cyc_words.specs.Simulation.{Machine}
 use Rattle.cyc_plain.specs.declared.instruction.Instruction.TheVariants as instructions
@@ -7,11 +7,11 @@ use Rattle.cyc_plain.specs.inside.Program.{Program, CodePlace}
 use Rattle.cyc_plain.specs.inside.State.{State, seen_of, status_of, place_of}
 use Rattle.cyc_plain.specs.inside.Step.{Choice, IsAllowed, instruction_at, limited, step}
 
--- a program without `Enter`
+-- A program without `Enter`.
 abbrev pub AsksNoRoom : Program → Type 0
 AsksNoRoom program = (place : CodePlace) (function : ℕ) → instruction_at program place ≡ Some (instructions.Enter function) → ⊥
 
--- from old, a program may step to new where each instruction has these limits
+-- A program may step from `old` to `new` if all instructions have equal limits.
 abbrev pub UniformStep : Program → (pages calls : ℕ) → State → State → Type 0
 UniformStep program pages calls old new =
     (choice : Choice) × IsAllowed program old choice × (new ≡ limited pages calls old (step program choice old))

@@ -1,4 +1,4 @@
--- Calls of the store.
+-- The law about requests to the store.
 use Rattle.cyc_plain.proofs.Steps.{step_serves, step_full}
 use Rattle.cyc_plain.proofs.laws.calls_are_served.Goals as goal
 

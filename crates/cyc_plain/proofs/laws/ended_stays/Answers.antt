@@ -1,4 +1,4 @@
--- A run that is over.
+-- The law about runs that have ended.
 use Rattle.cyc_plain.proofs.RunLaws.{ended_stays}
 use Rattle.cyc_plain.proofs.laws.ended_stays.Goals as goal
 

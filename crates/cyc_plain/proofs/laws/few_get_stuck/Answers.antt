@@ -1,4 +1,4 @@
--- Getting stuck.
+-- The law about stuck states.
 use Rattle.cyc_plain.proofs.Placed.{few_get_stuck}
 use Rattle.cyc_plain.proofs.laws.few_get_stuck.Goals as goal
 

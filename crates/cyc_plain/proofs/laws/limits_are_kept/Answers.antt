@@ -1,4 +1,4 @@
--- Limits.
+-- The law about limits.
 use Rattle.cyc_plain.specs.inside.Step.{step, limit_at}
 use Rattle.cyc_plain.proofs.RunLaws.{starts_within, stays_within, limited-within, limited-full}
 use Rattle.cyc_plain.proofs.laws.limits_are_kept.Goals as goal

@@ -1,4 +1,4 @@
--- Output and input.
+-- The law about output and input.
 use Rattle.cyc_plain.proofs.RunLaws.{output_grows, input_shrinks}
 use Rattle.cyc_plain.proofs.laws.output_grows.Goals as goal
 

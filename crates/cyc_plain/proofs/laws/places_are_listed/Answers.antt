@@ -1,4 +1,4 @@
--- Places.
+-- The law that the places of a program are listed.
 use Rattle.cyc_plain.proofs.Steps.{place_known}
 use Rattle.cyc_plain.proofs.laws.places_are_listed.Goals as goal
 

@@ -1,4 +1,4 @@
--- Room for a call.
+-- The law about checks of stack room.
 use Rattle.cyc_plain.proofs.Rooms.{as_called, enters, enters_full}
 use Rattle.cyc_plain.proofs.laws.room_is_asked.Goals as goal
 

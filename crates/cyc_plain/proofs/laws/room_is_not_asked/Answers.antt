@@ -1,4 +1,4 @@
--- A program that asks for no room.
+-- The law about programs without checks of stack room.
 use Rattle.cyc_plain.proofs.Uniform.{of_uniform, to_uniform}
 use Rattle.cyc_plain.proofs.laws.room_is_not_asked.Goals as goal
 

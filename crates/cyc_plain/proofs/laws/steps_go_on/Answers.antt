@@ -1,4 +1,4 @@
--- There is a step.
+-- The law that a step exists.
 use Rattle.cyc_plain.proofs.RunLaws.{goes_on, goes_on_called, goes_on_refused}
 use Rattle.cyc_plain.proofs.laws.steps_go_on.Goals as goal
 

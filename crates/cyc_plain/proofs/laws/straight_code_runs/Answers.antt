@@ -1,9 +1,9 @@
--- Straight code.
-use Rattle.cyc_plain.proofs.Straight.{runs, behind-distinct}
+-- The law about straight-line code.
+use Rattle.cyc_plain.proofs.Straight.{runs, following-distinct}
 use Rattle.cyc_plain.proofs.laws.straight_code_runs.Goals as goal
 
 pub returns-clause-runs : goal.returns-clause-runs
 returns-clause-runs c = runs
 
 pub returns-clause-distinct : goal.returns-clause-distinct
-returns-clause-distinct c = behind-distinct
+returns-clause-distinct c = following-distinct

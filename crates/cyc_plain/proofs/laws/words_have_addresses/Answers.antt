@@ -1,4 +1,4 @@
--- Words and their addresses.
+-- The law that words have addresses.
 use Rattle.cyc_plain.proofs.MemoryLaws.{memory-store, memory-global, memory-active, memory-waiting}
 use Rattle.cyc_plain.proofs.laws.words_have_addresses.Goals as goal
 
