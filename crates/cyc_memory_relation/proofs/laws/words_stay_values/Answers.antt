@@ -1,0 +1,9 @@
+-- Values are kept when tables grow, and hold for equal words elsewhere.
+use Rattle.cyc_memory_relation.proofs.Values.{Is-grows, Is-same}
+use Rattle.cyc_memory_relation.proofs.laws.words_stay_values.Goals as goal
+
+pub returns-clause-grows : goal.returns-clause-grows
+returns-clause-grows c = λ t u kind v words place grows is. Is-grows grows kind v words place is
+
+pub returns-clause-same : goal.returns-clause-same
+returns-clause-same c = Is-same

@@ -1,0 +1,37 @@
+-- The tables of a run: a row for each object ever created, and an entry for each region ever opened, by their numbers. Existing rows and
+-- entries of the tables never change. A row does not state whether its object is live. A store reuses addresses and handles, so one address
+-- or handle may occur several times.
+use Rattle.std.specs.Prelude.{◌≡◌, ℕ, List, [], ◌∷◌, ◌++◌, map, Option, Some, None, slice_get}
+use Rattle.cyc_types.specs.declared.typed.Kind.{Kind}
+use Rattle.cyc_types.specs.TypedTrees.{GlobalVariable, Program}
+use Rattle.cyc_store.specs.declared.range.TheConstants.{HEAP}
+
+-- The place of an object's words. A variable whose address is never taken has no place; any other object begins at an address, with cells
+-- of these kinds in order.
+pub data Row : Type 0 where
+  Variable : Row
+  Placed : (address : ℕ) → (kinds : List Kind) → Row
+
+pub record Tables : Type 0 where
+  pub rows : List Row
+  -- the handle of each region in the store; a region of variables has none
+  pub handles : List (Option ℕ)
+
+abbrev pub with_row : Tables → Row → Tables
+with_row t row = record t { rows = t.rows ++ row ∷ [] }
+
+abbrev pub with_handle : Tables → Option ℕ → Tables
+with_handle t handle = record t { handles = t.handles ++ handle ∷ [] }
+
+-- earlier entries are found unchanged
+pub record Grows (t u : Tables) : Type 0 where
+  pub rows : (object : ℕ) (row : Row) → slice_get t.rows object ≡ Some row → slice_get u.rows object ≡ Some row
+  pub handles : (region : ℕ) (handle : Option ℕ) → slice_get t.handles region ≡ Some handle → slice_get u.handles region ≡ Some handle
+
+-- the tables at the start: the globals, the heap, and the region of the globals
+abbrev pub first_tables : (globals : List Row) → Tables
+first_tables globals = record { rows = globals; handles = Some HEAP ∷ None ∷ [] }
+
+-- the rows of globals if no global's address is taken
+abbrev pub without_addresses : Program → List Row
+without_addresses program = map (λ (g : GlobalVariable). Variable) program.globals

@@ -1,6 +1,0 @@
--- The start.
-use Rattle.cyc_objects.proofs.Start.{start-related}
-use Rattle.cyc_objects.proofs.laws.starts_related.Goals as goal
-
-pub returns : goal.returns
-returns c = λ program globals input pages memory are. start-related program globals are input pages memory
