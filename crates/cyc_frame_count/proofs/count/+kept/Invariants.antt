@@ -1,8 +1,0 @@
-use Rattle.cyc_frame_count.proofs.NeedsFound.{ItemsKeptLeft, ClausesKeptLeft}
-use Rattle.cyc_frame_count.proofs.count.+kept.Given as goal
-
-abbrev pub invariant-kept_by_items-loop-item : goal.invariant-kept_by_items-loop-item
-invariant-kept_by_items-loop-item l = ItemsKeptLeft l.items l.item-index l.words
-
-abbrev pub invariant-kept_by_clauses-loop-clause : goal.invariant-kept_by_clauses-loop-clause
-invariant-kept_by_clauses-loop-clause l = ClausesKeptLeft l.clauses l.clause-index l.words

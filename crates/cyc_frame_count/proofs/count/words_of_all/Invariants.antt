@@ -1,5 +1,0 @@
-use Rattle.cyc_frame_count.proofs.NeedsFound.{WordsLeft}
-use Rattle.cyc_frame_count.proofs.count.words_of_all.Given as goal
-
-abbrev pub invariant-loop-of_type : goal.invariant-loop-of_type
-invariant-loop-of_type l = WordsLeft l.types l.of_type-index l.words

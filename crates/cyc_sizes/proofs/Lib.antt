@@ -1,0 +1,2 @@
+pub mod NeedsFound
+pub mod TokensCounted
