@@ -1,13 +1,13 @@
-//! Whether a loop's body has a `break` that leaves it.
+//! The search for a `break` that leaves the body of a loop.
 ghost use Rattle.std.specs.Prelude.{◌≡◌};
 ghost use Rattle.cyc_types.specs.TypedTrees.{NoClauses};
 ghost use Rattle.cyc_types.specs.TypedTreeView.{view_statement, items_of, clauses_of, default_of};
-ghost use Rattle.cyc_lower.specs.inside.ControlCode.{breaks, items_break, clauses_break};
+ghost use Rattle.cyc_lower_proof.specs.inside.ControlCode.{breaks, items_break, clauses_break};
 ghost use Rattle.cyc_lower.specs.inside.Emission.{item_breaks};
 
 use cyc_types::typed::{Body, Clause, Item, Stmt};
 
-/// Whether a statement may leave the loop around it by a `break`.
+/// Returns true if a statement may leave the enclosing loop by a `break`.
 #[cycle(breaks)]
 pub(crate) fn breaks(statement: &Stmt) -> bool
     ensures { result ≡ breaks (view_statement statement.now) }

@@ -1,16 +1,16 @@
-//! The code of calls, and of the arguments that they pass.
+//! The code of calls and of their arguments.
 ghost use Rattle.std.specs.Prelude.{◌+◌, ◌≤◌, length};
 ghost use Rattle.cyc_types.specs.Types.{Void};
 ghost use Rattle.cyc_types.specs.TypedTreeView.{arguments_of};
 ghost use Rattle.cyc_types.specs.TypedTrees.{Call};
 ghost use Rattle.cyc_plain.specs.declared.instruction.Operand.TheVariants as operands;
-ghost use Rattle.cyc_lower.specs.inside.ValueCode.{all_passed};
-ghost use Rattle.cyc_lower.specs.inside.ExpressionCode.{printed_operand, expression_code, arguments_code};
-ghost use Rattle.cyc_lower.specs.inside.Lowering.{discarded_code};
+ghost use Rattle.cyc_lower_proof.specs.inside.ValueCode.{all_passed};
+ghost use Rattle.cyc_lower_proof.specs.inside.ExpressionCode.{printed_operand, expression_code, arguments_code};
+ghost use Rattle.cyc_lower_proof.specs.inside.Lowering.{discarded_code};
 ghost use Rattle.cyc_lower.specs.inside.Emission.{Appends, Gives, most_locals, print_code, view_starts};
 
 use crate::emitter::Emitter;
-use crate::operands::slot_behind;
+use crate::operands::slot_after;
 use crate::operators::low_byte;
 use crate::starts::Starts;
 use cyc_plain::{Instruction, Operand};
@@ -18,7 +18,7 @@ use cyc_types::typed::{Callee, Converted};
 use std::alloc::AllocError;
 
 impl Emitter {
-    /// A call, whose result comes to a slot.
+    /// Emits a call and moves its result to a slot.
     #[cycle(expression)]
     pub(crate) fn call(
         &mut self,
@@ -29,7 +29,8 @@ impl Emitter {
         free: usize,
     ) -> Result<(), AllocError>
         requires { free ≤ most_locals + length self.old.code.items }
-        ensures { Appends result self.old self.new (expression_code (view_starts starts.now) (Call callee (arguments_of arguments.now) Void) (length self.old.code.items) slot free) }
+        ensures { Appends result self.old self.new (expression_code (view_starts starts.now) (Call callee (arguments_of arguments.now) Void)
+            (length self.old.code.items) slot free) }
     {
         match callee {
             Callee::Putchar => {
@@ -52,7 +53,7 @@ impl Emitter {
         }
     }
 
-    /// `putchar` of its only argument.
+    /// Emits a `putchar` of its only argument.
     #[cycle(expression)]
     fn print(
         &mut self,
@@ -61,7 +62,8 @@ impl Emitter {
         free: usize,
     ) -> Result<Operand, AllocError>
         requires { free ≤ most_locals + length self.old.code.items }
-        ensures { Gives (printed_operand (view_starts starts.now) (arguments_of arguments.now) (operands.Slot free) free) result self.old self.new (print_code (view_starts starts.now) (arguments_of arguments.now) (length self.old.code.items) free) }
+        ensures { Gives (printed_operand (view_starts starts.now) (arguments_of arguments.now) (operands.Slot free) free) result self.old self.new
+            (print_code (view_starts starts.now) (arguments_of arguments.now) (length self.old.code.items) free) }
     {
         let mut byte = Operand::Slot { number: free };
         for argument in arguments {
@@ -71,7 +73,7 @@ impl Emitter {
         Ok(byte)
     }
 
-    /// Each argument comes into the slots behind those of the one before. How many words they have is answered.
+    /// Emits the code of the arguments, each in the slots after those of the previous one. Returns the number of words of the arguments.
     #[cycle(expression)]
     pub(crate) fn lower_arguments(
         &mut self,
@@ -80,18 +82,19 @@ impl Emitter {
         first: usize,
     ) -> Result<usize, AllocError>
         requires { first ≤ most_locals + length self.old.code.items }
-        ensures { Gives (all_passed (arguments_of arguments.now)) result self.old self.new (arguments_code (view_starts starts.now) (arguments_of arguments.now) (length self.old.code.items) first) }
+        ensures { Gives (all_passed (arguments_of arguments.now)) result self.old self.new
+            (arguments_code (view_starts starts.now) (arguments_of arguments.now) (length self.old.code.items) first) }
     {
         let mut slot = first;
         for argument in arguments {
             self.bring(starts, argument, slot, slot)?;
             self.convert(starts, argument, Operand::Slot { number: slot })?;
-            slot = slot_behind(slot, argument.to)?;
+            slot = slot_after(slot, argument.to)?;
         }
         Ok(slot - first)
     }
 
-    /// A call whose value nobody wants.
+    /// Emits a call whose value is not used.
     pub(crate) fn discard_call(
         &mut self,
         starts: &Starts,
@@ -100,7 +103,8 @@ impl Emitter {
         free: usize,
     ) -> Result<(), AllocError>
         requires { free ≤ most_locals + length self.old.code.items }
-        ensures { Appends result self.old self.new (discarded_code (view_starts starts.now) (Call callee (arguments_of arguments.now) Void) (length self.old.code.items) free) }
+        ensures { Appends result self.old self.new (discarded_code (view_starts starts.now) (Call callee (arguments_of arguments.now) Void)
+            (length self.old.code.items) free) }
     {
         match callee {
             Callee::Putchar => {

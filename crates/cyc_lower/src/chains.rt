@@ -1,15 +1,15 @@
-//! The code of chains of operators: each is applied to the value of all before it and to its right operand.
+//! The code of chains of operators: each operator is applied to the value of the previous part and to its right operand.
 ghost use Rattle.std.specs.Prelude.{◌+◌, ◌≤◌, length};
 ghost use Rattle.cyc_types.specs.TypedTreeView.{view_expression, operations_of};
 ghost use Rattle.cyc_plain.specs.declared.instruction.Operand.TheVariants as operands;
-ghost use Rattle.cyc_lower.specs.inside.ValueCode.{divisor_code, operator_code, truth_code, first_two, index_code, pointer_instructions};
-ghost use Rattle.cyc_lower.specs.inside.ExpressionCode.{operations_code};
+ghost use Rattle.cyc_lower_proof.specs.inside.ValueCode.{divisor_code, operator_code, truth_code, first_two, index_code, pointer_instructions};
+ghost use Rattle.cyc_lower_proof.specs.inside.ExpressionCode.{operations_code};
 ghost use Rattle.cyc_lower.specs.inside.Emission.{Appends, most_locals, operation_code, view_starts, pointer_operation_code};
 
 use crate::checks::DIVISION_BY_ZERO;
 use crate::emitter::Emitter;
 use crate::marks::place_of_operation;
-use crate::operands::{index_of, slot_behind};
+use crate::operands::{index_of, slot_after};
 use crate::operators::{binary_operator, left_kind, pointer_operator, test_jump};
 use crate::starts::Starts;
 use cyc_plain::{BinaryOperator, Instruction, Operand};
@@ -17,7 +17,7 @@ use cyc_types::typed::{Expr, Kind, Operation, Operator, PointerOperator};
 use std::alloc::AllocError;
 
 impl Emitter {
-    /// A divisor is tested, but a number other than 0.
+    /// Emits the test of a divisor, unless it is a number other than 0.
     fn check_divisor(&mut self, starts: &Starts, value: Operand) -> Result<(), AllocError>
         ensures { Appends result self.old self.new (divisor_code (view_starts starts.now) value) }
     {
@@ -29,7 +29,7 @@ impl Emitter {
         }
     }
 
-    /// An operator on two operands.
+    /// Emits an operator with two operands.
     fn lower_operator(
         &mut self,
         starts: &Starts,
@@ -51,7 +51,7 @@ impl Emitter {
         })
     }
 
-    /// The truth of the word in `free`: 0 stays 0, and any other word becomes 1.
+    /// Emits the truth value of the word in `free`: 0 remains 0, and any other word becomes 1.
     fn make_truth(&mut self, free: usize, slot: usize) -> Result<(), AllocError>
         ensures { Appends result self.old self.new (truth_code free slot) }
     {
@@ -63,7 +63,7 @@ impl Emitter {
         })
     }
 
-    /// One operator of a chain with its right operand. What it gives comes to a slot.
+    /// Emits one operator of a chain with its right operand, and moves its result to a slot.
     #[cycle(expression)]
     fn lower_operation(
         &mut self,
@@ -82,7 +82,7 @@ impl Emitter {
         made
     }
 
-    /// The same, at its place.
+    /// Emits an operator of a chain whose place in the text is already set.
     #[cycle(expression)]
     fn apply(
         &mut self,
@@ -101,16 +101,16 @@ impl Emitter {
                 operand,
                 ..
             } => {
-                let behind = slot_behind(free, Kind::Int)?;
-                let right = self.lower_operand(starts, operand, behind)?;
+                let following = slot_after(free, Kind::Int)?;
+                let right = self.lower_operand(starts, operand, following)?;
                 self.lower_operator(starts, *operator, left, right, slot)
             }
             Operation::Test { operator, operand } => {
                 let jump = self.place();
                 self.emit(test_jump(*operator, free, 0))?;
                 self.lower_expression(starts, operand, free, free)?;
-                let behind = self.place();
-                self.patch(jump, test_jump(*operator, free, behind));
+                let following = self.place();
+                self.patch(jump, test_jump(*operator, free, following));
                 self.make_truth(free, slot)
             }
             Operation::Pointer { operator, operand } => self.lower_pointer_operation(
@@ -124,7 +124,7 @@ impl Emitter {
         }
     }
 
-    /// An operator on pointers, whose left operand is in the first free slots, with its right one.
+    /// Emits an operator on pointers, whose left operand is in the first free slots, with its right operand.
     #[cycle(expression)]
     fn lower_pointer_operation(
         &mut self,
@@ -135,14 +135,15 @@ impl Emitter {
         slot: usize,
         free: usize,
     ) -> Result<(), AllocError>
-        ensures { Appends result self.old self.new (pointer_operation_code (view_starts starts.now) operator (view_expression operand.now) (length self.old.code.items) left slot free) }
+        ensures { Appends result self.old self.new (pointer_operation_code (view_starts starts.now) operator (view_expression operand.now)
+            (length self.old.code.items) left slot free) }
     {
-        let behind = slot_behind(free, left_kind(operator))?;
-        let right = self.lower_operand(starts, operand, behind)?;
+        let following = slot_after(free, left_kind(operator))?;
+        let right = self.lower_operand(starts, operand, following)?;
         self.apply_pointer(operator, left, right, slot)
     }
 
-    /// An operator on pointers: their first words are compared, or an index changes and the first two words come before it.
+    /// Emits an operator on pointers: it compares the first words, or changes the index and moves the first two words in front of it.
     fn apply_pointer(
         &mut self,
         operator: PointerOperator,
@@ -166,7 +167,7 @@ impl Emitter {
         })
     }
 
-    /// An index changes, and the first two words of its pointer come before it, where they are not there yet.
+    /// Emits the change of an index, and moves the first two words of its pointer in front of it, unless they are already there.
     fn change_index(
         &mut self,
         operator: BinaryOperator,
@@ -176,10 +177,10 @@ impl Emitter {
     ) -> Result<(), AllocError>
         ensures { Appends result self.old self.new (index_code operator left right slot) }
     {
-        let behind = slot_behind(slot, Kind::Fat)?;
+        let following = slot_after(slot, Kind::Fat)?;
         self.emit(Instruction::Binary {
             operator,
-            destination: behind - 1,
+            destination: following - 1,
             left: index_of(left)?,
             right,
         })?;
@@ -199,7 +200,7 @@ impl Emitter {
         }
     }
 
-    /// A chain, from its first operator on. What the last one gives comes to a slot.
+    /// Emits a chain from its first operator on, and moves the result of the last one to a slot.
     #[cycle(expression)]
     pub(crate) fn lower_operations(
         &mut self,
@@ -210,13 +211,14 @@ impl Emitter {
         free: usize,
     ) -> Result<(), AllocError>
         requires { free ≤ most_locals + length self.old.code.items }
-        ensures { Appends result self.old self.new (operations_code (view_starts starts.now) (operations_of operations.now) (length self.old.code.items) first slot free) }
+        ensures { Appends result self.old self.new (operations_code (view_starts starts.now) (operations_of operations.now)
+            (length self.old.code.items) first slot free) }
     {
         let mut left = first;
-        let mut behind = operations.len();
+        let mut following = operations.len();
         for operation in operations {
-            behind -= 1;
-            let to = if behind == 0 { slot } else { free };
+            following -= 1;
+            let to = if following == 0 { slot } else { free };
             self.lower_operation(starts, operation, left, to, free)?;
             left = Operand::Slot { number: to };
         }

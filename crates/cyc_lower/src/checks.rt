@@ -1,6 +1,6 @@
-//! Checks, and the blocks that raise an exception where one fails.
+//! Checks, and the blocks that raise an exception if a check fails.
 ghost use Rattle.std.specs.Prelude.{◌≡◌};
-ghost use Rattle.cyc_lower.specs.inside.ValueCode.{raising, telling, blocks, guard_code, check_code};
+ghost use Rattle.cyc_lower_proof.specs.inside.ValueCode.{raising, telling, blocks, guard_code, check_code};
 ghost use Rattle.cyc_lower.specs.inside.Emission.{Appends, view_starts};
 
 use crate::emitter::Emitter;
@@ -8,7 +8,7 @@ use crate::starts::Starts;
 use cyc_plain::{BinaryOperator, Comparison, Instruction, Operand};
 use std::alloc::AllocError;
 
-/// The exceptions that the language itself raises, by their tags.
+/// The tag of the exception for null, the first of the exceptions that the language raises.
 pub(crate) const NULL_EXCEPTION: u32 = 1;
 
 pub(crate) const ARRAY_BOUNDS: u32 = 2;
@@ -17,7 +17,7 @@ pub(crate) const ARRAY_SIZE: u32 = 3;
 
 pub(crate) const DIVISION_BY_ZERO: u32 = 4;
 
-/// What raises an exception, which tells 0.
+/// Returns the instruction that raises an exception with the value 0.
 fn raising(tag: u32) -> Instruction
     ensures { result ≡ raising tag }
 {
@@ -28,7 +28,8 @@ fn raising(tag: u32) -> Instruction
 }
 
 impl Emitter {
-    /// What raises the exception of an access by a fat pointer, where a slot holds 0 if the pointer is null, and else 1.
+    /// Emits the code that raises the exception of an access through a fat pointer. The slot holds 0 if the pointer is null, and 1
+    /// otherwise.
     fn lower_telling(&mut self, slot: usize) -> Result<(), AllocError>
         ensures { Appends result self.old self.new (telling slot) }
     {
@@ -47,8 +48,8 @@ impl Emitter {
         self.emit_both(number, throw)
     }
 
-    /// The blocks that stand behind a function's body: that for accesses, by what this slot holds, and one for each of these exceptions in
-    /// the order of their tags.
+    /// Emits the blocks after the body of a function. The first block is for accesses and tests this slot. After the block for accesses
+    /// comes one for each exception of the language, in the order of tags.
     pub(crate) fn lower_blocks(&mut self, slot: usize) -> Result<(), AllocError>
         ensures { Appends result self.old self.new (blocks slot) }
     {
@@ -57,7 +58,7 @@ impl Emitter {
         self.emit_both(raising(ARRAY_SIZE), raising(DIVISION_BY_ZERO))
     }
 
-    /// Where this comparison of two operands holds, an exception is raised.
+    /// Emits a check that raises an exception if this comparison of two operands holds.
     pub(crate) fn guard(
         &mut self,
         starts: &Starts,
@@ -76,7 +77,7 @@ impl Emitter {
         })
     }
 
-    /// Where a word is 0, an exception is raised.
+    /// Emits a check that raises an exception if a word is 0.
     pub(crate) fn check(
         &mut self,
         starts: &Starts,

@@ -1,28 +1,31 @@
-//! The code of conditions: two operands that are compared, before a jump that is taken where the condition fails.
+//! The code of conditions: two operands and their comparison, before a jump that is taken if the condition fails.
 ghost use Rattle.std.specs.Prelude.{◌≡◌, ◌≤◌, ◌<◌, ◌+◌, IfOk, length, set};
 ghost use Rattle.cyc_types.specs.TypedTreeView.{view_expression, operations_of};
-ghost use Rattle.cyc_lower.specs.inside.ControlCode.{is_same, all_test, are_tests, turned_test, failing_jump};
-ghost use Rattle.cyc_lower.specs.inside.Lowering.{first_operand, first_code, pair_code, condition_of, condition_code, tests_code, last_condition, behind_tests, choice_of, choice_code};
-ghost use Rattle.cyc_lower.specs.inside.Emission.{Gives, most_locals, value_code, IsChain, is_test, other_code, other_condition, zero_condition, view_starts, null_condition, pair_condition, failed, AreBefore, IsEarly, IsSettled, IsBranch};
+ghost use Rattle.cyc_lower_proof.specs.inside.ControlCode.{is_same, all_test, are_tests, turned_test, failing_jump};
+ghost use Rattle.cyc_lower_proof.specs.inside.Lowering.{first_operand, first_code, pair_code, condition_of, condition_code, tests_code};
+ghost use Rattle.cyc_lower_proof.specs.inside.Lowering.{last_condition, after_tests, choice_of, choice_code};
+ghost use Rattle.cyc_lower.specs.inside.Emission.{Gives, most_locals, value_code, IsChain, is_test, other_code, other_condition, zero_condition};
+ghost use Rattle.cyc_lower.specs.inside.Emission.{view_starts, null_condition, pair_condition, failed, AreBefore, IsEarly, IsSettled, IsBranch};
 
 use crate::emitter::Emitter;
-use crate::operands::{Condition, is_simple, slot_behind};
+use crate::operands::{is_simple, slot_after};
 use crate::operators::{
     deciding_condition, deciding_jump, negated_condition, null_operation, pair_operation, right_of,
 };
 use crate::starts::Starts;
+use cyc_lower_proof::Condition;
 use cyc_plain::{Comparison, Operand};
 use cyc_types::typed::{Expr, Kind, LogicalOperator, Operation, UnaryOperator};
 use std::alloc::AllocError;
 
-/// A jump whose target is not yet known, which stands at a place and is taken where a condition fails.
+/// A jump at a place, whose target is not yet known, and which is taken if a condition fails.
 #[derive(Clone, Copy)]
 pub(crate) struct Pending {
     pub(crate) place: usize,
     pub(crate) condition: Condition,
 }
 
-/// The condition of a branch before the jump over its first statement, and the jumps before that which lead where it does.
+/// The condition of a branch before the jump over its first statement, and the inner jumps that share the target of this jump.
 #[derive(Drop)]
 pub(crate) struct Tested {
     pub(crate) last: Condition,
@@ -38,7 +41,7 @@ fn is_same(operator: LogicalOperator, other: LogicalOperator) -> bool
     }
 }
 
-/// By which operator tests are of which this one's are negated.
+/// Returns the operator of the tests that are equal to the negation of tests by this operator.
 fn turned_test(operator: LogicalOperator) -> LogicalOperator
     ensures { result ≡ turned_test operator }
 {
@@ -48,7 +51,7 @@ fn turned_test(operator: LogicalOperator) -> LogicalOperator
     }
 }
 
-/// Whether an operator of a chain is a test by this one.
+/// Returns true if an operator of a chain is a test by this one.
 fn is_test(operator: LogicalOperator, operation: &Operation) -> bool
     ensures { result ≡ is_test operator operation.now }
 {
@@ -61,7 +64,7 @@ fn is_test(operator: LogicalOperator, operation: &Operation) -> bool
     }
 }
 
-/// Whether a chain has tests by this operator alone.
+/// Returns true if all operators of a chain are tests by this one.
 fn all_test(operator: LogicalOperator, operations: &[Operation]) -> bool
     ensures { result ≡ all_test operator (operations_of operations.now) }
 {
@@ -73,7 +76,7 @@ fn all_test(operator: LogicalOperator, operations: &[Operation]) -> bool
     true
 }
 
-/// The same, and it has one at least.
+/// Returns true if a chain has at least one operator and all are tests by this one.
 fn are_tests(operator: LogicalOperator, operations: &[Operation]) -> bool
     ensures { result ≡ are_tests operator (operations_of operations.now) }
 {
@@ -84,7 +87,7 @@ fn are_tests(operator: LogicalOperator, operations: &[Operation]) -> bool
 }
 
 impl Emitter {
-    /// A condition that is a value compared with 0.
+    /// Emits a value and returns the condition that compares it with 0.
     fn compare_with_zero(
         &mut self,
         starts: &Starts,
@@ -92,7 +95,8 @@ impl Emitter {
         free: usize,
     ) -> Result<Condition, AllocError>
         requires { free ≤ most_locals + length self.old.code.items }
-        ensures { Gives (zero_condition (view_starts starts.now) (view_expression value.now) free) result self.old self.new (value_code (view_starts starts.now) (view_expression value.now) (length self.old.code.items) free) }
+        ensures { Gives (zero_condition (view_starts starts.now) (view_expression value.now) free) result self.old self.new
+            (value_code (view_starts starts.now) (view_expression value.now) (length self.old.code.items) free) }
     {
         let left = self.lower_operand(starts, value, free)?;
         Ok(Condition {
@@ -102,7 +106,7 @@ impl Emitter {
         })
     }
 
-    /// A condition that is a pointer, whose first word is compared with 0.
+    /// Emits a pointer and returns the condition that compares its first word with 0.
     fn compare_with_null(
         &mut self,
         starts: &Starts,
@@ -111,7 +115,8 @@ impl Emitter {
         free: usize,
     ) -> Result<Condition, AllocError>
         requires { free ≤ most_locals + length self.old.code.items }
-        ensures { Gives (null_condition (view_starts starts.now) failing (view_expression value.now) free) result self.old self.new (value_code (view_starts starts.now) (view_expression value.now) (length self.old.code.items) free) }
+        ensures { Gives (null_condition (view_starts starts.now) failing (view_expression value.now) free) result self.old self.new
+            (value_code (view_starts starts.now) (view_expression value.now) (length self.old.code.items) free) }
     {
         let left = self.lower_operand(starts, value, free)?;
         Ok(Condition {
@@ -121,7 +126,7 @@ impl Emitter {
         })
     }
 
-    /// The first of two operands that are compared. It is taken without code only where the second is simple.
+    /// Emits the first of two compared operands. The first operand is used without code only if the second one is simple.
     fn lower_first(
         &mut self,
         starts: &Starts,
@@ -130,7 +135,9 @@ impl Emitter {
         free: usize,
     ) -> Result<Operand, AllocError>
         requires { free ≤ most_locals + length self.old.code.items }
-        ensures { Gives (first_operand (view_starts starts.now) (view_expression value.now) (view_expression second.now) free) result self.old self.new (first_code (view_starts starts.now) (view_expression value.now) (view_expression second.now) (length self.old.code.items) free) }
+        ensures { Gives (first_operand (view_starts starts.now) (view_expression value.now) (view_expression second.now) free) result self.old
+            self.new (first_code (view_starts starts.now) (view_expression value.now) (view_expression second.now) (length self.old.code.items)
+            free) }
     {
         if is_simple(starts, second) {
             return self.lower_operand(starts, value, free);
@@ -139,7 +146,7 @@ impl Emitter {
         Ok(Operand::Slot { number: free })
     }
 
-    /// A condition that is a comparison of two operands.
+    /// Emits two operands and returns the condition that compares them.
     fn compare_pair(
         &mut self,
         starts: &Starts,
@@ -149,11 +156,13 @@ impl Emitter {
         free: usize,
     ) -> Result<Condition, AllocError>
         requires { free ≤ most_locals + length self.old.code.items }
-        ensures { Gives (pair_condition (view_starts starts.now) failing (view_expression first.now) (view_expression second.now) free) result self.old self.new (pair_code (view_starts starts.now) (view_expression first.now) (view_expression second.now) (length self.old.code.items) free) }
+        ensures { Gives (pair_condition (view_starts starts.now) failing (view_expression first.now) (view_expression second.now) free) result
+            self.old self.new (pair_code (view_starts starts.now) (view_expression first.now) (view_expression second.now)
+            (length self.old.code.items) free) }
     {
         let left = self.lower_first(starts, first, second, free)?;
-        let behind = slot_behind(free, Kind::Int)?;
-        let right = self.lower_operand(starts, second, behind)?;
+        let following = slot_after(free, Kind::Int)?;
+        let right = self.lower_operand(starts, second, following)?;
         Ok(Condition {
             failing,
             left,
@@ -161,7 +170,7 @@ impl Emitter {
         })
     }
 
-    /// A condition that is a chain: one operator that compares is left to the jump.
+    /// Emits a condition that is a chain: a single operator that compares is left to the jump.
     fn compare_chain(
         &mut self,
         starts: &Starts,
@@ -172,7 +181,8 @@ impl Emitter {
     ) -> Result<Condition, AllocError>
         requires low { free ≤ most_locals + length self.old.code.items }
         requires chain { IsChain (view_expression value.now) (view_expression first.now) (operations_of rest.now) }
-        ensures { Gives (condition_of (view_starts starts.now) (view_expression value.now) free) result self.old self.new (condition_code (view_starts starts.now) (view_expression value.now) (length self.old.code.items) free) }
+        ensures { Gives (condition_of (view_starts starts.now) (view_expression value.now) free) result self.old self.new
+            (condition_code (view_starts starts.now) (view_expression value.now) (length self.old.code.items) free) }
     {
         if rest.len() != 1 {
             return self.compare_with_zero(starts, value, free);
@@ -188,7 +198,7 @@ impl Emitter {
         self.compare_with_zero(starts, value, free)
     }
 
-    /// A condition: two operands that are compared.
+    /// Emits a condition and returns the comparison of its two operands.
     pub(crate) fn lower_condition(
         &mut self,
         starts: &Starts,
@@ -196,7 +206,8 @@ impl Emitter {
         free: usize,
     ) -> Result<Condition, AllocError>
         requires { free ≤ most_locals + length self.old.code.items }
-        ensures { Gives (condition_of (view_starts starts.now) (view_expression value.now) free) result self.old self.new (condition_code (view_starts starts.now) (view_expression value.now) (length self.old.code.items) free) }
+        ensures { Gives (condition_of (view_starts starts.now) (view_expression value.now) free) result self.old self.new
+            (condition_code (view_starts starts.now) (view_expression value.now) (length self.old.code.items) free) }
     {
         match value {
             Expr::Binary { first, rest, .. } => self.compare_chain(
@@ -213,49 +224,54 @@ impl Emitter {
         }
     }
 
-    /// The right operand of a test, and a jump before it that is taken where the left one decides, whose condition is made.
+    /// Emits the right operand of a test, after a jump on this condition that is taken if the left operand decides.
     fn lower_other(
         &mut self,
         starts: &Starts,
         operator: LogicalOperator,
         operation: &Operation,
         before: Condition,
-        behind: usize,
+        following: usize,
         free: usize,
     ) -> Result<Condition, AllocError>
         requires { free ≤ most_locals + length self.old.code.items }
-        ensures { Gives (other_condition (view_starts starts.now) operation.now before free) result self.old self.new (other_code (view_starts starts.now) operator operation.now before behind (length self.old.code.items) free) }
+        ensures { Gives (other_condition (view_starts starts.now) operation.now before free) result self.old self.new
+            (other_code (view_starts starts.now) operator operation.now before following (length self.old.code.items) free) }
     {
         match operation {
             Operation::Test { operand, .. } => {
-                self.emit(deciding_jump(operator, before, behind))?;
+                self.emit(deciding_jump(operator, before, following))?;
                 self.lower_condition(starts, operand, free)
             }
             _ => Ok(before),
         }
     }
 
-    /// The operands of a chain of tests. Where one before the last decides, a jump leads to a place; the last one is answered.
+    /// Emits the operands of a chain of tests. If an operand before the last one decides, a jump leads to this place. Returns the condition
+    /// of the last operand.
     fn lower_tests(
         &mut self,
         starts: &Starts,
         operator: LogicalOperator,
         first: &Expr,
         rest: &[Operation],
-        behind: usize,
+        following: usize,
         free: usize,
     ) -> Result<Condition, AllocError>
         requires { free ≤ most_locals + length self.old.code.items }
-        ensures { Gives (last_condition (view_starts starts.now) (operations_of rest.now) (condition_of (view_starts starts.now) (view_expression first.now) free) free) result self.old self.new (tests_code (view_starts starts.now) operator (view_expression first.now) (operations_of rest.now) behind (length self.old.code.items) free) }
+        ensures { Gives (last_condition (view_starts starts.now) (operations_of rest.now)
+            (condition_of (view_starts starts.now) (view_expression first.now) free) free) result self.old self.new
+            (tests_code (view_starts starts.now) operator (view_expression first.now) (operations_of rest.now) following (length self.old.code.items)
+            free) }
     {
         let mut condition = self.lower_condition(starts, first, free)?;
         for operation in rest {
-            condition = self.lower_other(starts, operator, operation, condition, behind, free)?;
+            condition = self.lower_other(starts, operator, operation, condition, following, free)?;
         }
         Ok(condition)
     }
 
-    /// The same, where it is not yet known to which place the jumps lead.
+    /// Emits the operands of a chain of tests while the target of the jumps is unknown.
     fn lower_early(
         &mut self,
         starts: &Starts,
@@ -279,7 +295,8 @@ impl Emitter {
         Ok(Tested { last, early })
     }
 
-    /// The same, where all go on behind the jump that follows. Where that is, is known when the code was made once.
+    /// Emits the operands of a chain of tests, with jumps to the place after the following jump. The place after the following jump is
+    /// known after the code was emitted once.
     fn lower_chain(
         &mut self,
         starts: &Starts,
@@ -289,16 +306,20 @@ impl Emitter {
         free: usize,
     ) -> Result<Condition, AllocError>
         requires { free ≤ most_locals + length self.old.code.items }
-        ensures { Gives (last_condition (view_starts starts.now) (operations_of rest.now) (condition_of (view_starts starts.now) (view_expression first.now) free) free) result self.old self.new (tests_code (view_starts starts.now) operator (view_expression first.now) (operations_of rest.now) (behind_tests (view_starts starts.now) operator (view_expression first.now) (operations_of rest.now) (length self.old.code.items) free) (length self.old.code.items) free) }
+        ensures { Gives (last_condition (view_starts starts.now) (operations_of rest.now)
+            (condition_of (view_starts starts.now) (view_expression first.now) free) free) result self.old self.new
+            (tests_code (view_starts starts.now) operator (view_expression first.now) (operations_of rest.now)
+            (after_tests (view_starts starts.now) operator (view_expression first.now) (operations_of rest.now) (length self.old.code.items) free)
+            (length self.old.code.items) free) }
     {
         let begin = self.place();
         self.lower_tests(starts, operator, first, rest, 0, free)?;
-        let behind = self.place() + 1;
+        let following = self.place() + 1;
         self.take_back(begin);
-        self.lower_tests(starts, operator, first, rest, behind, free)
+        self.lower_tests(starts, operator, first, rest, following, free)
     }
 
-    /// A condition that is a chain, of tests or not.
+    /// Emits a condition that is a chain, of tests or of other operators.
     fn choose_chain(
         &mut self,
         starts: &Starts,
@@ -310,7 +331,8 @@ impl Emitter {
     ) -> Result<Condition, AllocError>
         requires low { free ≤ most_locals + length self.old.code.items }
         requires chain { IsChain (view_expression value.now) (view_expression first.now) (operations_of rest.now) }
-        ensures { Gives (choice_of (view_starts starts.now) operator (view_expression value.now) free) result self.old self.new (choice_code (view_starts starts.now) operator (view_expression value.now) (length self.old.code.items) free) }
+        ensures { Gives (choice_of (view_starts starts.now) operator (view_expression value.now) free) result self.old self.new
+            (choice_code (view_starts starts.now) operator (view_expression value.now) (length self.old.code.items) free) }
     {
         if are_tests(operator, rest) {
             return self.lower_chain(starts, operator, first, rest, free);
@@ -318,7 +340,8 @@ impl Emitter {
         self.lower_condition(starts, value, free)
     }
 
-    /// A condition before a jump. One of tests by this operator is made operand by operand: where one decides, all go on behind the jump.
+    /// Emits a condition before a jump. Tests by this operator are emitted operand by operand: if one decides, execution continues after
+    /// the jump.
     pub(crate) fn lower_choice(
         &mut self,
         starts: &Starts,
@@ -327,7 +350,8 @@ impl Emitter {
         free: usize,
     ) -> Result<Condition, AllocError>
         requires { free ≤ most_locals + length self.old.code.items }
-        ensures { Gives (choice_of (view_starts starts.now) operator (view_expression value.now) free) result self.old self.new (choice_code (view_starts starts.now) operator (view_expression value.now) (length self.old.code.items) free) }
+        ensures { Gives (choice_of (view_starts starts.now) operator (view_expression value.now) free) result self.old self.new
+            (choice_code (view_starts starts.now) operator (view_expression value.now) (length self.old.code.items) free) }
     {
         match value {
             Expr::Binary { first, rest, .. } => self.choose_chain(
@@ -345,7 +369,7 @@ impl Emitter {
         }
     }
 
-    /// A branch's condition whose jumps all lead where they are to: of tests by the other operator.
+    /// Emits the condition of a branch with tests by the other operator, all of whose jumps have their targets.
     fn lower_settled(
         &mut self,
         starts: &Starts,
@@ -354,7 +378,8 @@ impl Emitter {
         free: usize,
     ) -> Result<Tested, AllocError>
         requires { free ≤ most_locals + length self.old.code.items }
-        ensures { IfOk result (IsSettled (view_starts starts.now) (turned_test operator) (view_expression value.now) free self.old.code.items self.new.code.items) }
+        ensures { IfOk result (IsSettled (view_starts starts.now) (turned_test operator) (view_expression value.now) free self.old.code.items
+            self.new.code.items) }
     {
         let turned = turned_test(operator);
         let last = self.lower_choice(starts, turned, value, free)?;
@@ -364,7 +389,7 @@ impl Emitter {
         })
     }
 
-    /// A branch's condition that is a chain, of tests by this operator or not.
+    /// Emits the condition of a branch that is a chain, of tests by this operator or of others.
     fn branch_chain(
         &mut self,
         starts: &Starts,
@@ -384,8 +409,8 @@ impl Emitter {
         self.lower_settled(starts, operator, value, free)
     }
 
-    /// The condition of a branch before the jump over its first statement. Of tests by this operator each that decides
-    /// is to lead to the other one.
+    /// Emits the condition of a branch before the jump over its first statement. In tests by this operator, each deciding jump leads to the
+    /// other statement.
     pub(crate) fn lower_branch(
         &mut self,
         starts: &Starts,
@@ -416,7 +441,7 @@ impl Emitter {
         }
     }
 
-    /// Jumps come to lead to the next instruction.
+    /// Sets the target of jumps to the next instruction.
     fn lead_here(&mut self, jumps: &[Pending])
         requires { AreBefore jumps.now (length self.old.code.items) }
         ensures { self.new.code.items ≡ failed jumps.now (length self.old.code.items) self.old.code.items }
@@ -426,10 +451,12 @@ impl Emitter {
         }
     }
 
-    /// Where a branch's condition fails, the next instruction comes to follow: by the jump behind it, which stands at a place, and by those in its midst.
+    /// Sets the next instruction as the target for a failing condition of a branch. The jumps are the one after the condition, at this
+    /// place, and its inner jumps.
     pub(crate) fn fail_here(&mut self, place: usize, tested: &Tested)
         requires { (place < length self.old.code.items) × AreBefore tested.now.early.items (length self.old.code.items) }
-        ensures code { self.new.code.items ≡ failed tested.now.early.items (length self.old.code.items) (set self.old.code.items place (failing_jump tested.now.last (length self.old.code.items))) }
+        ensures code { self.new.code.items ≡ failed tested.now.early.items (length self.old.code.items)
+            (set self.old.code.items place (failing_jump tested.now.last (length self.old.code.items))) }
         ensures long { length self.new.code.items ≡ length self.old.code.items }
     {
         self.jump_here_if_failing(place, tested.last);

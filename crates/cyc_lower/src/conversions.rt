@@ -1,10 +1,10 @@
-//! Conversions of values that stand in slots, and words and addresses that come to slots.
+//! Conversions of values in slots, and the code that moves words and addresses to slots.
 ghost use Rattle.std.specs.Prelude.{[], ◌∷◌, length};
 ghost use Rattle.cyc_types.specs.TypedTreeView.{view_expression};
 ghost use Rattle.cyc_meaning.specs.Values.{words_of_kind};
 ghost use Rattle.cyc_plain.specs.declared.instruction.Operand.TheVariants as operands;
 ghost use Rattle.cyc_plain.specs.declared.instruction.Instruction.TheVariants as instructions;
-ghost use Rattle.cyc_lower.specs.inside.ValueCode.{conversion_code, copy_code, address_code, span_of};
+ghost use Rattle.cyc_lower_proof.specs.inside.ValueCode.{conversion_code, copy_code, address_code, span_of};
 ghost use Rattle.cyc_lower.specs.inside.Emission.{Appends, view_starts};
 
 use crate::checks::NULL_EXCEPTION;
@@ -13,21 +13,23 @@ use crate::marks::place_of_value;
 use crate::operands::{is_in, keeps_words, span_of};
 use crate::operators::move_of;
 use crate::starts::Starts;
-use cyc_frame_count::words_of_kind;
 use cyc_plain::{BinaryOperator, Instruction, Operand};
+use cyc_sizes::words_of_kind;
 use cyc_types::typed::{Converted, Kind};
 use std::alloc::AllocError;
 
 impl Emitter {
-    /// A conversion of a value where it is: where it may not be null, it is tested, a thin pointer gets the other words of a fat one, and a
-    /// fat pointer leads to its cell.
+    /// Emits the conversion of a value in place.
+    /// A value that must not be null is tested. A thin pointer gets the other words of a fat one. A fat pointer becomes the address of its
+    /// cell.
     pub(crate) fn convert(
         &mut self,
         starts: &Starts,
         conversion: &Converted,
         value: Operand,
     ) -> Result<(), AllocError>
-        ensures { Appends result self.old self.new (conversion_code (view_starts starts.now) conversion.now.from conversion.now.to (span_of (view_expression conversion.now.value)) value (length self.old.code.items)) }
+        ensures { Appends result self.old self.new (conversion_code (view_starts starts.now) conversion.now.from conversion.now.to
+            (span_of (view_expression conversion.now.value)) value (length self.old.code.items)) }
     {
         let outer = self.enter(place_of_value(&conversion.value));
         let made = self.change(starts, conversion, value);
@@ -35,14 +37,15 @@ impl Emitter {
         made
     }
 
-    /// The same, at the place of the value.
+    /// Emits the conversion of a value whose place in the text is already set.
     fn change(
         &mut self,
         starts: &Starts,
         conversion: &Converted,
         value: Operand,
     ) -> Result<(), AllocError>
-        ensures { Appends result self.old self.new (conversion_code (view_starts starts.now) conversion.now.from conversion.now.to (span_of (view_expression conversion.now.value)) value (length self.old.code.items)) }
+        ensures { Appends result self.old self.new (conversion_code (view_starts starts.now) conversion.now.from conversion.now.to
+            (span_of (view_expression conversion.now.value)) value (length self.old.code.items)) }
     {
         if keeps_words(conversion.from, conversion.to) {
             if matches!(conversion.to, Kind::NonNull) {
@@ -57,7 +60,7 @@ impl Emitter {
         self.thin(starts, conversion.to, span, value)
     }
 
-    /// A value of a kind comes to a slot, where it is not there yet.
+    /// Emits the move of a value of a kind to a slot, unless it is already there.
     pub(crate) fn copy(
         &mut self,
         kind: Kind,
@@ -72,7 +75,7 @@ impl Emitter {
         self.emit(move_of(words_of_kind(kind), slot, source))
     }
 
-    /// An address comes to a slot: the word of an operand, and so many bytes more.
+    /// Emits the move of an address to a slot: the word of an operand plus a number of bytes.
     pub(crate) fn bring_address(
         &mut self,
         address: Operand,
@@ -92,7 +95,7 @@ impl Emitter {
         }
     }
 
-    /// A number comes to a slot.
+    /// Emits the move of a number to a slot.
     pub(crate) fn bring_word(&mut self, word: u32, slot: usize) -> Result<(), AllocError>
         ensures { Appends result self.old self.new (instructions.Move slot (operands.Word word) ∷ []) }
     {

@@ -1,23 +1,23 @@
-//! Code that is being made.
+//! Code under construction.
 ghost use Rattle.std.specs.Prelude.{◌≡◌, ◌<◌, ◌≤◌, [], ◌∷◌, ◌++◌, length, set, take, IfOk};
 ghost use Rattle.cyc_types.specs.TypedTreeView.{view_lvalue};
-ghost use Rattle.cyc_lower.specs.inside.ControlCode.{failing_jump};
-ghost use Rattle.cyc_lower.specs.inside.ExpressionCode.{load_code};
-ghost use Rattle.cyc_lower.specs.inside.Lowering.{target_of, farthest, turned, IsTurned, AreTurned};
+ghost use Rattle.cyc_lower_proof.specs.inside.ControlCode.{failing_jump};
+ghost use Rattle.cyc_lower_proof.specs.inside.ExpressionCode.{load_code};
+ghost use Rattle.cyc_lower_proof.specs.inside.Lowering.{target_of, farthest, turned, IsTurned, AreTurned};
 ghost use Rattle.cyc_lower.specs.inside.Emission.{Appends, view_starts};
 
 use crate::globals::global_of;
 use crate::locals::slot_of;
 use crate::marks::Mark;
-use crate::operands::Condition;
 use crate::operators::{failing_jump, move_of};
 use crate::starts::Starts;
+use cyc_lower_proof::Condition;
 use cyc_plain::{Instruction, Operand};
 use cyc_types::typed::Lvalue;
 use cyc_words::Span;
 use std::alloc::{AllocError, Global};
 
-/// The place to which an instruction leads, beside the one behind it.
+/// Returns the place that an instruction leads to, besides the next one.
 fn target_of(instruction: &Instruction) -> usize
     ensures { result ≡ target_of instruction.now }
 {
@@ -28,7 +28,7 @@ fn target_of(instruction: &Instruction) -> usize
     }
 }
 
-/// An instruction that leads behind one place leads as far behind another, nearer one.
+/// Returns the instruction with a nearer target: a target after `far` becomes one as far after `near`.
 fn turned(instruction: Instruction, far: usize, near: usize) -> Instruction
     requires { near ≤ far }
     ensures { result ≡ turned far near instruction }
@@ -52,7 +52,7 @@ fn turned(instruction: Instruction, far: usize, near: usize) -> Instruction
     }
 }
 
-/// It comes to do so where it leads behind the one place.
+/// Replaces the target of an instruction that leads past `far` in this way.
 fn turn(instruction: &mut Instruction, far: usize, near: usize)
     requires { near ≤ far }
     ensures { IsTurned far near instruction.old instruction.new }
@@ -62,19 +62,20 @@ fn turn(instruction: &mut Instruction, far: usize, near: usize)
     }
 }
 
-/// The code of a function, as far as it is made, and where the text stands that it is made from.
+/// The code of a function under construction, and the place of the text that it is emitted for.
 #[derive(Drop)]
 pub(crate) struct Emitter {
     pub(crate) code: Vec<Instruction>,
     pub(crate) marks: Vec<Mark>,
-    /// What is emitted now is made from what stands here.
+    /// The place of the text for the instructions that follow.
     here: Span,
-    /// Whether marks are kept.
+    /// True if marks are kept.
     is_marked: bool,
 }
 
 impl Emitter {
-    /// No code yet, of a function whose name stands here. With `is_marked` marks are kept.
+    /// Returns an emitter without code, for a function whose name is at this place. If `is_marked` is true, the emitter keeps marks of
+    /// places in the text.
     pub(crate) fn new(alloc: Global, name: Span, is_marked: bool) -> Emitter
         ensures { result.code.items ≡ [] }
     {
@@ -86,8 +87,7 @@ impl Emitter {
         }
     }
 
-    /// What is emitted from now on is made from what stands at this place, if it has one. Where what was emitted before came from is
-    /// answered.
+    /// Sets the place of the text for the following instructions, if one is given. Returns the previous place.
     pub(crate) fn enter(&mut self, place: Option<Span>) -> Span
         ensures { self.new.code.items ≡ self.old.code.items }
     {
@@ -98,14 +98,14 @@ impl Emitter {
         outer
     }
 
-    /// What is emitted from now on is made from what is around that.
+    /// Sets the place of the text for the following instructions back to the outer place.
     pub(crate) fn leave(&mut self, outer: Span)
         ensures { self.new.code.items ≡ self.old.code.items }
     {
         self.here = outer;
     }
 
-    /// Keeps where the next instruction comes from, where that is not where the one before it does.
+    /// Records the place of the text of the next instruction if it differs from that of the previous one.
     fn mark(&mut self) -> Result<(), AllocError>
         ensures { self.new.code.items ≡ self.old.code.items }
     {
@@ -125,14 +125,14 @@ impl Emitter {
         }
     }
 
-    /// The place of the next instruction.
+    /// Returns the place of the next instruction.
     pub(crate) fn place(&self) -> usize
         ensures { result ≡ length self.now.code.items }
     {
         self.code.len()
     }
 
-    /// The farthest place to which an instruction leads.
+    /// Returns the farthest place that an instruction leads to.
     pub(crate) fn farthest(&self) -> usize
         ensures { result ≡ farthest self.now.code.items }
     {
@@ -146,7 +146,7 @@ impl Emitter {
         place
     }
 
-    /// What leads behind one place comes to lead as far behind another, nearer one.
+    /// Replaces all targets after `far` by targets as far after `near`, which is nearer.
     pub(crate) fn settle(&mut self, far: usize, near: usize)
         requires { near ≤ far }
         ensures { AreTurned far near self.old.code.items self.new.code.items }
@@ -156,7 +156,7 @@ impl Emitter {
         }
     }
 
-    /// One instruction more.
+    /// Adds one instruction.
     pub(crate) fn emit(&mut self, instruction: Instruction) -> Result<(), AllocError>
         ensures { Appends result self.old self.new (instruction ∷ []) }
     {
@@ -165,7 +165,7 @@ impl Emitter {
         Ok(())
     }
 
-    /// Two instructions more. A caller with both of them has one way out, and not two.
+    /// Adds two instructions. A caller then has one exit for lack of memory instead of two.
     pub(crate) fn emit_both(
         &mut self,
         first: Instruction,
@@ -177,7 +177,7 @@ impl Emitter {
         self.emit(second)
     }
 
-    /// Three instructions more.
+    /// Adds three instructions.
     pub(crate) fn emit_three(
         &mut self,
         first: Instruction,
@@ -190,7 +190,7 @@ impl Emitter {
         self.emit(third)
     }
 
-    /// Puts another instruction in the place of one.
+    /// Replaces the instruction at a place.
     pub(crate) fn patch(&mut self, place: usize, instruction: Instruction)
         requires { place < length self.old.code.items }
         ensures { self.new.code.items ≡ set self.old.code.items place instruction }
@@ -198,7 +198,7 @@ impl Emitter {
         self.code[place] = instruction;
     }
 
-    /// Keeps the place of the next instruction, for a jump whose target is not yet known.
+    /// Reserves the place of the next instruction for a jump whose target is not yet known.
     pub(crate) fn reserve(&mut self) -> Result<usize, AllocError>
         ensures { IfOk result (λ place. (place ≡ length self.old.code.items) × (self.new.code.items ≡ self.old.code.items ++ Instruction.Jump 0 ∷ [])) }
     {
@@ -207,7 +207,7 @@ impl Emitter {
         Ok(place)
     }
 
-    /// Marks of instructions that are no longer there are none.
+    /// Removes the marks of instructions that no longer exist.
     fn drop_marks(&mut self, place: usize)
         ensures { self.new.code.items ≡ self.old.code.items }
     {
@@ -221,7 +221,7 @@ impl Emitter {
         }
     }
 
-    /// The code from a place on is given up.
+    /// Removes the code from a place on.
     pub(crate) fn take_back(&mut self, place: usize)
         ensures { self.new.code.items ≡ take place self.old.code.items }
     {
@@ -229,7 +229,7 @@ impl Emitter {
         self.drop_marks(place);
     }
 
-    /// At a place that was kept comes a jump to the next instruction.
+    /// Puts a jump to the next instruction at a reserved place.
     pub(crate) fn jump_here(&mut self, place: usize)
         requires { place < length self.old.code.items }
         ensures { self.new.code.items ≡ set self.old.code.items place (Instruction.Jump (length self.old.code.items)) }
@@ -238,7 +238,7 @@ impl Emitter {
         self.patch(place, Instruction::Jump { target });
     }
 
-    /// The same where a condition fails.
+    /// Puts a jump to the next instruction, for a failing condition, at a reserved place.
     pub(crate) fn jump_here_if_failing(&mut self, place: usize, condition: Condition)
         requires { place < length self.old.code.items }
         ensures { self.new.code.items ≡ set self.old.code.items place (failing_jump condition (length self.old.code.items)) }
@@ -247,7 +247,7 @@ impl Emitter {
         self.patch(place, failing_jump(condition, target));
     }
 
-    /// The value of a place, which has so many words, comes to a slot and those behind it.
+    /// Emits the load of the value of a place, with this number of words, into slots.
     pub(crate) fn load(
         &mut self,
         starts: &Starts,

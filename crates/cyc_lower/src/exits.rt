@@ -1,25 +1,19 @@
-//! The ways out of a statement: what a statement that leaves a loop or a function has to close, and its code.
+//! The exits of a statement: what a statement that leaves a loop or a function has to close, and its code.
 ghost use Rattle.std.specs.Prelude.{◌≡◌, ◌+◌, ◌≤◌, [], ◌∷◌, ◌++◌, length, option_map};
 ghost use Rattle.cyc_types.specs.TypedTreeView.{view_converted};
-ghost use Rattle.cyc_lower.specs.inside.ControlCode.{nothing_opened, outermost, with_handler, with_mark, inside_try, inside_region, leave_code, break_target, continue_target};
-ghost use Rattle.cyc_lower.specs.inside.Lowering.{return_code};
-ghost use Rattle.cyc_lower.specs.inside.Emission.{Appends, most_locals, exits_behind, view_starts};
+ghost use Rattle.cyc_lower_proof.specs.inside.ControlCode.{nothing_opened, outermost, with_handler, with_mark, inside_try, inside_region, leave_code};
+ghost use Rattle.cyc_lower_proof.specs.inside.ControlCode.{break_target, continue_target};
+ghost use Rattle.cyc_lower_proof.specs.inside.Lowering.{return_code};
+ghost use Rattle.cyc_lower.specs.inside.Emission.{Appends, most_locals, exits_after, view_starts};
 
 use crate::emitter::Emitter;
 use crate::starts::Starts;
+use cyc_lower_proof::{Exits, Opened};
 use cyc_plain::Instruction;
 use cyc_types::typed::{Converted, Item};
 use std::alloc::AllocError;
 
-/// What was opened round a statement since a loop began, or its function: the first slot of the outermost handler's record, and that
-/// of the mark of the outermost lexical region.
-#[derive(Clone, Copy)]
-pub(crate) struct Opened {
-    pub(crate) handler: Option<usize>,
-    pub(crate) mark: Option<usize>,
-}
-
-/// Where nothing was.
+/// Returns the record of nothing opened.
 pub(crate) fn nothing_opened() -> Opened
     ensures { result ≡ nothing_opened }
 {
@@ -29,7 +23,7 @@ pub(crate) fn nothing_opened() -> Opened
     }
 }
 
-/// The outermost of what was opened: this slot where there was nothing.
+/// Returns the outermost opened slot: this one if there was none.
 fn outermost(opened: Option<usize>, slot: usize) -> Option<usize>
     ensures { result ≡ outermost opened slot }
 {
@@ -39,7 +33,7 @@ fn outermost(opened: Option<usize>, slot: usize) -> Option<usize>
     }
 }
 
-/// A handler was opened too, whose record begins with this slot.
+/// Returns what is opened together with a handler whose record begins at this slot.
 fn with_handler(opened: Opened, slot: usize) -> Opened
     ensures { result ≡ with_handler opened slot }
 {
@@ -49,7 +43,7 @@ fn with_handler(opened: Opened, slot: usize) -> Opened
     }
 }
 
-/// A lexical region was opened too, whose mark is in this slot.
+/// Returns what is opened together with a lexical region whose mark is in this slot.
 fn with_mark(opened: Opened, slot: usize) -> Opened
     ensures { result ≡ with_mark opened slot }
 {
@@ -59,20 +53,7 @@ fn with_mark(opened: Opened, slot: usize) -> Opened
     }
 }
 
-/// The ways out of a statement: what those that leave a loop or a function must know of it.
-#[derive(Clone, Copy)]
-pub(crate) struct Exits {
-    /// Where the loop round the statement begins, if one is around it.
-    pub(crate) head: usize,
-    /// Where the jump to its end stands.
-    pub(crate) leaving: usize,
-    /// What was opened in that loop.
-    pub(crate) in_loop: Opened,
-    /// The same for the function.
-    pub(crate) in_function: Opened,
-}
-
-/// In the body of a `try`, whose handler's record begins with this slot.
+/// Returns the exits in the body of a `try`, the record of whose handler begins at this slot.
 pub(crate) fn inside_try(exits: Exits, slot: usize) -> Exits
     ensures { result ≡ inside_try exits slot }
 {
@@ -84,7 +65,7 @@ pub(crate) fn inside_try(exits: Exits, slot: usize) -> Exits
     }
 }
 
-/// Behind a region, whose mark is in this slot.
+/// Returns the exits after a region, whose mark is in this slot.
 fn inside_region(exits: Exits, slot: usize) -> Exits
     ensures { result ≡ inside_region exits slot }
 {
@@ -96,9 +77,9 @@ fn inside_region(exits: Exits, slot: usize) -> Exits
     }
 }
 
-/// The ways out behind an item of a block, whose temporaries began at this slot.
-pub(crate) fn exits_behind(item: &Item, exits: Exits, free: usize) -> Exits
-    ensures { result ≡ exits_behind item.now exits free }
+/// Returns the exits after an item of a block, before which the temporaries begin at this slot.
+pub(crate) fn exits_after(item: &Item, exits: Exits, free: usize) -> Exits
+    ensures { result ≡ exits_after item.now exits free }
 {
     match item {
         Item::Region { .. } => inside_region(exits, free),
@@ -111,7 +92,7 @@ pub(crate) fn exits_behind(item: &Item, exits: Exits, free: usize) -> Exits
 }
 
 impl Emitter {
-    /// What was opened is closed: all handlers from the outermost on, and then all lexical regions.
+    /// Closes the opened handlers and regions: all handlers from the outermost on, and then all lexical regions.
     pub(crate) fn lower_leave(&mut self, opened: Opened) -> Result<(), AllocError>
         ensures { Appends result self.old self.new (leave_code opened) }
     {
@@ -124,7 +105,7 @@ impl Emitter {
         }
     }
 
-    /// A return of a value in a slot.
+    /// Emits the return of a value in a slot.
     pub(crate) fn lower_return(
         &mut self,
         starts: &Starts,
@@ -133,7 +114,8 @@ impl Emitter {
         free: usize,
     ) -> Result<(), AllocError>
         requires { free ≤ most_locals + length self.old.code.items }
-        ensures { Appends result self.old self.new (return_code (view_starts starts.now) (option_map view_converted value.now) (length self.old.code.items) exits free) }
+        ensures { Appends result self.old self.new (return_code (view_starts starts.now) (option_map view_converted value.now)
+            (length self.old.code.items) exits free) }
     {
         let from = match value {
             Some(value) => self.convert_to_slot(starts, value, free)?,
@@ -143,7 +125,7 @@ impl Emitter {
         self.emit(Instruction::Finish { value: from })
     }
 
-    /// What was opened in a loop is closed, and a jump leads to the loop's end, by the jump to it.
+    /// Emits the closing of the handlers and regions that a loop has opened, and the jump to the end of the loop.
     pub(crate) fn lower_break(&mut self, exits: Exits) -> Result<(), AllocError>
         ensures { Appends result self.old self.new (leave_code exits.in_loop ++ Instruction.Jump (break_target exits) ∷ []) }
     {
@@ -153,7 +135,7 @@ impl Emitter {
         })
     }
 
-    /// The same, and a jump to the condition that the loop begins with.
+    /// Emits the closing of the handlers and regions that a loop has opened, and the jump to the condition at the beginning of the loop.
     pub(crate) fn lower_continue(&mut self, exits: Exits) -> Result<(), AllocError>
         ensures { Appends result self.old self.new (leave_code exits.in_loop ++ Instruction.Jump (continue_target exits) ∷ []) }
     {

@@ -1,15 +1,19 @@
-//! The code of expressions. Each method adds its code behind what there is. A value comes to a slot by the last instruction;
-//! else only the slots from `free` on are written, and those of locals that are assigned.
+//! The code of expressions.
+//! Each method adds its code after the existing code. The last instruction of an expression's code moves the value to its slot. All other
+//! writes go to the slots from `free` on and to assigned locals.
 ghost use Rattle.std.specs.Prelude.{◌≡◌, ◌+◌, ◌<◌, ◌≤◌, ◌++◌, None, length};
 ghost use Rattle.cyc_types.specs.TypedTreeView.{view_dereference, view_initial, view_expression, view_converted, view_lvalue, operations_of};
 ghost use Rattle.cyc_types.specs.TypedTrees.{Call};
 ghost use Rattle.cyc_meaning.specs.Values.{words_of_kind};
-ghost use Rattle.cyc_lower.specs.inside.ValueCode.{operand_or, addressed_by, code_unless_slot};
-ghost use Rattle.cyc_lower.specs.inside.ObjectCode.{elements_code, last_element, saved_code};
-ghost use Rattle.cyc_lower.specs.inside.ExpressionCode.{operand_of, left_of, left_slot, value_operand, converted_operand, expression_code, brought_code, converted_operand_code, initial_code, made_code, place_operand, place_offset, place_code, pointer_of, pointer_slot};
-ghost use Rattle.cyc_lower.specs.inside.Lowering.{assignment_code, assigned_operand, discarded_code};
-ghost use Rattle.cyc_lower.specs.inside.Slots.{with_counter};
-ghost use Rattle.cyc_lower.specs.inside.Emission.{Appends, Gives, most_locals, value_code, source_code, slot_code, converted_slot, converted_slot_code, left_code, view_starts};
+ghost use Rattle.cyc_lower_proof.specs.inside.ValueCode.{operand_or, addressed_by, code_unless_slot};
+ghost use Rattle.cyc_lower_proof.specs.inside.ObjectCode.{elements_code, last_element, saved_code};
+ghost use Rattle.cyc_lower_proof.specs.inside.ExpressionCode.{operand_of, left_of, left_slot, value_operand, converted_operand, expression_code};
+ghost use Rattle.cyc_lower_proof.specs.inside.ExpressionCode.{brought_code, converted_operand_code, initial_code, made_code, place_operand};
+ghost use Rattle.cyc_lower_proof.specs.inside.ExpressionCode.{place_offset, place_code, pointer_of, pointer_slot};
+ghost use Rattle.cyc_lower_proof.specs.inside.Lowering.{assignment_code, assigned_operand, discarded_code};
+ghost use Rattle.cyc_lower_proof.specs.inside.Slots.{with_counter};
+ghost use Rattle.cyc_lower.specs.inside.Emission.{Appends, Gives, most_locals, value_code, source_code, slot_code, converted_slot};
+ghost use Rattle.cyc_lower.specs.inside.Emission.{converted_slot_code, left_code, view_starts};
 
 use crate::checks::NULL_EXCEPTION;
 use crate::emitter::Emitter;
@@ -18,19 +22,19 @@ use crate::locals::{counter_of, field_of, slot_of, with_counter};
 use crate::marks::{place_of_access, place_of_value};
 use crate::objects::{kinds_passed, last_element};
 use crate::operands::{
-    converts_there, keeps_words, kind_at, kind_behind, masks, operand_of, pointer_of, slot_behind,
+    converts_there, keeps_words, kind_after, kind_at, masks, operand_of, pointer_of, slot_after,
     span_in, takes_operand, value_slot,
 };
 use crate::operators::{low_byte, move_of, unary_instruction};
 use crate::starts::Starts;
-use cyc_frame_count::{words_of, words_of_kind};
 use cyc_plain::{Instruction, Operand, UnaryOperator};
+use cyc_sizes::{words_of, words_of_kind};
 use cyc_store::{HEAP, UNIQUE};
 use cyc_types::typed;
 use cyc_types::typed::{Converted, Dereference, Expr, Initial, Kind, Lvalue, Operation, Placement};
 use std::alloc::AllocError;
 
-/// How many bytes are to be added to an address.
+/// Returns the number of bytes to add to an address.
 fn place_offset(starts: &Starts, place: &Dereference) -> u32
     ensures { result ≡ place_offset (view_starts starts.now) (view_dereference place.now) }
 {
@@ -41,7 +45,7 @@ fn place_offset(starts: &Starts, place: &Dereference) -> u32
 }
 
 impl Emitter {
-    /// The value of an expression comes to a slot.
+    /// Emits an expression and moves its value to a slot.
     #[cycle(expression)]
     pub(crate) fn lower_expression(
         &mut self,
@@ -51,7 +55,8 @@ impl Emitter {
         free: usize,
     ) -> Result<(), AllocError>
         requires { free ≤ most_locals + length self.old.code.items }
-        ensures { Appends result self.old self.new (expression_code (view_starts starts.now) (view_expression value.now) (length self.old.code.items) slot free) }
+        ensures { Appends result self.old self.new (expression_code (view_starts starts.now) (view_expression value.now) (length self.old.code.items)
+            slot free) }
     {
         let outer = self.enter(place_of_value(value));
         let made = self.lower_value(starts, value, slot, free);
@@ -59,7 +64,7 @@ impl Emitter {
         made
     }
 
-    /// The same, at its place.
+    /// Emits an expression whose place in the text is already set, and moves its value to a slot.
     #[cycle(expression)]
     fn lower_value(
         &mut self,
@@ -69,7 +74,8 @@ impl Emitter {
         free: usize,
     ) -> Result<(), AllocError>
         requires { free ≤ most_locals + length self.old.code.items }
-        ensures { Appends result self.old self.new (expression_code (view_starts starts.now) (view_expression value.now) (length self.old.code.items) slot free) }
+        ensures { Appends result self.old self.new (expression_code (view_starts starts.now) (view_expression value.now) (length self.old.code.items)
+            slot free) }
     {
         match value {
             Expr::Number { value } => self.bring_word(*value, slot),
@@ -114,7 +120,7 @@ impl Emitter {
                 )
             }
             Expr::AddressOf { place, of_type } => {
-                self.address_variable(starts, *place, kind_behind(of_type), slot)
+                self.address_variable(starts, *place, kind_after(of_type), slot)
             }
             Expr::AddressOfCell { place, .. } => self.take_address(starts, place, slot, free),
             Expr::Store { target, value, .. } => {
@@ -141,16 +147,16 @@ impl Emitter {
                 Placement::AsUnique => {
                     self.lower_object(starts, initial, Operand::Word { word: UNIQUE }, slot, free)
                 }
-                // The handle waits in the first free slot while the object's values are evaluated.
+                // The handle stays in the first free slot while the values of the object are evaluated.
                 Placement::ByHandle { handle } => {
                     self.lower_expression(starts, handle, free, free)?;
-                    let behind = slot_behind(free, Kind::Handle)?;
+                    let following = slot_after(free, Kind::Handle)?;
                     self.lower_object(
                         starts,
                         initial,
                         Operand::Slot { number: free },
                         slot,
-                        behind,
+                        following,
                     )
                 }
             },
@@ -179,7 +185,8 @@ impl Emitter {
         }
     }
 
-    /// A place that a pointer leads to, which is tested: where its address stands, but for bytes that are to be added.
+    /// Emits the code that finds a place that a pointer leads to, with its test. Returns the operand of the address, without the bytes to
+    /// add.
     #[cycle(expression)]
     fn locate(
         &mut self,
@@ -188,7 +195,8 @@ impl Emitter {
         free: usize,
     ) -> Result<Operand, AllocError>
         requires { free ≤ most_locals + length self.old.code.items }
-        ensures { Gives (place_operand (view_starts starts.now) (view_dereference place.now) free) result self.old self.new (place_code (view_starts starts.now) (view_dereference place.now) (length self.old.code.items) free) }
+        ensures { Gives (place_operand (view_starts starts.now) (view_dereference place.now) free) result self.old self.new
+            (place_code (view_starts starts.now) (view_dereference place.now) (length self.old.code.items) free) }
     {
         let outer = self.enter(Some(place_of_access(place)));
         let address = self.lower_access(starts, place, free);
@@ -196,7 +204,7 @@ impl Emitter {
         address
     }
 
-    /// The same, at its place.
+    /// Emits an expression whose place in the text is already set, and moves its value to a slot.
     #[cycle(expression)]
     fn lower_access(
         &mut self,
@@ -205,7 +213,8 @@ impl Emitter {
         free: usize,
     ) -> Result<Operand, AllocError>
         requires { free ≤ most_locals + length self.old.code.items }
-        ensures { Gives (place_operand (view_starts starts.now) (view_dereference place.now) free) result self.old self.new (place_code (view_starts starts.now) (view_dereference place.now) (length self.old.code.items) free) }
+        ensures { Gives (place_operand (view_starts starts.now) (view_dereference place.now) free) result self.old self.new
+            (place_code (view_starts starts.now) (view_dereference place.now) (length self.old.code.items) free) }
     {
         match place {
             Dereference::Target {
@@ -229,14 +238,14 @@ impl Emitter {
                 ..
             } => {
                 let first = self.lower_pointer(starts, pointer, index, free)?;
-                let behind = slot_behind(free, Kind::Fat)?;
-                let moved = self.lower_operand(starts, index, behind)?;
+                let following = slot_after(free, Kind::Fat)?;
+                let moved = self.lower_operand(starts, index, following)?;
                 self.reach_element(starts, span_in(of_type), first, moved, free)
             }
         }
     }
 
-    /// A fat pointer for its index: it stays in its local where the index is simple, or comes to slots.
+    /// Emits a fat pointer before its index: it stays in its local if the index is simple, or is moved to slots.
     #[cycle(expression)]
     fn lower_pointer(
         &mut self,
@@ -246,7 +255,9 @@ impl Emitter {
         free: usize,
     ) -> Result<usize, AllocError>
         requires { free ≤ most_locals + length self.old.code.items }
-        ensures { Gives (pointer_slot (view_starts starts.now) (view_expression pointer.now) (view_expression index.now) free) result self.old self.new (code_unless_slot (pointer_of (view_starts starts.now) (view_expression pointer.now) (view_expression index.now)) (expression_code (view_starts starts.now) (view_expression pointer.now) (length self.old.code.items) free free)) }
+        ensures { Gives (pointer_slot (view_starts starts.now) (view_expression pointer.now) (view_expression index.now) free) result self.old
+            self.new (code_unless_slot (pointer_of (view_starts starts.now) (view_expression pointer.now) (view_expression index.now))
+            (expression_code (view_starts starts.now) (view_expression pointer.now) (length self.old.code.items) free free)) }
     {
         if let Some(Operand::Slot { number }) = pointer_of(starts, pointer, index) {
             return Ok(number);
@@ -255,7 +266,7 @@ impl Emitter {
         Ok(free)
     }
 
-    /// The address of a place comes to a slot.
+    /// Emits the move of the address of a place to a slot.
     #[cycle(expression)]
     pub(crate) fn take_address(
         &mut self,
@@ -265,13 +276,16 @@ impl Emitter {
         free: usize,
     ) -> Result<(), AllocError>
         requires { free ≤ most_locals + length self.old.code.items }
-        ensures { Appends result self.old self.new (addressed_by (place_code (view_starts starts.now) (view_dereference place.now) (length self.old.code.items) free) (place_operand (view_starts starts.now) (view_dereference place.now) free) (place_offset (view_starts starts.now) (view_dereference place.now)) slot) }
+        ensures { Appends result self.old self.new (addressed_by
+            (place_code (view_starts starts.now) (view_dereference place.now) (length self.old.code.items) free)
+            (place_operand (view_starts starts.now) (view_dereference place.now) free)
+            (place_offset (view_starts starts.now) (view_dereference place.now)) slot) }
     {
         let address = self.locate(starts, place, free)?;
         self.bring_address(address, place_offset(starts, place), slot)
     }
 
-    /// A value is stored in the cell whose address waits in `free`, and where it stands then.
+    /// Emits the store of a value in the cell whose address is in `free`. Returns the operand of the value.
     #[cycle(expression)]
     fn store(
         &mut self,
@@ -280,15 +294,17 @@ impl Emitter {
         free: usize,
     ) -> Result<Operand, AllocError>
         requires { free < most_locals + length self.old.code.items }
-        ensures { Gives (converted_operand (view_starts starts.now) (view_converted value.now) (free + 1)) result self.old self.new (converted_operand_code (view_starts starts.now) (view_converted value.now) (length self.old.code.items) (free + 1) ++ saved_code value.now.to free (converted_operand (view_starts starts.now) (view_converted value.now) (free + 1))) }
+        ensures { Gives (converted_operand (view_starts starts.now) (view_converted value.now) (free + 1)) result self.old self.new
+            (converted_operand_code (view_starts starts.now) (view_converted value.now) (length self.old.code.items) (free + 1)
+            ++ saved_code value.now.to free (converted_operand (view_starts starts.now) (view_converted value.now) (free + 1))) }
     {
         let source = self.lower_converted(starts, value, free + 1)?;
         self.save(value.to, free, source)?;
         Ok(source)
     }
 
-    /// A new object in the region of a handle: its values come to slots, it is made of them, and its address comes to a
-    /// slot.
+    /// Emits a new object in the region of a handle. The initial values of the object are moved to slots, the object is allocated and
+    /// filled, and its address is moved to a slot.
     #[cycle(expression)]
     fn lower_object(
         &mut self,
@@ -299,7 +315,8 @@ impl Emitter {
         free: usize,
     ) -> Result<(), AllocError>
         requires { free ≤ most_locals + length self.old.code.items }
-        ensures { Appends result self.old self.new (made_code (view_starts starts.now) (view_initial initial.now) handle (length self.old.code.items) slot free) }
+        ensures { Appends result self.old self.new (made_code (view_starts starts.now) (view_initial initial.now) handle (length self.old.code.items)
+            slot free) }
     {
         match initial {
             Initial::Plain { kind, value } => {
@@ -324,8 +341,8 @@ impl Emitter {
         }
     }
 
-    /// The elements of an array, one after the other. Its pointer is in the first free slots, with the counter as its index, and
-    /// then comes to a slot.
+    /// Emits the loop that fills an array. The pointer is in the first free slots, with the counter as its index, and is moved to a slot at
+    /// the end.
     #[cycle(expression)]
     fn lower_elements(
         &mut self,
@@ -335,10 +352,12 @@ impl Emitter {
         slot: usize,
         free: usize,
     ) -> Result<(), AllocError>
-        ensures { Appends result self.old self.new (elements_code kind (expression_code (with_counter (view_starts starts.now) (free + 2)) (view_expression element.now) (length self.old.code.items + 1) (free + 3) (free + 3)) (length self.old.code.items) slot free) }
+        ensures { Appends result self.old self.new (elements_code kind
+            (expression_code (with_counter (view_starts starts.now) (free + 2)) (view_expression element.now) (length self.old.code.items + 1)
+            (free + 3) (free + 3)) (length self.old.code.items) slot free) }
     {
-        let behind = slot_behind(free, Kind::Fat)?;
-        let counters = with_counter(starts, behind - 1)?;
+        let following = slot_after(free, Kind::Fat)?;
+        let counters = with_counter(starts, following - 1)?;
         let inner = Starts {
             locals: starts.locals,
             tag_slot: starts.tag_slot,
@@ -350,13 +369,13 @@ impl Emitter {
             alloc: starts.alloc,
         };
         let head = self.reserve()?;
-        self.lower_expression(&inner, element, behind, behind)?;
-        self.write_element(kind, head, behind - 1, behind, free)?;
-        self.jump_here_if_failing(head, last_element(behind - 2, behind - 1));
-        self.end_array(slot, behind - 1, free)
+        self.lower_expression(&inner, element, following, following)?;
+        self.write_element(kind, head, following - 1, following, free)?;
+        self.jump_here_if_failing(head, last_element(following - 2, following - 1));
+        self.end_array(slot, following - 1, free)
     }
 
-    /// An expression is an operand: it has no code, or its code brings the value to a slot.
+    /// Emits an expression as an operand: it has no code, or its code moves the value to a slot.
     #[cycle(expression)]
     pub(crate) fn lower_operand(
         &mut self,
@@ -365,7 +384,8 @@ impl Emitter {
         free: usize,
     ) -> Result<Operand, AllocError>
         requires { operand_of (view_starts starts.now) (view_expression value.now) ≡ None → free ≤ most_locals + length self.old.code.items }
-        ensures { Gives (value_operand (view_starts starts.now) (view_expression value.now) free) result self.old self.new (value_code (view_starts starts.now) (view_expression value.now) (length self.old.code.items) free) }
+        ensures { Gives (value_operand (view_starts starts.now) (view_expression value.now) free) result self.old self.new
+            (value_code (view_starts starts.now) (view_expression value.now) (length self.old.code.items) free) }
     {
         match operand_of(starts, value) {
             Some(known) => Ok(known),
@@ -377,7 +397,7 @@ impl Emitter {
         }
     }
 
-    /// A value that is to be converted comes to a slot, and of an int that becomes a char only its low byte.
+    /// Emits a value before its conversion, and moves it to a slot; for an int that becomes a char it moves only the low byte.
     #[cycle(expression)]
     pub(crate) fn bring(
         &mut self,
@@ -396,7 +416,7 @@ impl Emitter {
         self.lower_expression(starts, &value.value, slot, free)
     }
 
-    /// A value that is to be converted: where it is, or in a temporary where its words change.
+    /// Emits a value before its conversion: in its place, or in a temporary if its words change.
     #[cycle(expression)]
     fn lower_source(
         &mut self,
@@ -405,7 +425,8 @@ impl Emitter {
         free: usize,
     ) -> Result<Operand, AllocError>
         requires { free ≤ most_locals + length self.old.code.items }
-        ensures { Gives (converted_operand (view_starts starts.now) (view_converted value.now) free) result self.old self.new (source_code (view_starts starts.now) (view_converted value.now) (length self.old.code.items) free) }
+        ensures { Gives (converted_operand (view_starts starts.now) (view_converted value.now) free) result self.old self.new
+            (source_code (view_starts starts.now) (view_converted value.now) (length self.old.code.items) free) }
     {
         if keeps_words(value.from, value.to) {
             return self.lower_operand(starts, &value.value, free);
@@ -414,7 +435,7 @@ impl Emitter {
         Ok(Operand::Slot { number: free })
     }
 
-    /// A value that is converted where it is.
+    /// Emits a value and its conversion in place.
     #[cycle(expression)]
     pub(crate) fn lower_converted(
         &mut self,
@@ -423,14 +444,15 @@ impl Emitter {
         free: usize,
     ) -> Result<Operand, AllocError>
         requires { free ≤ most_locals + length self.old.code.items }
-        ensures { Gives (converted_operand (view_starts starts.now) (view_converted value.now) free) result self.old self.new (converted_operand_code (view_starts starts.now) (view_converted value.now) (length self.old.code.items) free) }
+        ensures { Gives (converted_operand (view_starts starts.now) (view_converted value.now) free) result self.old self.new
+            (converted_operand_code (view_starts starts.now) (view_converted value.now) (length self.old.code.items) free) }
     {
         let operand = self.lower_source(starts, value, free)?;
         self.convert(starts, value, operand)?;
         Ok(operand)
     }
 
-    /// A slot gets a converted value, behind all that may be raised.
+    /// Emits a converted value and moves it to a slot, after everything that may raise an exception.
     #[cycle(expression)]
     pub(crate) fn lower_initial(
         &mut self,
@@ -449,7 +471,7 @@ impl Emitter {
         self.emit(move_of(words_of_kind(value.to), slot, source))
     }
 
-    /// An assignment, and where its value stands then.
+    /// Emits an assignment. Returns the operand that holds the assigned value.
     #[cycle(expression)]
     fn lower_assignment(
         &mut self,
@@ -459,7 +481,8 @@ impl Emitter {
         free: usize,
     ) -> Result<Operand, AllocError>
         requires { free ≤ most_locals + length self.old.code.items }
-        ensures { Gives (assigned_operand (view_starts starts.now) (view_lvalue target) (view_converted value.now) free) result self.old self.new (assignment_code (view_starts starts.now) (view_lvalue target) (view_converted value.now) (length self.old.code.items) free) }
+        ensures { Gives (assigned_operand (view_starts starts.now) (view_lvalue target) (view_converted value.now) free) result self.old self.new
+            (assignment_code (view_starts starts.now) (view_lvalue target) (view_converted value.now) (length self.old.code.items) free) }
     {
         match target {
             Lvalue::Local { number, .. } => {
@@ -475,7 +498,7 @@ impl Emitter {
         }
     }
 
-    /// The left operand of a chain, which may be without code where the right one is simple.
+    /// Emits the left operand of a chain, which may have no code if the right one is simple.
     #[cycle(expression)]
     fn lower_left(
         &mut self,
@@ -486,7 +509,9 @@ impl Emitter {
         free: usize,
     ) -> Result<Operand, AllocError>
         requires { free ≤ most_locals + length self.old.code.items }
-        ensures { Gives (operand_or (left_of (view_starts starts.now) (view_expression first.now) (operations_of rest.now)) (left_slot (view_starts starts.now) (view_expression first.now) (operations_of rest.now) slot free)) result self.old self.new (left_code (view_starts starts.now) (view_expression first.now) (operations_of rest.now) (length self.old.code.items) slot free) }
+        ensures { Gives (operand_or (left_of (view_starts starts.now) (view_expression first.now) (operations_of rest.now))
+            (left_slot (view_starts starts.now) (view_expression first.now) (operations_of rest.now) slot free)) result self.old self.new
+            (left_code (view_starts starts.now) (view_expression first.now) (operations_of rest.now) (length self.old.code.items) slot free) }
     {
         if takes_operand(starts, rest) {
             return self.lower_operand(starts, first, free);
@@ -496,7 +521,7 @@ impl Emitter {
         Ok(Operand::Slot { number: to })
     }
 
-    /// An expression whose value nobody wants.
+    /// Emits an expression whose value is not used.
     pub(crate) fn discard(
         &mut self,
         starts: &Starts,
@@ -528,7 +553,7 @@ impl Emitter {
         }
     }
 
-    /// A value that is to be in a slot: in that of a local where no words change, or in `free`.
+    /// Emits a value that must be in a slot: in that of a local if no words change, or in `free`.
     pub(crate) fn lower_to_slot(
         &mut self,
         starts: &Starts,
@@ -536,7 +561,8 @@ impl Emitter {
         free: usize,
     ) -> Result<usize, AllocError>
         requires { free ≤ most_locals + length self.old.code.items }
-        ensures { Gives (converted_slot (view_starts starts.now) (view_converted value.now) free) result self.old self.new (slot_code (view_starts starts.now) (view_converted value.now) (length self.old.code.items) free) }
+        ensures { Gives (converted_slot (view_starts starts.now) (view_converted value.now) free) result self.old self.new
+            (slot_code (view_starts starts.now) (view_converted value.now) (length self.old.code.items) free) }
     {
         if keeps_words(value.from, value.to) {
             if let Some(Operand::Slot { number }) = operand_of(starts, &value.value) {
@@ -547,7 +573,7 @@ impl Emitter {
         Ok(free)
     }
 
-    /// A value that is returned, converted, and its slot.
+    /// Emits a returned value and its conversion. Returns the slot of the returned value.
     pub(crate) fn convert_to_slot(
         &mut self,
         starts: &Starts,
@@ -555,7 +581,8 @@ impl Emitter {
         free: usize,
     ) -> Result<usize, AllocError>
         requires { free ≤ most_locals + length self.old.code.items }
-        ensures { Gives (converted_slot (view_starts starts.now) (view_converted value.now) free) result self.old self.new (converted_slot_code (view_starts starts.now) (view_converted value.now) (length self.old.code.items) free) }
+        ensures { Gives (converted_slot (view_starts starts.now) (view_converted value.now) free) result self.old self.new
+            (converted_slot_code (view_starts starts.now) (view_converted value.now) (length self.old.code.items) free) }
     {
         let slot = self.lower_to_slot(starts, value, free)?;
         self.convert(starts, value, Operand::Slot { number: slot })?;

@@ -1,4 +1,4 @@
-//! The plain functions of a typed tree, and the program that it becomes.
+//! The plain functions of a typed tree, and the whole plain program.
 ghost use Rattle.std.specs.Prelude.{◌≡◌, ◌+◌, ◌≤◌, length, map, option_map, IfOk};
 ghost use Rattle.std.specs.List.{list_any};
 ghost use Rattle.cyc_syntax.specs.TokenRule.{max_tokens};
@@ -8,40 +8,42 @@ ghost use Rattle.cyc_types.specs.typing.WellTyped.{IsWellTypedProgram};
 ghost use Rattle.cyc_types.specs.Weight.{program_weight};
 ghost use Rattle.cyc_plain.specs.inside.Program.{routine_of};
 ghost use Rattle.cyc_meaning.specs.FrameCount.{frame_count, kept_by_items};
-ghost use Rattle.cyc_lower.specs.inside.ControlCode.{outside_loops};
-ghost use Rattle.cyc_lower.specs.inside.Lowering.{items_code, blocks_kept, results_of, lower_function, lower_program, is_handle, may_open, scopes_if};
-ghost use Rattle.cyc_frame_count.specs.inside.Needs.{most_frame_count};
-ghost use Rattle.cyc_lower.specs.inside.Emission.{most_locals, view_starts, HaveFewWords, IsClose, AreClose};
-ghost use Rattle.cyc_lower.specs.inside.Lowered.{CanBeLowered};
+ghost use Rattle.cyc_lower_proof.specs.inside.ControlCode.{outside_loops};
+ghost use Rattle.cyc_lower_proof.specs.inside.Lowering.{items_code, blocks_kept, results_of, lower_function, lower_program, is_handle, may_open, scopes_if};
+ghost use Rattle.cyc_sizes.specs.inside.Needs.{most_frame_count};
+ghost use Rattle.cyc_lower_proof.specs.inside.Bounds.{HaveFewWords, IsClose, AreClose};
+ghost use Rattle.cyc_lower.specs.inside.Emission.{most_locals, view_starts};
+ghost use Rattle.cyc_lower_proof.specs.inside.Lowered.{CanBeLowered};
 
 use crate::emitter::Emitter;
-use crate::exits::{Exits, nothing_opened};
+use crate::exits::nothing_opened;
 use crate::globals::{starts_of_globals, words_of_globals};
 use crate::locals::slots_of_locals;
 use crate::marks::Marks;
 use crate::starts::Starts;
-use cyc_frame_count::{frame_count, words_of, words_of_all};
+use cyc_lower_proof::Exits;
 use cyc_plain::{Function, Instruction, Plain, RECORD_WORDS};
+use cyc_sizes::{frame_count, words_of, words_of_all};
 use cyc_types::typed::{self, StructType};
 use cyc_types::{Ty, TypedTree};
 use std::alloc::{AllocError, Global};
 
-/// The words of the largest value.
+/// The number of words of the largest value.
 const SPARE_SLOTS: usize = 3;
 
-/// The slot behind the locals.
+/// The number of slots for tags, after the locals.
 const TAG_SLOTS: usize = 1;
 
-/// The words that a frame count has beside those of locals, of what is kept and of temporaries.
+/// The words of a frame besides those of locals, of kept values and of temporaries.
 const KEPT_WORDS: usize = 24;
 
-/// No code is so long that it, or the blocks behind it, stand here.
+/// A place beyond the end of any code and of the blocks after it.
 const FAR: usize = 9_223_372_036_854_775_816;
 
-/// The instructions of the blocks that raise exceptions.
+/// The number of instructions of the blocks that raise exceptions.
 const BLOCKS: usize = 6;
 
-/// The words that a function returns.
+/// Returns the number of words that a function returns.
 fn results_of(of_type: &Option<Ty>) -> usize
     ensures { result ≡ results_of (option_map view_ty of_type.now) }
 {
@@ -51,14 +53,14 @@ fn results_of(of_type: &Option<Ty>) -> usize
     }
 }
 
-/// How many of them stand where something leads so far: the first two are one block.
+/// Returns how many instructions of the blocks are kept, given the farthest target: the first two belong to one block.
 fn blocks_kept(farthest: usize) -> usize
     ensures { result ≡ blocks_kept farthest }
 {
     if farthest == 1 { 2 } else { farthest }
 }
 
-/// The code of a function's body, with temporaries from a slot on, and its marks if they are asked for.
+/// Emits the code of the body of a function, with temporaries from a slot on, and its marks if requested.
 fn lower_body(
     alloc: Global,
     starts: &Starts,
@@ -80,9 +82,10 @@ fn lower_body(
     Ok(emitter)
 }
 
-/// A function. Its slots are its locals, and behind them the one for tags, the records of handlers, the temporaries and one value more. Its
-/// body's code is made with the blocks far away, since where they stand is known once it is made; then what leads there leads to them. Of
-/// the blocks stand those up to the last that something leads to.
+/// Lowers a function.
+/// The slots of a function are the locals, the slot for tags, the handler records, the temporaries and one value more. The body is emitted
+/// with far targets for the blocks, whose places are known only afterwards. The far targets in the emitted body are replaced afterwards.
+/// The blocks are kept up to the last one that a jump leads to.
 fn lower_function(
     alloc: Global,
     structs: &[StructType],
@@ -133,7 +136,8 @@ fn lower_functions(
 ) -> Result<Vec<Function>, AllocError>
     requires few { HaveFewWords (map view_function functions.now) }
     requires close { AreClose (map view_struct structs.now) globals.now scopes (map view_function functions.now) }
-    ensures { IfOk result (λ fs. map routine_of fs.items ≡ map (lower_function (map view_struct structs.now) globals.now scopes) (map view_function functions.now)) }
+    ensures { IfOk result (λ fs. map routine_of fs.items
+        ≡ map (lower_function (map view_struct structs.now) globals.now scopes) (map view_function functions.now)) }
 {
     let mut lowered = Vec::new(alloc);
     for function in functions {
@@ -142,7 +146,7 @@ fn lower_functions(
     Ok(lowered)
 }
 
-/// Whether a function has a local that is a handle, as the one of each region that it opens.
+/// Returns true if a function has a local that is a handle, as each region that it opens needs one.
 fn has_handles(types: &[Ty]) -> bool
     ensures { result ≡ list_any is_handle (map view_ty types.now) }
 {
@@ -154,7 +158,7 @@ fn has_handles(types: &[Ty]) -> bool
     false
 }
 
-/// Whether any of these functions may open a lexical region.
+/// Returns true if any of these functions may open a lexical region.
 fn may_open(functions: &[typed::Function]) -> bool
     ensures { result ≡ list_any may_open (map view_function functions.now) }
 {
@@ -166,8 +170,8 @@ fn may_open(functions: &[typed::Function]) -> bool
     false
 }
 
-/// How many words behind the first of its handler's record a `try` keeps how many lexical regions are open, where one of these functions may
-/// open some.
+/// Returns the offset in a handler record at which a `try` keeps the number of open lexical regions, if one of these functions may open
+/// regions.
 fn scopes_of(functions: &[typed::Function]) -> Option<usize>
     ensures { result ≡ scopes_if (list_any may_open (map view_function functions.now)) }
 {
@@ -178,7 +182,7 @@ fn scopes_of(functions: &[typed::Function]) -> Option<usize>
     }
 }
 
-/// The program, in which each function keeps its number.
+/// Returns the plain program, in which each function keeps its number.
 pub(crate) fn lower_tree(alloc: Global, tree: &TypedTree) -> Result<Plain, AllocError>
     requires few { HaveFewWords (map view_function tree.now.functions.items) }
     requires well_typed { IsWellTypedProgram (view_program tree.now) }
@@ -193,7 +197,7 @@ pub(crate) fn lower_tree(alloc: Global, tree: &TypedTree) -> Result<Plain, Alloc
     Ok(Plain::new(functions, globals, tree.main))
 }
 
-/// Where the code of a function comes from, by its body's code with the blocks at any place: that its jumps lead elsewhere changes no mark.
+/// Returns the places of the text for the code of a function. The blocks may be at any place, since changing targets changes no mark.
 fn marks_of_function(
     alloc: Global,
     structs: &[StructType],
@@ -223,7 +227,7 @@ fn marks_of_function(
     })
 }
 
-/// Where the code of each function of a program comes from.
+/// Returns the places of the text for the code of each function of a program.
 pub(crate) fn marks_of_tree(alloc: Global, tree: &TypedTree) -> Result<Vec<Marks>, AllocError>
     requires few { HaveFewWords (map view_function tree.now.functions.items) }
     requires can_be { CanBeLowered (view_program tree.now) }

@@ -1,22 +1,22 @@
-//! Globals. Each has as many words as its type, one behind the other, in the order of their numbers.
+//! Globals: each has as many words as its type, one after the other, in the order of their numbers.
 ghost use Rattle.std.specs.Prelude.{◌≡◌, ◌≤◌, ◌++◌, map, IfOk};
 ghost use Rattle.cyc_types.specs.TypedTreeView.{view_constant, view_global};
 ghost use Rattle.cyc_meaning.specs.FrameCount.{words_of_all};
 ghost use Rattle.cyc_plain.specs.declared.limits.TheConstants.{MOST_GLOBALS};
-ghost use Rattle.cyc_lower.specs.inside.Slots.{global_of, global_types, starts_from};
-ghost use Rattle.cyc_lower.specs.inside.ValueCode.{global_code, load_word, store_word, word_by_word};
-ghost use Rattle.cyc_lower.specs.inside.Lowering.{initial_word, lower_global, lower_globals};
+ghost use Rattle.cyc_lower_proof.specs.inside.Slots.{global_of, global_types, starts_from};
+ghost use Rattle.cyc_lower_proof.specs.inside.ValueCode.{global_code, load_word, store_word, word_by_word};
+ghost use Rattle.cyc_lower_proof.specs.inside.Lowering.{initial_word, lower_global, lower_globals};
 ghost use Rattle.cyc_lower.specs.inside.Emission.{Appends, view_starts};
 
 use crate::emitter::Emitter;
 use crate::operands::MOST_SLOTS;
 use crate::starts::Starts;
-use cyc_frame_count::words_of;
 use cyc_plain::{Instruction, Operand};
+use cyc_sizes::words_of;
 use cyc_types::typed::{self, Constant};
 use std::alloc::{AllocError, Global};
 
-/// The first word of the global of this number.
+/// Returns the first word of the global with this number.
 pub(crate) fn global_of(starts: &Starts, number: usize) -> usize
     ensures { result ≡ global_of (view_starts starts.now) number }
 {
@@ -26,7 +26,7 @@ pub(crate) fn global_of(starts: &Starts, number: usize) -> usize
     }
 }
 
-/// The first words of all globals.
+/// Returns the first words of all globals.
 pub(crate) fn starts_of_globals(
     alloc: Global,
     globals: &[typed::Global],
@@ -43,7 +43,7 @@ pub(crate) fn starts_of_globals(
     Ok(starts)
 }
 
-/// The first word that a global holds at the start.
+/// Returns the first word of the initial value of a global.
 fn initial_word(value: Constant) -> u32
     ensures { result ≡ initial_word (view_constant value) }
 {
@@ -53,7 +53,7 @@ fn initial_word(value: Constant) -> u32
     }
 }
 
-/// The words of one global more: that of a number or null, and 0 behind it.
+/// Adds the initial words of a global: a number or null, followed by zeros.
 fn add_global(words: &mut Vec<u32>, global: &typed::Global) -> Result<(), AllocError>
     ensures { IfOk result (λ _. words.new.items ≡ words.old.items ++ lower_global (view_global global.now)) }
 {
@@ -66,7 +66,7 @@ fn add_global(words: &mut Vec<u32>, global: &typed::Global) -> Result<(), AllocE
     Ok(())
 }
 
-/// What the words of all globals hold at the start.
+/// Returns the initial words of all globals.
 pub(crate) fn words_of_globals(
     alloc: Global,
     globals: &[typed::Global],
@@ -81,8 +81,7 @@ pub(crate) fn words_of_globals(
 }
 
 impl Emitter {
-    /// So many words of globals come to slots. No value has so many words, and no frame so many slots, that a word does not count
-    /// them.
+    /// Emits the load of words of globals into slots. No value has more words, and no frame more slots, than a word can count.
     pub(crate) fn load_global(
         &mut self,
         words: usize,
@@ -103,7 +102,7 @@ impl Emitter {
         Ok(())
     }
 
-    /// So many words, which stand in slots from one on, come to globals.
+    /// Emits the store of words, which are in consecutive slots, in globals.
     fn save_words(&mut self, words: usize, first: usize, slot: usize) -> Result<(), AllocError>
         ensures { Appends result self.old self.new (word_by_word store_word words first slot) }
     {
@@ -121,7 +120,7 @@ impl Emitter {
         Ok(())
     }
 
-    /// A value of so many words comes to a global. A number has one word: no value of more is an operand without slots.
+    /// Emits the store of a value in a global. A number has one word, since no value with more words is an operand without slots.
     pub(crate) fn store_global(
         &mut self,
         words: usize,

@@ -1,23 +1,23 @@
-//! The code of exceptions: a throw, and the clauses of a `try`. Each method adds its code behind what there is.
+//! The code of exceptions: throws, and the clauses of a `try`. Each method of this file adds code after the existing code.
 ghost use Rattle.std.specs.Prelude.{◌≡◌, ◌+◌, ◌≤◌, ◌<◌, [], ◌∷◌, ◌++◌, length, set, option_map, IfOk, OnOk};
 ghost use Rattle.cyc_types.specs.TypedTrees.{NoClauses};
 ghost use Rattle.cyc_types.specs.TypedTreeView.{view_expression, items_of, clauses_of, default_of};
 ghost use Rattle.cyc_meaning.specs.FrameCount.{kept_by_items, kept_by_clauses};
-ghost use Rattle.cyc_lower.specs.inside.ControlCode.{other_jump, goes_on};
-ghost use Rattle.cyc_lower.specs.inside.Lowering.{clauses_code, caught_code};
+ghost use Rattle.cyc_lower_proof.specs.inside.ControlCode.{other_jump, goes_on};
+ghost use Rattle.cyc_lower_proof.specs.inside.Lowering.{clauses_code, caught_code};
 ghost use Rattle.cyc_lower.specs.inside.Emission.{Appends, most_locals, throw_code, case_code, BeginClauses, view_starts};
 
 use crate::emitter::Emitter;
-use crate::exits::Exits;
 use crate::locals::slot_of;
 use crate::operators::{goes_on, other_jump, tag_operand};
 use crate::starts::Starts;
+use cyc_lower_proof::Exits;
 use cyc_plain::{Instruction, Operand};
 use cyc_types::typed::{Body, Clause, Expr};
 use std::alloc::AllocError;
 
 impl Emitter {
-    /// An exception with what it tells, which is 0 where it has no int.
+    /// Emits the throw of an exception with its value, which is 0 if it has no int.
     pub(crate) fn lower_throw(
         &mut self,
         starts: &Starts,
@@ -26,7 +26,8 @@ impl Emitter {
         free: usize,
     ) -> Result<(), AllocError>
         requires { free ≤ most_locals + length self.old.code.items }
-        ensures { Appends result self.old self.new (throw_code (view_starts starts.now) tag (option_map view_expression value.now) (length self.old.code.items) free) }
+        ensures { Appends result self.old self.new (throw_code (view_starts starts.now) tag (option_map view_expression value.now)
+            (length self.old.code.items) free) }
     {
         let value = match value {
             Some(value) => self.lower_operand(starts, value, free)?,
@@ -38,7 +39,7 @@ impl Emitter {
         })
     }
 
-    /// The local of a clause gets what the exception tells.
+    /// Emits the move of the value of an exception to the local of a clause.
     fn lower_caught(
         &mut self,
         starts: &Starts,
@@ -57,7 +58,7 @@ impl Emitter {
         })
     }
 
-    /// A clause. The jump behind it leads to that over all clauses.
+    /// Emits a clause. The jump at its end leads to the jump over all clauses.
     #[cycle(statement)]
     fn lower_clause(
         &mut self,
@@ -69,7 +70,8 @@ impl Emitter {
     ) -> Result<(), AllocError>
         requires slots { free + kept_by_items (items_of clause.now.items.items) ≤ most_locals }
         requires begun { exits.head ≤ length self.old.code.items }
-        ensures { Appends result self.old self.new (case_code (view_starts starts.now) clause.now.tag clause.now.number (items_of clause.now.items.items) (length self.old.code.items) out exits free) }
+        ensures { Appends result self.old self.new (case_code (view_starts starts.now) clause.now.tag clause.now.number
+            (items_of clause.now.items.items) (length self.old.code.items) out exits free) }
     {
         let over = self.reserve()?;
         self.lower_caught(starts, clause.number, free)?;
@@ -80,7 +82,7 @@ impl Emitter {
         Ok(())
     }
 
-    /// The clauses of a `try` but its default, whichever that is.
+    /// Emits the clauses of a `try` before its default.
     #[cycle(statement)]
     pub(crate) fn lower_clauses(
         &mut self,
@@ -100,7 +102,7 @@ impl Emitter {
         Ok(())
     }
 
-    /// The default of a `try`. Where there is none, an exception that no clause catches goes on.
+    /// Emits the default of a `try`. Without a default, an exception that no clause catches is thrown again.
     #[cycle(statement)]
     pub(crate) fn lower_default(
         &mut self,
@@ -119,10 +121,13 @@ impl Emitter {
         }
     }
 
-    /// The body of a `try` is done: its handler is closed, and its clauses are jumped over. At the place that was kept comes the opening.
+    /// Emits the end of the body of a `try`: it closes the handler and jumps over the clauses. Puts the instruction that opens the handler
+    /// at the reserved place.
     pub(crate) fn end_body(&mut self, opening: usize, free: usize) -> Result<usize, AllocError>
         requires { opening < length self.old.code.items }
-        ensures { IfOk result (λ out. (out ≡ length self.old.code.items + 1) × (self.new.code.items ≡ set (self.old.code.items ++ Instruction.Leave free ∷ Instruction.Jump 0 ∷ []) opening (Instruction.Try free (length self.old.code.items + 2)))) }
+        ensures { IfOk result (λ out. (out ≡ length self.old.code.items + 1)
+            × (self.new.code.items ≡ set (self.old.code.items ++ Instruction.Leave free ∷ Instruction.Jump 0 ∷ []) opening
+            (Instruction.Try free (length self.old.code.items + 2)))) }
     {
         self.emit(Instruction::Leave { first: free })?;
         let out = self.reserve()?;

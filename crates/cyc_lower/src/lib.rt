@@ -1,4 +1,4 @@
-//! The lowering: the plain program of a typed tree.
+//! The lowering of a typed tree to a plain program.
 #![tactic(auto)]
 
 pub use limits::MOST_FUNCTIONS;
@@ -17,7 +17,6 @@ mod expressions;
 mod functions;
 mod globals;
 mod handlers;
-pub mod laws;
 mod limits;
 mod locals;
 mod loops;

@@ -1,4 +1,4 @@
-//! How large a program may be.
+//! The limits on the size of a program.
 
-/// A program has at most so many functions.
+/// The greatest number of functions of a program.
 pub const MOST_FUNCTIONS: usize = 4096;

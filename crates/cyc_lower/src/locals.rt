@@ -1,4 +1,4 @@
-//! The slots of a function's locals, by their types.
+//! The slots of the locals of a function, by their types.
 ghost use Rattle.std.specs.Prelude.{◌≡◌, ◌+◌, ◌≤◌, ◌++◌, [], ◌∷◌, map, IfOk};
 ghost use Rattle.cyc_types.specs.Types.{words_of};
 ghost use Rattle.cyc_types.specs.TypeView.{view_ty};
@@ -6,19 +6,19 @@ ghost use Rattle.cyc_types.specs.TypedTreeView.{view_function};
 ghost use Rattle.cyc_words.specs.Word.{add_of};
 ghost use Rattle.cyc_meaning.specs.Values.{kind_of, bytes_of_kind};
 ghost use Rattle.cyc_meaning.specs.FrameCount.{words_of_all, frame_count};
-ghost use Rattle.cyc_lower.specs.inside.Slots.{starts_from, begins_word, field_from, field_of, slot_of, counter_of};
-ghost use Rattle.cyc_lower.specs.inside.ValueCode.{slot_types, tag_slot, first_temporary};
-ghost use Rattle.cyc_frame_count.specs.inside.Needs.{most_frame_count};
+ghost use Rattle.cyc_lower_proof.specs.inside.Slots.{starts_from, begins_word, field_from, field_of, slot_of, counter_of};
+ghost use Rattle.cyc_lower_proof.specs.inside.ValueCode.{slot_types, tag_slot, first_temporary};
+ghost use Rattle.cyc_sizes.specs.inside.Needs.{most_frame_count};
 ghost use Rattle.cyc_lower.specs.inside.Emission.{view_starts};
 
 use crate::operands::{bytes_of_kind, kind_of};
 use crate::starts::Starts;
-use cyc_frame_count::words_of;
+use cyc_sizes::words_of;
 use cyc_types::Ty;
 use cyc_types::typed::{Function, Kind};
 use std::alloc::{AllocError, Global};
 
-/// The first slot of the local of this number.
+/// Returns the first slot of the local with this number.
 pub(crate) fn slot_of(starts: &Starts, number: usize) -> usize
     ensures { result ≡ slot_of (view_starts starts.now) number }
 {
@@ -28,7 +28,7 @@ pub(crate) fn slot_of(starts: &Starts, number: usize) -> usize
     }
 }
 
-/// The slot of the counter of this level.
+/// Returns the slot of the counter at this level.
 pub(crate) fn counter_of(starts: &Starts, level: usize) -> usize
     ensures { result ≡ counter_of (view_starts starts.now) level }
 {
@@ -38,7 +38,7 @@ pub(crate) fn counter_of(starts: &Starts, level: usize) -> usize
     }
 }
 
-/// The slots of the counters for the elements of an array, whose own counter has this slot.
+/// Returns the slots of the counters for the elements of an array, whose own counter is in this slot.
 pub(crate) fn with_counter(starts: &Starts, slot: usize) -> Result<Vec<usize>, AllocError>
     ensures { IfOk result (λ counters. counters.items ≡ starts.now.counters.now ++ slot ∷ []) }
 {
@@ -48,7 +48,8 @@ pub(crate) fn with_counter(starts: &Starts, slot: usize) -> Result<Vec<usize>, A
     Ok(counters)
 }
 
-/// Where a cell of a kind begins, behind so many bytes: a char at once, any other at the next multiple of 4.
+/// Returns the offset of a cell of a kind that comes after this number of bytes. A char begins at once, any other cell at the next multiple
+/// of 4.
 pub(crate) fn begins_word(kind: Kind, at: u32) -> u32
     ensures { result ≡ begins_word kind at }
 {
@@ -59,21 +60,21 @@ pub(crate) fn begins_word(kind: Kind, at: u32) -> u32
     }
 }
 
-/// The same of a cell of a type.
+/// Returns the offset of a cell of a type that comes after this number of bytes.
 fn begins_at(of_type: &Ty, at: u32) -> u32
     ensures { result ≡ begins_word (kind_of (view_ty of_type.now)) at }
 {
     begins_word(kind_of(of_type), at)
 }
 
-/// Where a cell of a type ends that begins there.
+/// Returns the end of a cell of a type that begins at this offset.
 fn ends_at(of_type: &Ty, begin: u32) -> u32
     ensures { result ≡ add_of begin (bytes_of_kind (kind_of (view_ty of_type.now))) }
 {
     begin.wrapping_add(bytes_of_kind(kind_of(of_type)) as u32)
 }
 
-/// How many bytes the field of this number is behind its struct.
+/// Returns the number of bytes from the beginning of a struct to the field with this number.
 fn bytes_before(fields: &[Ty], field: usize) -> u32
     ensures { result ≡ field_from 0 (map view_ty fields.now) field }
 {
@@ -90,7 +91,7 @@ fn bytes_before(fields: &[Ty], field: usize) -> u32
     bytes
 }
 
-/// The same by the number of the struct.
+/// Returns the number of bytes from the beginning of the struct with this number to its field.
 pub(crate) fn field_of(starts: &Starts, number: usize, field: usize) -> u32
     ensures { result ≡ field_of (view_starts starts.now) number field }
 {
@@ -100,10 +101,12 @@ pub(crate) fn field_of(starts: &Starts, number: usize, field: usize) -> u32
     }
 }
 
-/// Parameters or other locals get as many slots as their types have words, from a slot on. The slot behind them is answered.
+/// Adds the first slots of parameters or other locals, each with as many slots as its type has words. Returns the slot after all added
+/// locals.
 fn add_locals(starts: &mut Vec<usize>, first: usize, types: &[Ty]) -> Result<usize, AllocError>
     requires { first + words_of_all (map view_ty types.now) ≤ most_frame_count }
-    ensures { IfOk result (λ behind. (behind ≡ first + words_of_all (map view_ty types.now)) × (starts.new.items ≡ starts.old.items ++ starts_from first (map view_ty types.now))) }
+    ensures { IfOk result (λ following. (following ≡ first + words_of_all (map view_ty types.now))
+        × (starts.new.items ≡ starts.old.items ++ starts_from first (map view_ty types.now))) }
 {
     let mut slot = first;
     for of_type in types {
@@ -113,16 +116,17 @@ fn add_locals(starts: &mut Vec<usize>, first: usize, types: &[Ty]) -> Result<usi
     Ok(slot)
 }
 
-/// The first slots of a function's locals, the one behind them, and the first one for temporaries.
+/// Returns the first slots of the locals of a function, the slot after them, and the first slot for temporaries.
 pub(crate) fn slots_of_locals(
     alloc: Global,
     function: &Function,
 ) -> Result<(Vec<usize>, usize, usize), AllocError>
     requires { frame_count (view_function function.now) ≤ most_frame_count }
-    ensures { IfOk result (λ slots. (slots.0.items ≡ starts_from 0 (slot_types (view_function function.now))) × (slots.1 ≡ tag_slot (view_function function.now)) × (slots.2 ≡ first_temporary (view_function function.now))) }
+    ensures { IfOk result (λ slots. (slots.0.items ≡ starts_from 0 (slot_types (view_function function.now)))
+        × (slots.1 ≡ tag_slot (view_function function.now)) × (slots.2 ≡ first_temporary (view_function function.now))) }
 {
     let mut starts = Vec::new(alloc);
-    let behind = add_locals(&mut starts, 0, &function.parameters)?;
-    let end = add_locals(&mut starts, behind, &function.locals)?;
+    let following = add_locals(&mut starts, 0, &function.parameters)?;
+    let end = add_locals(&mut starts, following, &function.locals)?;
     Ok((starts, end, end + 1))
 }

@@ -1,22 +1,22 @@
-//! The code of loops. A condition with little code stands in front of its loop too, so that nothing goes to the one behind the body
-//! from afar.
+//! The code of loops. A light condition is also emitted before its loop, so that no jump leads from afar to the condition after the body.
 ghost use Rattle.std.specs.Prelude.{◌≡◌, ◌≤◌, ◌<◌, ◌+◌, length};
 ghost use Rattle.cyc_types.specs.TypedTreeView.{view_expression, view_statement};
 ghost use Rattle.cyc_meaning.specs.FrameCount.{kept_by};
-ghost use Rattle.cyc_lower.specs.inside.Lowering.{goes_through};
+ghost use Rattle.cyc_lower_proof.specs.inside.Lowering.{goes_through};
 ghost use Rattle.cyc_lower.specs.inside.Emission.{Appends, most_locals, view_starts, begun_loop, entered_loop, loop_code, through_loop};
 
 use crate::breaks::breaks;
 use crate::emitter::Emitter;
-use crate::exits::{Exits, nothing_opened};
+use crate::exits::nothing_opened;
 use crate::operands::is_guard;
 use crate::operators::holding_jump;
 use crate::starts::Starts;
+use cyc_lower_proof::Exits;
 use cyc_plain::Instruction;
 use cyc_types::typed::{Expr, LogicalOperator, Stmt};
 use std::alloc::AllocError;
 
-/// Whether a loop has a condition with little code, and no `break`.
+/// Returns true if a loop has a light condition and no `break`.
 pub(crate) fn goes_through(starts: &Starts, condition: &Expr, body: &Stmt) -> bool
     ensures { result ≡ goes_through (view_starts starts.now) (view_expression condition.now) (view_statement body.now) }
 {
@@ -24,8 +24,8 @@ pub(crate) fn goes_through(starts: &Starts, condition: &Expr, body: &Stmt) -> bo
 }
 
 impl Emitter {
-    /// What leads into a loop: its condition, and a jump over the next instruction where it holds. If that may have much code, it is a
-    /// jump whose target is not yet known.
+    /// Emits the entry into a loop: its condition, and a jump over the next instruction if it holds. For a condition that may have much
+    /// code, the entry is a jump whose target is not yet known.
     fn begin_loop(
         &mut self,
         starts: &Starts,
@@ -43,7 +43,7 @@ impl Emitter {
         self.emit(holding_jump(condition, body))
     }
 
-    /// Behind the body of the loop that begins at this place stands its condition.
+    /// Sets the target of the entry of the loop that begins at this place: its condition is the next instruction.
     fn enter_loop(&mut self, starts: &Starts, condition: &Expr, head: usize)
         requires { head < length self.old.code.items }
         ensures { self.new.code.items ≡ entered_loop (view_starts starts.now) (view_expression condition.now) self.old.code.items head }
@@ -53,7 +53,7 @@ impl Emitter {
         }
     }
 
-    /// A loop whose condition has little code, and which has no `break`: its condition in front leads to its end where it fails.
+    /// Emits a loop with a light condition and no `break`: the first copy of its condition leads to its end if it fails.
     #[cycle(statement)]
     pub(crate) fn lower_through(
         &mut self,
@@ -64,7 +64,8 @@ impl Emitter {
         free: usize,
     ) -> Result<(), AllocError>
         requires { free + kept_by (view_statement body.now) ≤ most_locals }
-        ensures { Appends result self.old self.new (through_loop (view_starts starts.now) (view_expression condition.now) (view_statement body.now) (length self.old.code.items) exits free) }
+        ensures { Appends result self.old self.new (through_loop (view_starts starts.now) (view_expression condition.now) (view_statement body.now)
+            (length self.old.code.items) exits free) }
     {
         let head = self.place();
         let first = self.lower_choice(starts, LogicalOperator::OrElse, condition, free)?;
@@ -84,7 +85,8 @@ impl Emitter {
         self.emit(Instruction::Jump { target: end })
     }
 
-    /// Any other loop. The jump to its end stands before its body, so that its place is known before the body's code is made.
+    /// Emits a loop that has none of the special forms in this file. The jump to its end is before its body, so its place is known before
+    /// the body is emitted.
     #[cycle(statement)]
     pub(crate) fn lower_loop(
         &mut self,
@@ -95,7 +97,8 @@ impl Emitter {
         free: usize,
     ) -> Result<(), AllocError>
         requires { free + kept_by (view_statement body.now) ≤ most_locals }
-        ensures { Appends result self.old self.new (loop_code (view_starts starts.now) (view_expression condition.now) (view_statement body.now) (length self.old.code.items) exits free) }
+        ensures { Appends result self.old self.new (loop_code (view_starts starts.now) (view_expression condition.now) (view_statement body.now)
+            (length self.old.code.items) exits free) }
     {
         let head = self.place();
         self.begin_loop(starts, condition, free)?;

@@ -1,20 +1,20 @@
-//! Which instructions are made from which part of the text.
+//! The parts of the text that the instructions are emitted for.
 ghost use Rattle.std.specs.Prelude.{◌≡◌, ◌≤◌, length, IfOk};
 ghost use Rattle.cyc_syntax.specs.TokenRule.{max_tokens};
 ghost use Rattle.cyc_types.specs.typing.WellTyped.{IsWellTypedProgram};
 ghost use Rattle.cyc_types.specs.TypedTreeView.{view_program};
 ghost use Rattle.cyc_types.specs.Weight.{program_weight};
-ghost use Rattle.cyc_lower.specs.inside.Lowered.{CanBeLowered};
+ghost use Rattle.cyc_lower_proof.specs.inside.Lowered.{CanBeLowered};
 
 use crate::functions::marks_of_tree;
-use cyc_flow::Flowed;
+use cyc_types::Flowed;
 use cyc_types::typed::{Dereference, Expr, Item, Lvalue, Operation, Stmt};
 use cyc_words::Span;
 use std::alloc::{AllocError, Global};
 
-/// The instructions of a function from one on, up to the next mark, are made from what stands at a place of the text: from a call, a
-/// `new`, an access by a pointer, an operator or a variable at just that place, or else from the statement or the declaration around it.
-/// What ends a body that runs off its end has the place of the function's name.
+/// The part of the text for the instructions of a function from this one up to the next mark. This part of the text is a call, a `new`, an
+/// access through a pointer, an operator or a variable at exactly this place. If no such expression is at this place, the part is the
+/// enclosing statement or declaration. The code for a body that runs off its end has the place of the name of the function.
 #[derive(Clone, Copy, Debug, PartialEq, Eq)]
 pub struct Mark {
     /// The number of the first instruction.
@@ -22,16 +22,16 @@ pub struct Mark {
     pub span: Span,
 }
 
-/// Where the code of a function comes from.
+/// The places of the text for the code of a function.
 #[derive(Drop)]
 pub struct Marks {
     pub marks: Vec<Mark>,
-    /// The number of the first instruction that raises an exception of the language for all checks of the function that it fails: from
-    /// there on none has a place of its own.
+    /// The number of the first instruction of the blocks that raise exceptions for all failing checks of the function. The instructions of
+    /// these blocks have no place of their own in the text.
     pub raises: usize,
 }
 
-/// Where the code of each function of a program comes from that `lower` makes of it.
+/// Returns the places of the text for the code of each function of the program that `lower` returns.
 pub fn marks_of(alloc: Global, program: &Flowed) -> Result<Vec<Marks>, AllocError>
     requires well_typed { IsWellTypedProgram (view_program program.now.tree) }
     requires small { program_weight (view_program program.now.tree) ≤ max_tokens }
@@ -41,7 +41,7 @@ pub fn marks_of(alloc: Global, program: &Flowed) -> Result<Vec<Marks>, AllocErro
     marks_of_tree(alloc, &program.tree)
 }
 
-/// The place of a variable, where its node has one.
+/// Returns the place of a variable, if its node has one.
 fn place_of_variable(variable: Lvalue) -> Option<Span> {
     match variable {
         Lvalue::Local { span, .. } => Some(span),
@@ -49,7 +49,7 @@ fn place_of_variable(variable: Lvalue) -> Option<Span> {
     }
 }
 
-/// The place of an access by a pointer.
+/// Returns the place of an access through a pointer.
 pub(crate) fn place_of_access(access: &Dereference) -> Span {
     match access {
         Dereference::Target { span, .. }
@@ -58,7 +58,7 @@ pub(crate) fn place_of_access(access: &Dereference) -> Span {
     }
 }
 
-/// The place of an expression, where its node has one.
+/// Returns the place of an expression, if its node has one.
 pub(crate) fn place_of_value(value: &Expr) -> Option<Span> {
     match value {
         Expr::Call { span, .. }
@@ -74,7 +74,7 @@ pub(crate) fn place_of_value(value: &Expr) -> Option<Span> {
     }
 }
 
-/// The place of an operator that computes: of two ints, that of the right one.
+/// Returns the place of an operator that computes; of two ints, the place of the right operand.
 pub(crate) fn place_of_operation(operation: &Operation) -> Option<Span> {
     match operation {
         Operation::Compute { span, .. } => Some(*span),
@@ -82,7 +82,7 @@ pub(crate) fn place_of_operation(operation: &Operation) -> Option<Span> {
     }
 }
 
-/// The place of a statement, where its node has one.
+/// Returns the place of a statement, if its node has one.
 pub(crate) fn place_of_statement(statement: &Stmt) -> Option<Span> {
     match statement {
         Stmt::Evaluate { span, .. }
@@ -96,7 +96,7 @@ pub(crate) fn place_of_statement(statement: &Stmt) -> Option<Span> {
     }
 }
 
-/// The place of what an item declares.
+/// Returns the place of the declaration in an item.
 pub(crate) fn place_of_item(item: &Item) -> Option<Span> {
     match item {
         Item::Execute { .. } => None,

@@ -1,24 +1,26 @@
-//! The code that makes objects and frees them, once their values stand in slots. No object has more words than a block of the store.
+//! The code that allocates and frees objects, once their values are in slots. No object has more words than a block of the store.
 ghost use Rattle.std.specs.Prelude.{◌≡◌, [], ◌∷◌, ◌+◌, ◌^◌, ◌<◌, ◌≤◌, length, IfOk};
 ghost use Rattle.cyc_types.specs.TypedTreeView.{arguments_of};
 ghost use Rattle.cyc_meaning.specs.Values.{words_of_kind, bytes_from};
-ghost use Rattle.cyc_lower.specs.inside.ValueCode.{kinds_passed};
-ghost use Rattle.cyc_lower.specs.inside.ObjectCode.{asked_code, begun_code, cells_code, free_code, last_element, measured_code, most_elements, object_code, restarted_code, sized_code, slots_of_kinds, stores_code, written_code};
+ghost use Rattle.cyc_lower_proof.specs.inside.ValueCode.{kinds_passed};
+ghost use Rattle.cyc_lower_proof.specs.inside.ObjectCode.{asked_code, begun_code, cells_code, free_code, last_element, measured_code, most_elements};
+ghost use Rattle.cyc_lower_proof.specs.inside.ObjectCode.{object_code, restarted_code, sized_code, slots_of_kinds, stores_code, written_code};
 ghost use Rattle.cyc_lower.specs.inside.Emission.{Appends, most_locals, view_starts};
 
 use crate::checks::ARRAY_SIZE;
 use crate::emitter::Emitter;
 use crate::locals::begins_word;
-use crate::operands::{Condition, bytes_of_kind, slot_behind};
+use crate::operands::{bytes_of_kind, slot_after};
 use crate::operators::{jump_if_zero, scale_of, store_of};
 use crate::starts::Starts;
-use cyc_frame_count::words_of_kind;
+use cyc_lower_proof::Condition;
 use cyc_plain::{BinaryOperator, Comparison, Instruction, Operand, Request, UnaryOperator};
+use cyc_sizes::words_of_kind;
 use cyc_store::MOST_BLOCK_WORDS;
 use cyc_types::typed::{Converted, Kind};
 use std::alloc::{AllocError, Global};
 
-/// An index is behind the last element of an array, by its length.
+/// Returns the condition that fails if an index is equal to the length of an array.
 pub(crate) fn last_element(words: usize, index: usize) -> Condition
     ensures { result ≡ last_element words index }
 {
@@ -29,7 +31,7 @@ pub(crate) fn last_element(words: usize, index: usize) -> Condition
     }
 }
 
-/// How many elements an array may have, of so many bytes each: those of a block.
+/// Returns the greatest number of elements of an array, each with this number of bytes: as many as a block has room for.
 fn most_elements(bytes: usize) -> u32
     ensures most { result ≡ most_elements bytes }
     ensures few { result ≤ 4000 }
@@ -44,7 +46,7 @@ fn most_elements(bytes: usize) -> u32
     }
 }
 
-/// The kinds that fields are passed with.
+/// Returns the kinds with which fields are passed.
 pub(crate) fn kinds_passed(alloc: Global, values: &[Converted]) -> Result<Vec<Kind>, AllocError>
     ensures { IfOk result (λ kinds. kinds.items ≡ kinds_passed (arguments_of values.now)) }
 {
@@ -55,7 +57,7 @@ pub(crate) fn kinds_passed(alloc: Global, values: &[Converted]) -> Result<Vec<Ki
     Ok(kinds)
 }
 
-/// The bytes of an object with cells of these kinds, up to the end of the last.
+/// Returns the number of bytes of an object with cells of these kinds, up to the end of the last one.
 fn bytes_of_kinds(kinds: &[Kind]) -> u32
     requires { bytes_from 0 kinds.now ≤ 4000 }
     ensures { result ≡ bytes_from 0 kinds.now }
@@ -68,7 +70,7 @@ fn bytes_of_kinds(kinds: &[Kind]) -> u32
 }
 
 impl Emitter {
-    /// An object with one cell, of a value of this kind, which stands in the slots from `free` on.
+    /// Emits the allocation of an object with one cell, for a value of this kind in the slots from `free` on.
     pub(crate) fn make_cell(
         &mut self,
         handle: Operand,
@@ -82,8 +84,9 @@ impl Emitter {
         self.make_object(handle, &[kind], words_of_kind(kind), slot, free)
     }
 
-    /// A block is asked for in the region of a handle, with a cell for each of these kinds, and gets the values, which stand in so many
-    /// slots from `free` on. Its address comes to a slot. No object has more words than a block.
+    /// Emits the allocation of a block in the region of a handle, with a cell for each of these kinds.
+    /// The block gets the values, which are in the slots from `free` on, and its address is moved to a slot. No object has more words than
+    /// a block.
     pub(crate) fn make_object(
         &mut self,
         handle: Operand,
@@ -115,7 +118,7 @@ impl Emitter {
         })
     }
 
-    /// Values of these kinds, which stand in the slots from one on, come to the cells of the object at an address.
+    /// Emits the stores of values of these kinds, in consecutive slots, to the cells of the object at an address.
     fn store_cells(
         &mut self,
         kinds: &[Kind],
@@ -137,7 +140,7 @@ impl Emitter {
         Ok(())
     }
 
-    /// The words of a value of a kind, which stand in the slots from one on, come to memory so many bytes behind an address.
+    /// Emits the store of a value of a kind, whose words are in consecutive slots, to memory at an address plus a number of bytes.
     pub(crate) fn store_cell(
         &mut self,
         kind: Kind,
@@ -163,8 +166,8 @@ impl Emitter {
         Ok(())
     }
 
-    /// The length of an array in `free` comes to a slot, and 0, as the index, to another. A length that is too large for elements
-    /// of this kind raises an exception.
+    /// Emits the move of the length of an array, in `free`, to one slot, and of the index 0 to another. A length that is too large for
+    /// elements of this kind raises an exception.
     fn measure_array(
         &mut self,
         starts: &Starts,
@@ -198,7 +201,7 @@ impl Emitter {
         self.emit_both(counted, begun)
     }
 
-    /// The number of words comes to the slot `free` that as many elements of a kind have as it counts. Of chars each word has four.
+    /// Emits the computation of the number of words of an array from its number of elements in the slot `free`. Four chars share a word.
     fn size_array(&mut self, kind: Kind, free: usize) -> Result<(), AllocError>
         ensures { Appends result self.old self.new (sized_code kind free) }
     {
@@ -231,8 +234,8 @@ impl Emitter {
         }
     }
 
-    /// A block is asked for of the words of as many elements as the slot `free` tells, or of one where that is 0. Its address
-    /// comes there.
+    /// Emits the allocation of a block for as many elements as the slot `free` holds, or for one if it is 0. The address of the block
+    /// replaces the number of elements in the slot.
     fn ask_for_array(
         &mut self,
         handle: Operand,
@@ -266,8 +269,8 @@ impl Emitter {
         self.emit_three(is_none, sum, ask)
     }
 
-    /// A new array of elements of this kind, whose length is in `free`. Its address comes there, and its length and the index to
-    /// the slots behind it.
+    /// Emits the beginning of a new array of elements of this kind, with its length in `free`. The address is moved to `free`, and the
+    /// length and the index to the slots after it.
     pub(crate) fn begin_array(
         &mut self,
         starts: &Starts,
@@ -277,13 +280,13 @@ impl Emitter {
     ) -> Result<(), AllocError>
         ensures { Appends result self.old self.new (begun_code (view_starts starts.now) handle kind free) }
     {
-        let behind = slot_behind(free, Kind::Fat)?;
-        self.measure_array(starts, kind, behind - 2, behind - 1, free)?;
-        self.ask_for_array(handle, kind, behind, free)
+        let following = slot_after(free, Kind::Fat)?;
+        self.measure_array(starts, kind, following - 2, following - 1, free)?;
+        self.ask_for_array(handle, kind, following, free)
     }
 
-    /// An element comes to its cell of an array, by an index, which goes to the next one. The address of the cell comes to the slot
-    /// behind the element.
+    /// Emits the store of an element in its cell of an array, and the step of the index to the next one. The address of the cell is in the
+    /// slot after the element.
     pub(crate) fn write_element(
         &mut self,
         kind: Kind,
@@ -294,7 +297,7 @@ impl Emitter {
     ) -> Result<(), AllocError>
         ensures { Appends result self.old self.new (written_code kind head index element (element + words_of_kind kind) free) }
     {
-        let address = slot_behind(element, kind)?;
+        let address = slot_after(element, kind)?;
         let number = Operand::Slot { number: index };
         let cell = Operand::Slot { number: address };
         let sum = Instruction::Binary {
@@ -314,7 +317,7 @@ impl Emitter {
         self.emit_both(next, Instruction::Jump { target: head })
     }
 
-    /// Behind the last element the index is 0, and the pointer comes to its slot.
+    /// Emits the end of an array: the index becomes 0, and the pointer is moved to its slot.
     pub(crate) fn end_array(
         &mut self,
         slot: usize,
@@ -330,14 +333,14 @@ impl Emitter {
         self.copy(Kind::Fat, Operand::Slot { number: free }, slot)
     }
 
-    /// The unique block at an address is freed, where that is not 0.
+    /// Emits the freeing of the unique block at an address, unless it is 0.
     pub(crate) fn free_block(&mut self, address: Operand) -> Result<(), AllocError>
         ensures { Appends result self.old self.new (free_code address (length self.old.code.items)) }
     {
-        let behind = self.place() + 2;
+        let following = self.place() + 2;
         let free = Instruction::Ask {
             request: Request::Free { address },
         };
-        self.emit_both(jump_if_zero(address, behind), free)
+        self.emit_both(jump_if_zero(address, following), free)
     }
 }

@@ -1,4 +1,4 @@
-//! Where the values of expressions stand.
+//! The places of the values of expressions.
 ghost use Rattle.std.specs.Prelude.{◌≡◌, ◌+◌, ◌≤◌, IfOk, option_map, unwrap_or};
 ghost use Rattle.cyc_types.specs.TypedTreeView.{view_dereference, view_expression, operations_of};
 ghost use Rattle.cyc_types.specs.Types.{Value};
@@ -6,16 +6,17 @@ ghost use Rattle.cyc_types.specs.TypedTrees.{type_of_place};
 ghost use Rattle.cyc_types.specs.TypeView.{view_ty, view_value_type};
 ghost use Rattle.cyc_meaning.specs.Parts.{target_of, target_of_value};
 ghost use Rattle.cyc_meaning.specs.Values.{is_thin, kind_of, words_of_kind, bytes_of_kind};
-ghost use Rattle.cyc_lower.specs.inside.ValueCode.{kind_behind, reached_operand, span_in, span_of, is_in, index_of, masks, keeps_words, converts_there, variable_bytes};
-ghost use Rattle.cyc_lower.specs.inside.ExpressionCode.{are_simple, is_simple, operand_of, pointer_of, value_slot};
-ghost use Rattle.cyc_lower.specs.inside.Lowering.{is_light_place, is_light, is_light_comparison, compares_light, is_guard};
+ghost use Rattle.cyc_lower_proof.specs.inside.ValueCode.{kind_after, reached_operand, span_in, span_of, is_in, index_of, masks, keeps_words};
+ghost use Rattle.cyc_lower_proof.specs.inside.ValueCode.{converts_there, variable_bytes};
+ghost use Rattle.cyc_lower_proof.specs.inside.ExpressionCode.{are_simple, is_simple, operand_of, pointer_of, value_slot};
+ghost use Rattle.cyc_lower_proof.specs.inside.Lowering.{is_light_place, is_light, is_light_comparison, compares_light, is_guard};
 ghost use Rattle.cyc_lower.specs.inside.Emission.{is_simple_chain, most_locals, takes_operand, view_starts};
 
 use crate::locals::slot_of;
 use crate::operators::failing_comparison;
 use crate::starts::Starts;
-use cyc_frame_count::words_of_kind;
-use cyc_plain::{Comparison, Operand};
+use cyc_plain::Operand;
+use cyc_sizes::words_of_kind;
 use cyc_store::HEAP;
 use cyc_syntax::PointerKind;
 use cyc_types::Ty;
@@ -24,19 +25,11 @@ use cyc_types::typed::{
 };
 use std::alloc::AllocError;
 
-/// A frame has fewer slots than this and a few.
+/// The greatest slot number that the lowering accepts.
 pub(crate) const MOST_SLOTS: usize = 4_294_967_000;
 
-/// A condition: it fails where this comparison of two operands holds.
-#[derive(Clone, Copy)]
-pub(crate) struct Condition {
-    pub(crate) failing: Comparison,
-    pub(crate) left: Operand,
-    pub(crate) right: Operand,
-}
-
-/// What an expression is without code: a number, null, the heap's handle, a local, or a counter; a char that serves as an int is what
-/// it was.
+/// Returns the operand of an expression without code: a number, null, the handle of the heap, a local, or a counter. A char that is used as
+/// an int keeps its operand.
 pub(crate) fn operand_of(starts: &Starts, value: &Expr) -> Option<Operand>
     ensures { result ≡ operand_of (view_starts starts.now) (view_expression value.now) }
 {
@@ -65,7 +58,7 @@ pub(crate) fn operand_of(starts: &Starts, value: &Expr) -> Option<Operand>
     }
 }
 
-/// The slot for the value of an expression that is an operand: an assigned local has it already.
+/// Returns the slot for the value of an expression that is an operand: the slot of an assigned local, or `free`.
 pub(crate) fn value_slot(starts: &Starts, value: &Expr, free: usize) -> usize
     ensures { result ≡ value_slot (view_starts starts.now) (view_expression value.now) free }
 {
@@ -82,7 +75,7 @@ pub(crate) fn value_slot(starts: &Starts, value: &Expr, free: usize) -> usize
     }
 }
 
-/// Whether operators are all on operands that have no code.
+/// Returns true if all operators have operands without code.
 fn are_simple(starts: &Starts, operations: &[Operation]) -> bool
     ensures { result ≡ are_simple (view_starts starts.now) (operations_of operations.now) }
 {
@@ -98,7 +91,7 @@ fn are_simple(starts: &Starts, operations: &[Operation]) -> bool
     true
 }
 
-/// Whether a chain of these operators is simple behind an operand that is.
+/// Returns true if a chain of these operators is simple after a simple operand.
 fn is_simple_chain(starts: &Starts, rest: &[Operation]) -> bool
     ensures { result ≡ is_simple_chain (view_starts starts.now) (operations_of rest.now) }
 {
@@ -108,8 +101,8 @@ fn is_simple_chain(starts: &Starts, rest: &[Operation]) -> bool
     }
 }
 
-/// Whether an expression changes nothing while it is evaluated: it has no code, or operators on operands that have none. The first operand
-/// of a chain may be such an expression in turn.
+/// Returns true if an expression is simple: its evaluation changes nothing. A simple expression has no code, or consists of operators on
+/// operands without code, and the first operand of a chain may itself be simple.
 pub(crate) fn is_simple(starts: &Starts, value: &Expr) -> bool
     ensures { result ≡ is_simple (view_starts starts.now) (view_expression value.now) }
 {
@@ -121,7 +114,7 @@ pub(crate) fn is_simple(starts: &Starts, value: &Expr) -> bool
     }
 }
 
-/// Whether a place has little code: that of an element by a pointer that has none, at an index that is simple.
+/// Returns true if a place is light: an element at a simple index, through a pointer without code.
 fn is_light_place(starts: &Starts, place: &Dereference) -> bool
     ensures { result ≡ is_light_place (view_starts starts.now) (view_dereference place.now) }
 {
@@ -132,7 +125,7 @@ fn is_light_place(starts: &Starts, place: &Dereference) -> bool
     }
 }
 
-/// Whether an expression has little code: it is simple, or loads by a pointer that has none, at an index that is simple.
+/// Returns true if an expression is light: it is simple, or a load at a simple index through a pointer without code.
 fn is_light(starts: &Starts, value: &Expr) -> bool
     ensures { result ≡ is_light (view_starts starts.now) (view_expression value.now) }
 {
@@ -146,14 +139,14 @@ fn is_light(starts: &Starts, value: &Expr) -> bool
     }
 }
 
-/// Whether an operator compares two expressions that have little code.
+/// Returns true if an operator compares two light expressions.
 fn is_light_comparison(starts: &Starts, operator: Operator, left: &Expr, right: &Expr) -> bool
     ensures { result ≡ is_light_comparison (view_starts starts.now) operator (view_expression left.now) (view_expression right.now) }
 {
     failing_comparison(operator).is_some() && is_light(starts, left) && is_light(starts, right)
 }
 
-/// Whether a chain is such a comparison.
+/// Returns true if a chain is a comparison that a branch can make.
 fn compares_light(starts: &Starts, first: &Expr, rest: &[Operation]) -> bool
     ensures { result ≡ compares_light (view_starts starts.now) (view_expression first.now) (operations_of rest.now) }
 {
@@ -172,7 +165,7 @@ fn compares_light(starts: &Starts, first: &Expr, rest: &[Operation]) -> bool
     }
 }
 
-/// Whether a condition has so little code that it may stand twice.
+/// Returns true if a condition is so light that it may be emitted twice.
 pub(crate) fn is_guard(starts: &Starts, condition: &Expr) -> bool
     ensures { result ≡ is_guard (view_starts starts.now) (view_expression condition.now) }
 {
@@ -187,7 +180,8 @@ pub(crate) fn is_guard(starts: &Starts, condition: &Expr) -> bool
     }
 }
 
-/// Where a fat pointer stands while its index is computed: in its local where the index is simple, so that nothing between assigns it.
+/// Returns the place of a fat pointer while its index is evaluated. The fat pointer's place is its local if the index is simple, since no
+/// code in between can assign the local.
 pub(crate) fn pointer_of(starts: &Starts, pointer: &Expr, index: &Expr) -> Option<Operand>
     ensures { result ≡ pointer_of (view_starts starts.now) (view_expression pointer.now) (view_expression index.now) }
 {
@@ -197,7 +191,7 @@ pub(crate) fn pointer_of(starts: &Starts, pointer: &Expr, index: &Expr) -> Optio
     None
 }
 
-/// Where the address of the cell stands that an access by a fat pointer has reached: that of a struct is its first word.
+/// Returns the operand of the address of the cell that an access through a fat pointer has found: for a struct, its first word.
 pub(crate) fn reached_operand(span: Option<usize>, first: usize, slot: usize) -> Operand
     ensures { result ≡ reached_operand span first slot }
 {
@@ -207,7 +201,7 @@ pub(crate) fn reached_operand(span: Option<usize>, first: usize, slot: usize) ->
     }
 }
 
-/// Whether the first of these operators has a simple operand on its right.
+/// Returns true if the first of these operators has a simple right operand.
 pub(crate) fn takes_operand(starts: &Starts, operations: &[Operation]) -> bool
     ensures { result ≡ takes_operand (view_starts starts.now) (operations_of operations.now) }
 {
@@ -217,7 +211,7 @@ pub(crate) fn takes_operand(starts: &Starts, operations: &[Operation]) -> bool
     }
 }
 
-/// Whether an int loses all but its low byte by a conversion.
+/// Returns true if a conversion keeps only the low byte of an int.
 pub(crate) fn masks(from: Kind, to: Kind) -> bool
     ensures { result ≡ masks from to }
 {
@@ -227,14 +221,14 @@ pub(crate) fn masks(from: Kind, to: Kind) -> bool
     }
 }
 
-/// Whether a value has the same words after a conversion as before it.
+/// Returns true if a conversion does not change the words of a value.
 pub(crate) fn keeps_words(from: Kind, to: Kind) -> bool
     ensures { result ≡ keeps_words from to }
 {
     words_of_kind(from) == words_of_kind(to) && !masks(from, to)
 }
 
-/// Whether a value may come to the slot where it is to be before it is converted.
+/// Returns true if a value may be moved to its destination before its conversion.
 pub(crate) fn converts_there(from: Kind, to: Kind) -> bool
     ensures { result ≡ converts_there from to }
 {
@@ -245,7 +239,7 @@ pub(crate) fn converts_there(from: Kind, to: Kind) -> bool
     }
 }
 
-/// Whether a pointer of a kind is thin.
+/// Returns true if a pointer of a kind is thin.
 pub(crate) fn is_thin(kind: Kind) -> bool
     ensures { result ≡ is_thin kind }
 {
@@ -255,7 +249,7 @@ pub(crate) fn is_thin(kind: Kind) -> bool
     }
 }
 
-/// What a cell of this type holds. No cell has a struct for its type.
+/// Returns the kind of a cell of this type. No cell has a struct type.
 pub(crate) fn kind_of(of_type: &Ty) -> Kind
     ensures { result ≡ kind_of (view_ty of_type.now) }
 {
@@ -272,7 +266,7 @@ pub(crate) fn kind_of(of_type: &Ty) -> Kind
     }
 }
 
-/// The bytes of a cell.
+/// Returns the number of bytes of a cell.
 pub(crate) fn bytes_of_kind(kind: Kind) -> usize
     ensures bytes { result ≡ bytes_of_kind kind }
     ensures few { result ≤ 12 }
@@ -284,7 +278,7 @@ pub(crate) fn bytes_of_kind(kind: Kind) -> usize
     }
 }
 
-/// How many bytes a cell of a type has, where it is none of structs.
+/// Returns the number of bytes of a cell of a type, unless the type is a struct.
 pub(crate) fn span_in(of_type: &Ty) -> Option<usize>
     ensures { result ≡ span_in (view_ty of_type.now) }
 {
@@ -299,8 +293,8 @@ pub(crate) fn span_in(of_type: &Ty) -> Option<usize>
     }
 }
 
-/// The same of the cells that a value of a type leads to, where it is a pointer.
-fn span_behind(of_type: &Ty) -> Option<usize>
+/// Returns the number of bytes of the cells that a pointer of a type leads to, unless they are structs.
+fn span_after(of_type: &Ty) -> Option<usize>
     ensures { result ≡ option_map bytes_of_kind (target_of_value (Value (view_ty of_type.now))) }
 {
     match of_type {
@@ -309,7 +303,7 @@ fn span_behind(of_type: &Ty) -> Option<usize>
     }
 }
 
-/// The kind of a variable of a type: an int, where it is a struct.
+/// Returns the kind of a variable of a type; for a struct, the kind of ints.
 fn kind_in(of_type: &Ty) -> Kind
     ensures { result ≡ unwrap_or (target_of (view_ty of_type.now)) Kind.Int }
 {
@@ -326,9 +320,9 @@ fn kind_in(of_type: &Ty) -> Kind
     }
 }
 
-/// The kind of a variable that a value of this type leads to.
-pub(crate) fn kind_behind(of_type: &Ty) -> Kind
-    ensures { result ≡ kind_behind (view_ty of_type.now) }
+/// Returns the kind of the variable that a value of this type points to.
+pub(crate) fn kind_after(of_type: &Ty) -> Kind
+    ensures { result ≡ kind_after (view_ty of_type.now) }
 {
     match of_type {
         Ty::Pointer { target, .. } => kind_in(target),
@@ -336,7 +330,7 @@ pub(crate) fn kind_behind(of_type: &Ty) -> Kind
     }
 }
 
-/// The kind of what is at a place that a pointer leads to.
+/// Returns the kind of the value at a place that a pointer leads to.
 pub(crate) fn kind_at(place: &Dereference) -> Kind
     ensures { result ≡ kind_of (type_of_place (view_dereference place.now)) }
 {
@@ -347,7 +341,7 @@ pub(crate) fn kind_at(place: &Dereference) -> Kind
     }
 }
 
-/// How many bytes of a variable's words stand before it: a char is the last byte of its word.
+/// Returns the number of bytes before a variable in its words: a char is the last byte of its word.
 pub(crate) fn variable_bytes(kind: Kind) -> u32
     ensures { result ≡ variable_bytes kind }
 {
@@ -357,28 +351,28 @@ pub(crate) fn variable_bytes(kind: Kind) -> u32
     }
 }
 
-/// Of what is at a place that a pointer leads to.
+/// Returns the number of bytes of a cell at a place that a pointer leads to, unless it is a struct.
 fn span_at(place: &Dereference) -> Option<usize>
     ensures { result ≡ option_map bytes_of_kind (target_of_value (Value (type_of_place (view_dereference place.now)))) }
 {
     match place {
         Dereference::Target { of_type, .. }
         | Dereference::Member { of_type, .. }
-        | Dereference::Element { of_type, .. } => span_behind(of_type),
+        | Dereference::Element { of_type, .. } => span_after(of_type),
     }
 }
 
-/// Of what an expression gives, which may be nothing.
+/// Returns the number of bytes of the cells that the pointer of an expression leads to, if it yields a pointer.
 fn span_given(of_type: &ValueType) -> Option<usize>
     ensures { result ≡ option_map bytes_of_kind (target_of_value (view_value_type of_type.now)) }
 {
     match of_type {
         ValueType::Void | ValueType::Null => None,
-        ValueType::Value { of_type } => span_behind(of_type),
+        ValueType::Value { of_type } => span_after(of_type),
     }
 }
 
-/// Of the value of an expression.
+/// Returns the number of bytes of the cells that the value of an expression points to.
 pub(crate) fn span_of(value: &Expr) -> Option<usize>
     ensures { result ≡ span_of (view_expression value.now) }
 {
@@ -389,7 +383,7 @@ pub(crate) fn span_of(value: &Expr) -> Option<usize>
         | Expr::AddressOf { of_type, .. }
         | Expr::AddressOfCell { of_type, .. }
         | Expr::Binary { of_type, .. }
-        | Expr::New { of_type, .. } => span_behind(of_type),
+        | Expr::New { of_type, .. } => span_after(of_type),
         Expr::Load { source } => span_at(source),
         Expr::Call { result, .. } | Expr::Assign { result, .. } | Expr::Store { result, .. } => {
             span_given(result)
@@ -405,9 +399,9 @@ pub(crate) fn span_of(value: &Expr) -> Option<usize>
     }
 }
 
-/// The slot behind a value of a kind. No frame has so many slots that a word does not count them.
-pub(crate) fn slot_behind(slot: usize, kind: Kind) -> Result<usize, AllocError>
-    ensures { IfOk result (λ behind. (behind ≡ slot + words_of_kind kind) × (behind ≤ most_locals)) }
+/// Returns the slot after a value of a kind. No frame has more slots than a word can count.
+pub(crate) fn slot_after(slot: usize, kind: Kind) -> Result<usize, AllocError>
+    ensures { IfOk result (λ following. (following ≡ slot + words_of_kind kind) × (following ≤ most_locals)) }
 {
     if slot > MOST_SLOTS {
         return Err(AllocError);
@@ -415,20 +409,22 @@ pub(crate) fn slot_behind(slot: usize, kind: Kind) -> Result<usize, AllocError>
     Ok(slot + words_of_kind(kind))
 }
 
-/// The operand of the third word of a fat pointer.
+/// Returns the operand of the third word of a fat pointer.
 pub(crate) fn index_of(pointer: Operand) -> Result<Operand, AllocError>
     ensures { IfOk result (λ index. index ≡ index_of pointer) }
 {
     match pointer {
         Operand::Slot { number } => {
-            let behind = slot_behind(number, Kind::Fat)?;
-            Ok(Operand::Slot { number: behind - 1 })
+            let following = slot_after(number, Kind::Fat)?;
+            Ok(Operand::Slot {
+                number: following - 1,
+            })
         }
         Operand::Word { .. } => Ok(pointer),
     }
 }
 
-/// Whether the value in an operand is in this slot.
+/// Returns true if the value in an operand is in this slot.
 pub(crate) fn is_in(source: Operand, slot: usize) -> bool
     ensures { result ≡ is_in source slot }
 {

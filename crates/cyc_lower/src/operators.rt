@@ -1,16 +1,20 @@
-//! What operators become.
+//! The instructions of operators.
 ghost use Rattle.std.specs.Prelude.{◌≡◌, ◌≤◌};
-ghost use Rattle.cyc_lower.specs.inside.ValueCode.{low_byte, unary_instruction, binary_operator, left_kind, pointer_operator, failing_comparison, move_of, jump_if_zero, jump_if_nonzero, test_jump, scale_of, load_of, store_of};
-ghost use Rattle.cyc_lower.specs.inside.ControlCode.{opposite, negated_condition, failing_jump, holding_jump, deciding_condition, deciding_jump, tag_operand, other_jump, goes_on, null_failing, null_compared, pointers_failing};
+ghost use Rattle.cyc_lower_proof.specs.inside.ValueCode.{low_byte, unary_instruction, binary_operator, left_kind, pointer_operator};
+ghost use Rattle.cyc_lower_proof.specs.inside.ValueCode.{failing_comparison, move_of, jump_if_zero, jump_if_nonzero, test_jump, scale_of, load_of};
+ghost use Rattle.cyc_lower_proof.specs.inside.ValueCode.{store_of};
+ghost use Rattle.cyc_lower_proof.specs.inside.ControlCode.{opposite, negated_condition, failing_jump, holding_jump, deciding_condition};
+ghost use Rattle.cyc_lower_proof.specs.inside.ControlCode.{deciding_jump, tag_operand, other_jump, goes_on, null_failing, null_compared};
+ghost use Rattle.cyc_lower_proof.specs.inside.ControlCode.{pointers_failing};
 ghost use Rattle.cyc_lower.specs.inside.Emission.{most_locals, null_operation, pair_operation, right_of};
 ghost use Rattle.cyc_types.specs.TypedTreeView.{view_expression};
 
-use crate::operands::Condition;
+use cyc_lower_proof::Condition;
 use cyc_plain::{BinaryOperator, Comparison, Instruction, Operand, UnaryOperator};
 use cyc_types::typed;
 use cyc_types::typed::Kind;
 
-/// The low 8 bits of a word come to a slot.
+/// Returns the instruction that moves the low 8 bits of a word to a slot.
 pub(crate) fn low_byte(operand: Operand, destination: usize) -> Instruction
     ensures { result ≡ low_byte operand destination }
 {
@@ -22,7 +26,7 @@ pub(crate) fn low_byte(operand: Operand, destination: usize) -> Instruction
     }
 }
 
-/// What an operator of one operand becomes. A char that serves as an int is its word.
+/// Returns the instruction of a unary operator. A char that is used as an int has an unchanged word.
 pub(crate) fn unary_instruction(
     operator: typed::UnaryOperator,
     destination: usize,
@@ -72,7 +76,7 @@ pub(crate) fn binary_operator(operator: typed::Operator) -> BinaryOperator
     }
 }
 
-/// A kind with as many words as the left operand of an operator on pointers has.
+/// Returns a kind with as many words as the left operand of an operator on pointers.
 pub(crate) fn left_kind(operator: typed::PointerOperator) -> Kind
     ensures { result ≡ left_kind operator }
 {
@@ -90,7 +94,7 @@ pub(crate) fn left_kind(operator: typed::PointerOperator) -> Kind
     }
 }
 
-/// What an operator on pointers does to words: to the first ones of two pointers, or to an index.
+/// Returns the operator on words for an operator on pointers: on the first words of two pointers, or on an index.
 pub(crate) fn pointer_operator(operator: typed::PointerOperator) -> BinaryOperator
     ensures { result ≡ pointer_operator operator }
 {
@@ -108,7 +112,7 @@ pub(crate) fn pointer_operator(operator: typed::PointerOperator) -> BinaryOperat
     }
 }
 
-/// The comparison of a pointer's first word with 0 that holds where its comparison with null fails.
+/// Returns the comparison of the first word of a pointer with 0 that holds if its comparison with null fails.
 fn null_failing(operator: typed::PointerOperator) -> Option<Comparison>
     ensures { result ≡ null_failing operator }
 {
@@ -128,7 +132,7 @@ fn null_failing(operator: typed::PointerOperator) -> Option<Comparison>
     }
 }
 
-/// The same where this is on its right.
+/// Returns the comparison with 0 that holds if the comparison of a pointer with null fails, if the right operand is null.
 fn null_compared(operator: typed::PointerOperator, right: &typed::Expr) -> Option<Comparison>
     ensures { result ≡ null_compared operator (view_expression right.now) }
 {
@@ -138,7 +142,7 @@ fn null_compared(operator: typed::PointerOperator, right: &typed::Expr) -> Optio
     }
 }
 
-/// The same of an operator of a chain.
+/// Returns the comparison with 0 that holds if an operation of a chain compares with null and fails.
 pub(crate) fn null_operation(operation: &typed::Operation) -> Option<Comparison>
     ensures { result ≡ null_operation operation.now }
 {
@@ -153,7 +157,7 @@ pub(crate) fn null_operation(operation: &typed::Operation) -> Option<Comparison>
     }
 }
 
-/// The comparison that holds where that of an operator fails, if it is one.
+/// Returns the comparison that holds if the comparison by an operator fails, if the operator is a comparison.
 pub(crate) fn failing_comparison(operator: typed::Operator) -> Option<Comparison>
     ensures { result ≡ failing_comparison operator }
 {
@@ -177,7 +181,8 @@ pub(crate) fn failing_comparison(operator: typed::Operator) -> Option<Comparison
     }
 }
 
-/// The comparison of two pointers' first words that holds where that of the pointers fails, of which both are thin, or the left one is null.
+/// Returns the comparison of the first words of two pointers that holds if the comparison of the pointers fails. The two compared pointers
+/// are thin, or the left one is null.
 fn pointers_failing(operator: typed::PointerOperator) -> Option<Comparison>
     ensures { result ≡ pointers_failing operator }
 {
@@ -197,7 +202,7 @@ fn pointers_failing(operator: typed::PointerOperator) -> Option<Comparison>
     }
 }
 
-/// The comparison that holds where that of the two operands of an operator of a chain fails, if it compares them.
+/// Returns the comparison that holds if an operator of a chain, which compares its two operands, fails.
 pub(crate) fn pair_operation(operation: &typed::Operation) -> Option<Comparison>
     ensures { result ≡ pair_operation operation.now }
 {
@@ -209,7 +214,7 @@ pub(crate) fn pair_operation(operation: &typed::Operation) -> Option<Comparison>
     }
 }
 
-/// What stands on the right of an operator of a chain.
+/// Returns the right operand of an operator of a chain.
 pub(crate) fn right_of(operation: &typed::Operation) -> &typed::Expr
     ensures { view_expression result.now ≡ right_of operation.now }
 {
@@ -221,7 +226,7 @@ pub(crate) fn right_of(operation: &typed::Operation) -> &typed::Expr
     }
 }
 
-/// The comparison that holds where another one fails.
+/// Returns the comparison that holds if another one fails.
 fn opposite(comparison: Comparison) -> Comparison
     ensures { result ≡ opposite comparison }
 {
@@ -237,7 +242,7 @@ fn opposite(comparison: Comparison) -> Comparison
     }
 }
 
-/// A value of so many words comes to a slot and those behind it. A number has one word.
+/// Returns the instruction that moves a value with this number of words to slots. A constant operand has one word.
 pub(crate) fn move_of(words: usize, destination: usize, source: Operand) -> Instruction
     ensures { result ≡ move_of words destination source }
 {
@@ -254,7 +259,7 @@ pub(crate) fn move_of(words: usize, destination: usize, source: Operand) -> Inst
     }
 }
 
-/// A number of bytes by an index that counts cells of so many bytes, which are 4, 1 or 12.
+/// Returns the instruction that scales an index to bytes, for cells of 4, 1 or 12 bytes.
 pub(crate) fn scale_of(bytes: usize, destination: usize, index: usize) -> Instruction
     ensures { result ≡ scale_of bytes destination index }
 {
@@ -281,7 +286,7 @@ pub(crate) fn scale_of(bytes: usize, destination: usize, index: usize) -> Instru
     }
 }
 
-/// A word of a cell of a kind comes to a slot, or the byte of a char.
+/// Returns the instruction that loads a word of a cell of a kind, or the byte of a char, into a slot.
 pub(crate) fn load_of(kind: Kind, destination: usize, address: Operand, offset: u32) -> Instruction
     ensures { result ≡ load_of kind destination address offset }
 {
@@ -300,7 +305,7 @@ pub(crate) fn load_of(kind: Kind, destination: usize, address: Operand, offset: 
     }
 }
 
-/// And the other way.
+/// Returns the instruction that stores a word of a cell of a kind, or the byte of a char.
 pub(crate) fn store_of(kind: Kind, address: Operand, offset: u32, source: Operand) -> Instruction
     ensures { result ≡ store_of kind address offset source }
 {
@@ -319,7 +324,7 @@ pub(crate) fn store_of(kind: Kind, address: Operand, offset: u32, source: Operan
     }
 }
 
-/// A jump where a condition fails.
+/// Returns the jump that is taken if a condition fails.
 pub(crate) fn failing_jump(condition: Condition, target: usize) -> Instruction
     ensures { result ≡ failing_jump condition target }
 {
@@ -331,7 +336,7 @@ pub(crate) fn failing_jump(condition: Condition, target: usize) -> Instruction
     }
 }
 
-/// A jump where a condition holds.
+/// Returns the jump that is taken if a condition holds.
 pub(crate) fn holding_jump(condition: Condition, target: usize) -> Instruction
     ensures { result ≡ holding_jump condition target }
 {
@@ -343,7 +348,7 @@ pub(crate) fn holding_jump(condition: Condition, target: usize) -> Instruction
     }
 }
 
-/// A condition that is negated compares the same.
+/// Returns the negation of a condition, which compares the condition's operands by another operator.
 pub(crate) fn negated_condition(condition: Condition) -> Condition
     ensures { result ≡ negated_condition condition }
 {
@@ -354,7 +359,7 @@ pub(crate) fn negated_condition(condition: Condition) -> Condition
     }
 }
 
-/// The condition that fails where the left operand of a test decides what it gives.
+/// Returns the condition that fails if the left operand of a test decides its result.
 pub(crate) fn deciding_condition(
     operator: typed::LogicalOperator,
     condition: Condition,
@@ -367,7 +372,7 @@ pub(crate) fn deciding_condition(
     }
 }
 
-/// A jump there.
+/// Returns the jump that is taken if the left operand of a test decides its result.
 pub(crate) fn deciding_jump(
     operator: typed::LogicalOperator,
     condition: Condition,
@@ -378,7 +383,7 @@ pub(crate) fn deciding_jump(
     failing_jump(deciding_condition(operator, condition), target)
 }
 
-/// A jump where a word is 0.
+/// Returns the jump that is taken if a word is 0.
 pub(crate) fn jump_if_zero(condition: Operand, target: usize) -> Instruction
     ensures { result ≡ jump_if_zero condition target }
 {
@@ -390,7 +395,7 @@ pub(crate) fn jump_if_zero(condition: Operand, target: usize) -> Instruction
     }
 }
 
-/// A jump where a word is not 0.
+/// Returns the jump that is taken if a word is not 0.
 pub(crate) fn jump_if_nonzero(condition: Operand, target: usize) -> Instruction
     ensures { result ≡ jump_if_nonzero condition target }
 {
@@ -402,7 +407,7 @@ pub(crate) fn jump_if_nonzero(condition: Operand, target: usize) -> Instruction
     }
 }
 
-/// The jump over an operand that `&&` or `||` leaves out where the value in this slot decides.
+/// Returns the jump over the right operand of `&&` or `||`, which is taken if the value in this slot decides.
 pub(crate) fn test_jump(operator: typed::LogicalOperator, slot: usize, target: usize) -> Instruction
     ensures { result ≡ test_jump operator slot target }
 {
@@ -413,7 +418,7 @@ pub(crate) fn test_jump(operator: typed::LogicalOperator, slot: usize, target: u
     }
 }
 
-/// The word of an exception's number, which is less than 2 ^ 32 in every text.
+/// Returns the word of the tag of an exception, which is less than 2 ^ 32 in every text.
 pub(crate) fn tag_operand(tag: usize) -> Operand
     ensures { result ≡ tag_operand tag }
 {
@@ -422,7 +427,7 @@ pub(crate) fn tag_operand(tag: usize) -> Operand
     }
 }
 
-/// The jump over a clause, where the number of the exception in a slot is another.
+/// Returns the jump over a clause, which is taken if the tag in a slot is a different one.
 pub(crate) fn other_jump(tag: usize, slot: usize, target: usize) -> Instruction
     ensures { result ≡ other_jump tag slot target }
 {
@@ -434,7 +439,7 @@ pub(crate) fn other_jump(tag: usize, slot: usize, target: usize) -> Instruction
     }
 }
 
-/// An exception that no clause catches goes on.
+/// Returns the instruction that throws an uncaught exception again.
 pub(crate) fn goes_on(slot: usize) -> Instruction
     requires { slot ≤ most_locals }
     ensures { result ≡ goes_on slot }

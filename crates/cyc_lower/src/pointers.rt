@@ -1,11 +1,13 @@
-//! The code of accesses by pointers, which stand in operands: their cells are reached, and read or written. A fat pointer has its address,
-//! its length and its index in slots one behind the other.
+//! The code of accesses through pointers in operands: their cells are found, and read or written. A fat pointer has its address, its length
+//! and its index in consecutive slots.
 ghost use Rattle.std.specs.Prelude.{◌≡◌, ◌+◌, ◌≤◌, ◌∷◌, length};
 ghost use Rattle.cyc_types.specs.TypedTreeView.{view_lvalue};
 ghost use Rattle.cyc_meaning.specs.Values.{is_thin};
-ghost use Rattle.cyc_lower.specs.inside.ValueCode.{address_of_code, address_of_global, last_byte_code, bounded_code, count_code, past_bounded, thinned_code, followed_code, followed_operand};
-ghost use Rattle.cyc_lower.specs.inside.ValueCode.{loaded_code, reached_code, reached_operand, scaled_code, stepped_code, summed_code, bounds_code, widened_code, inside_code};
-ghost use Rattle.cyc_lower.specs.inside.ObjectCode.{saved_code};
+ghost use Rattle.cyc_lower_proof.specs.inside.ValueCode.{address_of_code, address_of_global, last_byte_code, bounded_code, count_code, past_bounded};
+ghost use Rattle.cyc_lower_proof.specs.inside.ValueCode.{thinned_code, followed_code, followed_operand};
+ghost use Rattle.cyc_lower_proof.specs.inside.ValueCode.{loaded_code, reached_code, reached_operand, scaled_code, stepped_code, summed_code};
+ghost use Rattle.cyc_lower_proof.specs.inside.ValueCode.{bounds_code, widened_code, inside_code};
+ghost use Rattle.cyc_lower_proof.specs.inside.ObjectCode.{saved_code};
 ghost use Rattle.cyc_types.specs.declared.typed.Kind.TheVariants as kinds;
 ghost use Rattle.cyc_plain.specs.declared.instruction.BinaryOperator.TheVariants as plain_binary;
 ghost use Rattle.cyc_plain.specs.declared.instruction.Instruction.TheVariants as instructions;
@@ -16,15 +18,15 @@ use crate::checks::{ARRAY_BOUNDS, NULL_EXCEPTION};
 use crate::emitter::Emitter;
 use crate::globals::global_of;
 use crate::locals::slot_of;
-use crate::operands::{is_thin, reached_operand, slot_behind, variable_bytes};
+use crate::operands::{is_thin, reached_operand, slot_after, variable_bytes};
 use crate::operators::{jump_if_zero, load_of, scale_of, store_of};
 use crate::starts::Starts;
-use cyc_frame_count::words_of_kind;
 use cyc_plain::{BinaryOperator, Comparison, GLOBALS_BASE, Instruction, Operand};
+use cyc_sizes::words_of_kind;
 use cyc_types::typed::{Kind, Lvalue};
 use std::alloc::AllocError;
 
-/// How long a jump is over the comparison of an index, and over what computes the address of the cell at it.
+/// Returns the length of the jump over the comparison of an index and over the computation of the address of its cell.
 fn past_bounded(span: Option<usize>) -> usize
     ensures same { result ≡ past_bounded span }
     ensures few { result ≤ 4 }
@@ -35,7 +37,7 @@ fn past_bounded(span: Option<usize>) -> usize
     }
 }
 
-/// The address of the global of a kind whose first word has this number.
+/// Returns the address of the global of a kind with this first word.
 fn address_of_global(kind: Kind, first: usize) -> u32
     ensures { result ≡ address_of_global kind first }
 {
@@ -46,7 +48,8 @@ fn address_of_global(kind: Kind, first: usize) -> u32
 }
 
 impl Emitter {
-    /// An address of a variable's first word, in a slot, becomes that of the variable: a char is the last byte of its word.
+    /// Emits the step from the address of the first word of a variable, in a slot, to the address of the variable. A char is the last byte
+    /// of its word.
     fn reach_last_byte(&mut self, kind: Kind, slot: usize) -> Result<(), AllocError>
         ensures { Appends result self.old self.new (last_byte_code kind slot) }
     {
@@ -63,7 +66,7 @@ impl Emitter {
         }
     }
 
-    /// The address of a variable of a kind comes to a slot.
+    /// Emits the move of the address of a variable of a kind to a slot.
     pub(crate) fn address_variable(
         &mut self,
         starts: &Starts,
@@ -91,20 +94,20 @@ impl Emitter {
         }
     }
 
-    /// A thin pointer gets the length and the index of a fat one that leads to one cell, and null the length 0.
+    /// Emits the other words of a thin pointer that becomes a fat one: the length 1 and the index 0; for null the length 0.
     pub(crate) fn widen(&mut self, pointer: Operand) -> Result<(), AllocError>
         ensures { Appends result self.old self.new (widened_code pointer) }
     {
         if let Operand::Slot { number } = pointer {
-            let behind = slot_behind(number, Kind::Fat)?;
+            let following = slot_after(number, Kind::Fat)?;
             let length = Instruction::Binary {
                 operator: BinaryOperator::NotEqual,
-                destination: behind - 2,
+                destination: following - 2,
                 left: pointer,
                 right: Operand::Word { word: 0 },
             };
             let index = Instruction::Move {
-                destination: behind - 1,
+                destination: following - 1,
                 source: Operand::Word { word: 0 },
             };
             return self.emit_both(length, index);
@@ -112,7 +115,7 @@ impl Emitter {
         Ok(())
     }
 
-    /// The address of the cell at an index comes to a slot, where there are cells of so many bytes.
+    /// Emits the computation of the address of the cell at an index, for cells of this number of bytes.
     fn step(
         &mut self,
         span: Option<usize>,
@@ -125,7 +128,7 @@ impl Emitter {
         match span {
             None => Ok(()),
             Some(bytes) => {
-                let distance = slot_behind(slot, Kind::Fat)? - 1;
+                let distance = slot_after(slot, Kind::Fat)? - 1;
                 let sum = Instruction::Binary {
                     operator: BinaryOperator::Add,
                     destination: slot,
@@ -137,11 +140,11 @@ impl Emitter {
         }
     }
 
-    /// An index is compared with the length of a fat pointer.
+    /// Emits the comparison of an index with the length of a fat pointer.
     fn compare(&mut self, starts: &Starts, first: usize, index: usize) -> Result<(), AllocError>
         ensures { Appends result self.old self.new (bounds_code (view_starts starts.now) (operands.Slot index) (operands.Slot (first + 1))) }
     {
-        let bound = slot_behind(first, Kind::Fat)? - 2;
+        let bound = slot_after(first, Kind::Fat)? - 2;
         self.guard(
             starts,
             ARRAY_BOUNDS,
@@ -151,7 +154,7 @@ impl Emitter {
         )
     }
 
-    /// An index is compared with the length of a fat pointer, and the address of the cell at the index is computed.
+    /// Emits the comparison of an index with the length of a fat pointer, and the computation of the address of the cell at the index.
     fn reach_inside(
         &mut self,
         starts: &Starts,
@@ -166,7 +169,7 @@ impl Emitter {
         self.step(span, first, index, slot)
     }
 
-    /// An index becomes a number of bytes in a slot, where there are cells of so many bytes.
+    /// Emits the scaling of an index to bytes in a slot, for cells of this number of bytes.
     fn scale(&mut self, span: Option<usize>, index: usize, slot: usize) -> Result<(), AllocError>
         ensures { Appends result self.old self.new (scaled_code span index slot) }
     {
@@ -176,7 +179,7 @@ impl Emitter {
         }
     }
 
-    /// The address of the cell that stands so many bytes behind the first comes to a slot.
+    /// Emits the computation of the address that is a number of bytes after the first cell.
     fn add_distance(
         &mut self,
         span: Option<usize>,
@@ -197,17 +200,19 @@ impl Emitter {
         }
     }
 
-    /// An index is compared with the length of a fat pointer, which is 0 where that is null: what tells which exception it is then is
-    /// jumped over.
+    /// Emits the comparison of an index with the length of a fat pointer, which is 0 for null. If the index is within bounds, a jump skips
+    /// the code that chooses the exception.
     fn stay_inside(&mut self, starts: &Starts, first: usize, index: usize) -> Result<(), AllocError>
         ensures { Appends result self.old self.new (inside_code (view_starts starts.now) first index (length self.old.code.items)) }
     {
-        let behind = slot_behind(first, Kind::Fat)?;
+        let following = slot_after(first, Kind::Fat)?;
         let inside = self.place() + 3;
         let compare = Instruction::Branch {
             comparison: Comparison::LessUnsigned,
             left: Operand::Slot { number: index },
-            right: Operand::Slot { number: behind - 2 },
+            right: Operand::Slot {
+                number: following - 2,
+            },
             target: inside,
         };
         let tell = Instruction::Binary {
@@ -222,7 +227,7 @@ impl Emitter {
         self.emit_three(compare, tell, raise)
     }
 
-    /// An access by a fat pointer: it is tested, and its cell reached. The index becomes a number of bytes before it is compared.
+    /// Emits an access through a fat pointer: it is tested, and its cell is found. The index is scaled to bytes before the comparison.
     fn reach(
         &mut self,
         starts: &Starts,
@@ -233,14 +238,14 @@ impl Emitter {
     ) -> Result<(), AllocError>
         ensures { Appends result self.old self.new (reached_code (view_starts starts.now) span first index slot (length self.old.code.items)) }
     {
-        let distance = slot_behind(slot, Kind::Fat)?;
+        let distance = slot_after(slot, Kind::Fat)?;
         self.scale(span, index, distance)?;
         self.stay_inside(starts, first, index)?;
         self.add_distance(span, first, distance, slot)
     }
 
-    /// An access to an element of a fat pointer, which moves by an index before it: where the address stands then. Only the third word of
-    /// the pointer is another, in a temporary.
+    /// Emits an access to an element through a fat pointer, after adding an index to it. Returns the operand of the address. Only the third
+    /// word of the pointer changes, in a temporary.
     pub(crate) fn reach_element(
         &mut self,
         starts: &Starts,
@@ -249,36 +254,39 @@ impl Emitter {
         index: Operand,
         free: usize,
     ) -> Result<Operand, AllocError>
-        ensures { Gives (reached_operand span first free) result self.old self.new (instructions.Binary plain_binary.Add (free + 2) (operands.Slot (first + 2)) index ∷ reached_code (view_starts starts.now) span first (free + 2) free (length self.old.code.items + 1)) }
+        ensures { Gives (reached_operand span first free) result self.old self.new
+            (instructions.Binary plain_binary.Add (free + 2) (operands.Slot (first + 2)) index
+            ∷ reached_code (view_starts starts.now) span first (free + 2) free (length self.old.code.items + 1)) }
     {
-        let past = slot_behind(first, Kind::Fat)?;
-        let behind = slot_behind(free, Kind::Fat)?;
+        let past = slot_after(first, Kind::Fat)?;
+        let following = slot_after(free, Kind::Fat)?;
         self.emit(Instruction::Binary {
             operator: BinaryOperator::Add,
-            destination: behind - 1,
+            destination: following - 1,
             left: Operand::Slot { number: past - 1 },
             right: index,
         })?;
-        self.reach(starts, span, first, behind - 1, free)?;
+        self.reach(starts, span, first, following - 1, free)?;
         Ok(reached_operand(span, first, free))
     }
 
-    /// A fat pointer in a slot and those behind it becomes a thin one that may be null: where it is, its cell is not looked for.
+    /// Emits the conversion in place of a fat pointer to a thin one that may be null; for null no cell is looked up.
     fn thin_nullable(
         &mut self,
         starts: &Starts,
         span: Option<usize>,
         first: usize,
     ) -> Result<(), AllocError>
-        ensures { Appends result self.old self.new (thinned_code (view_starts starts.now) kinds.Nullable span (operands.Slot first) (length self.old.code.items)) }
+        ensures { Appends result self.old self.new (thinned_code (view_starts starts.now) kinds.Nullable span (operands.Slot first)
+            (length self.old.code.items)) }
     {
-        let index = slot_behind(first, Kind::Fat)? - 1;
+        let index = slot_after(first, Kind::Fat)? - 1;
         let end = self.place() + past_bounded(span);
         self.emit(jump_if_zero(Operand::Slot { number: first }, end))?;
         self.reach_inside(starts, span, first, index, first)
     }
 
-    /// A fat pointer in slots becomes a thin one in the first of them, to the cell at its index.
+    /// Emits the conversion of a fat pointer in slots to a thin one. The first slot gets the address of the cell at the pointer's index.
     pub(crate) fn thin(
         &mut self,
         starts: &Starts,
@@ -291,7 +299,7 @@ impl Emitter {
         if let Operand::Slot { number } = pointer {
             match to {
                 Kind::NonNull => {
-                    let index = slot_behind(number, Kind::Fat)? - 1;
+                    let index = slot_after(number, Kind::Fat)? - 1;
                     self.check(starts, NULL_EXCEPTION, pointer)?;
                     return self.reach_inside(starts, span, number, index, number);
                 }
@@ -302,7 +310,7 @@ impl Emitter {
         Ok(())
     }
 
-    /// An access by a pointer in an operand, which is thin or fat: where the address stands then.
+    /// Emits an access through a pointer in an operand, thin or fat. Returns the operand of the address.
     pub(crate) fn follow(
         &mut self,
         starts: &Starts,
@@ -311,11 +319,12 @@ impl Emitter {
         pointer: Operand,
         free: usize,
     ) -> Result<Operand, AllocError>
-        ensures { Gives (followed_operand (is_thin kind) span pointer free) result self.old self.new (followed_code (view_starts starts.now) (is_thin kind) span pointer free (length self.old.code.items)) }
+        ensures { Gives (followed_operand (is_thin kind) span pointer free) result self.old self.new
+            (followed_code (view_starts starts.now) (is_thin kind) span pointer free (length self.old.code.items)) }
     {
         if !is_thin(kind) {
             if let Operand::Slot { number } = pointer {
-                let index = slot_behind(number, Kind::Fat)? - 1;
+                let index = slot_after(number, Kind::Fat)? - 1;
                 self.reach(starts, span, number, index, free)?;
                 return Ok(match span {
                     Some(_) => Operand::Slot { number: free },
@@ -327,9 +336,9 @@ impl Emitter {
         Ok(pointer)
     }
 
-    /// A cell of a kind comes to a slot and those behind it, whose address stands in an operand but for so many bytes. Where it has more
-    /// words than one the address comes to the first free slot, and not to a local, which may be the cell itself. The first word is
-    /// loaded last, since it may come there.
+    /// Emits the load of a cell of a kind into slots, by an address in an operand plus a number of bytes. If the cell has several words,
+    /// the address is moved to the first free slot, not to a local, because a local may be the loaded cell. The first word is loaded last,
+    /// since its slot may be that of the address.
     pub(crate) fn load_cell(
         &mut self,
         kind: Kind,
@@ -343,16 +352,16 @@ impl Emitter {
         if words_of_kind(kind) == 1 {
             return self.emit(load_of(kind, slot, address, offset));
         }
-        let behind = slot_behind(slot, Kind::Fat)?;
+        let following = slot_after(slot, Kind::Fat)?;
         let first = Operand::Slot { number: free };
         self.bring_address(address, offset, free)?;
         let third = Instruction::Load {
-            destination: behind - 1,
+            destination: following - 1,
             address: first,
             offset: 8,
         };
         let second = Instruction::Load {
-            destination: behind - 2,
+            destination: following - 2,
             address: first,
             offset: 4,
         };
@@ -364,7 +373,7 @@ impl Emitter {
         self.emit_three(third, second, word)
     }
 
-    /// A value of a kind comes to the cell whose address is in a slot. A number has one word.
+    /// Emits the store of a value of a kind in the cell whose address is in a slot. A constant operand has one word.
     pub(crate) fn save(
         &mut self,
         kind: Kind,
@@ -375,7 +384,7 @@ impl Emitter {
     {
         match value {
             Operand::Slot { number } => {
-                slot_behind(number, kind)?;
+                slot_after(number, kind)?;
                 self.store_cell(kind, address, 0, number)
             }
             Operand::Word { .. } => {
@@ -384,14 +393,19 @@ impl Emitter {
         }
     }
 
-    /// How many elements a fat pointer has from its index on: none where its index is past its length, which is 0 where it is null.
+    /// Emits the count of the elements of a fat pointer from its index on. The count is 0 if the index is not below the length, which is 0
+    /// for null.
     pub(crate) fn count_elements(&mut self, pointer: Operand, slot: usize) -> Result<(), AllocError>
         ensures { Appends result self.old self.new (count_code pointer (length self.old.code.items) slot) }
     {
         if let Operand::Slot { number } = pointer {
-            let behind = slot_behind(number, Kind::Fat)?;
-            let length = Operand::Slot { number: behind - 2 };
-            let index = Operand::Slot { number: behind - 1 };
+            let following = slot_after(number, Kind::Fat)?;
+            let length = Operand::Slot {
+                number: following - 2,
+            };
+            let index = Operand::Slot {
+                number: following - 1,
+            };
             let none = self.place() + 3;
             let compare = Instruction::Branch {
                 comparison: Comparison::LessUnsigned,

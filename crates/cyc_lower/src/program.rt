@@ -6,26 +6,27 @@ ghost use Rattle.cyc_types.specs.typing.WellTyped.{IsWellTypedProgram};
 ghost use Rattle.cyc_types.specs.Weight.{program_weight};
 ghost use Rattle.cyc_types.specs.TypedTreeView.{view_program};
 ghost use Rattle.cyc_meaning.specs.Sizes.{HasTooMany};
-ghost use Rattle.cyc_lower.specs.inside.Lowered.{CanBeLowered, IsAccepted, IsLowered};
+ghost use Rattle.cyc_lower_proof.specs.inside.Lowered.{CanBeLowered, IsAccepted, IsLowered};
 
 use crate::functions::lower_tree;
 use crate::limits::MOST_FUNCTIONS;
-use cyc_flow::Flowed;
 use cyc_plain::Plain;
+use cyc_types::Flowed;
 use cyc_words::{Code, Fault};
 use std::alloc::Global;
 
-/// The plain program of a typed tree that keeps the flow rules.
+/// Returns the plain program of a typed tree that keeps the flow rules.
 ///
-/// A program of more than `MOST_FUNCTIONS` functions is refused, at the name of the first one too many, with
-/// `TooManyFunctions`. Any other may be refused for want of memory only.
+/// A program with more than `MOST_FUNCTIONS` functions is rejected with `TooManyFunctions`, at the name of the first function beyond the
+/// limit. A program within the limit is rejected only for lack of memory.
 pub fn lower(alloc: Global, program: &Flowed) -> Result<Plain, Fault>
     requires well_typed { IsWellTypedProgram (view_program program.now.tree) }
     requires small { program_weight (view_program program.now.tree) ≤ max_tokens }
     requires can_be { CanBeLowered (view_program program.now.tree) }
 
-    // What is answered is a plain program that does what the source does. What is refused has too many functions.
-    ensures { Decides (IsAccepted (view_program program.now.tree)) IsLowered (HasTooMany (view_program program.now.tree)) (HasTooMany (view_program program.now.tree)) result }
+    // The result is a plain program with the behaviour of the source. A rejected program has too many functions.
+    ensures { Decides (IsAccepted (view_program program.now.tree)) IsLowered (HasTooMany (view_program program.now.tree))
+        (HasTooMany (view_program program.now.tree)) result }
 {
     let functions = &program.tree.functions;
     if functions.len() > MOST_FUNCTIONS {

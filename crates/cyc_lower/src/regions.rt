@@ -1,11 +1,12 @@
-//! The code of regions: handles are words, and the marks by which lexical regions are closed stand in slots.
+//! The code of regions: handles are words, and the marks for closing lexical regions are in slots.
 ghost use Rattle.std.specs.Prelude.{◌≡◌, ◌+◌, ◌≤◌, IfOk, length};
-ghost use Rattle.cyc_lower.specs.inside.ControlCode.{behind_record, closed_code, closing_code, dynamic_code, kept_code, named_code, opened_code, restored_code};
+ghost use Rattle.cyc_lower_proof.specs.inside.ControlCode.{after_record, closed_code, closing_code, dynamic_code, kept_code, named_code, opened_code};
+ghost use Rattle.cyc_lower_proof.specs.inside.ControlCode.{restored_code};
 ghost use Rattle.cyc_lower.specs.inside.Emission.{Appends, Gives, most_locals, view_starts};
 
 use crate::emitter::Emitter;
 use crate::locals::slot_of;
-use crate::operands::slot_behind;
+use crate::operands::slot_after;
 use crate::operators::move_of;
 use crate::starts::Starts;
 use cyc_plain::{Instruction, Operand, RECORD_WORDS, Request};
@@ -13,7 +14,7 @@ use cyc_types::typed::Kind;
 use std::alloc::AllocError;
 
 impl Emitter {
-    /// A local that is declared gets a value of so many words, which stands in an operand.
+    /// Emits the move of a value from an operand to a declared local.
     pub(crate) fn name_local(
         &mut self,
         starts: &Starts,
@@ -26,8 +27,8 @@ impl Emitter {
         self.emit(move_of(words, slot_of(starts, number), source))
     }
 
-    /// A lexical region is opened, and a local becomes its handle. Its mark comes to the slot `free`, where it stays until the region
-    /// is closed.
+    /// Emits the opening of a lexical region, whose handle becomes the value of a local. The region's mark is moved to the slot `free`,
+    /// which keeps it until the region is closed.
     pub(crate) fn open_lexical(
         &mut self,
         starts: &Starts,
@@ -36,11 +37,11 @@ impl Emitter {
     ) -> Result<(), AllocError>
         ensures { Appends result self.old self.new (opened_code (view_starts starts.now) number free) }
     {
-        let behind = slot_behind(free, Kind::Handle)?;
-        let mark = slot_behind(behind, Kind::Handle)?;
+        let following = slot_after(free, Kind::Handle)?;
+        let mark = slot_after(following, Kind::Handle)?;
         let open = Instruction::Ask {
             request: Request::OpenLexical {
-                destination: behind,
+                destination: following,
             },
         };
         let keep = Instruction::Move {
@@ -48,10 +49,10 @@ impl Emitter {
             source: Operand::Slot { number: mark },
         };
         self.emit_both(open, keep)?;
-        self.name_local(starts, 1, number, Operand::Slot { number: behind })
+        self.name_local(starts, 1, number, Operand::Slot { number: following })
     }
 
-    /// The newest lexical regions are closed, down to the mark in a slot.
+    /// Emits the closing of the newest lexical regions, down to the mark in a slot.
     pub(crate) fn close_lexical(&mut self, mark: usize) -> Result<(), AllocError>
         ensures { Appends result self.old self.new (closed_code mark) }
     {
@@ -62,23 +63,23 @@ impl Emitter {
         })
     }
 
-    /// A `try` has the record of its handler in the slots from `free` on, and behind it keeps how many lexical regions are open, where a
-    /// program has any. The slot behind both is answered.
+    /// Emits the beginning of a `try`. The handler record of the `try` is in the slots from `free` on, followed by the number of open
+    /// lexical regions if the program has any. Returns the slot after the record and that number.
     pub(crate) fn begin_try(&mut self, starts: &Starts, free: usize) -> Result<usize, AllocError>
         requires { free ≤ most_locals }
-        ensures { Gives (behind_record (view_starts starts.now) free) result self.old self.new (kept_code (view_starts starts.now) free) }
+        ensures { Gives (after_record (view_starts starts.now) free) result self.old self.new (kept_code (view_starts starts.now) free) }
     {
-        let behind = free + RECORD_WORDS;
+        let following = free + RECORD_WORDS;
         if starts.scopes.is_none() {
-            return Ok(behind);
+            return Ok(following);
         }
         self.emit(Instruction::CountLexical {
-            destination: behind,
+            destination: following,
         })?;
-        Ok(behind + 1)
+        Ok(following + 1)
     }
 
-    /// Where an exception comes to a `try`, the lexical regions are closed that were opened in it.
+    /// Emits the closing of the lexical regions that were opened in a `try`, for an exception that reaches it.
     pub(crate) fn restore_scopes(&mut self, starts: &Starts, free: usize) -> Result<(), AllocError>
         requires { free ≤ most_locals }
         ensures { Appends result self.old self.new (restored_code (view_starts starts.now) free) }
@@ -89,7 +90,7 @@ impl Emitter {
         }
     }
 
-    /// A dynamic region is opened, and a local becomes its key.
+    /// Emits the creation of a dynamic region, whose key becomes the value of a local.
     pub(crate) fn open_dynamic(
         &mut self,
         starts: &Starts,
@@ -104,7 +105,7 @@ impl Emitter {
         self.name_local(starts, 1, number, Operand::Slot { number: free })
     }
 
-    /// The dynamic region of a key is closed.
+    /// Emits the closing of the dynamic region of a key.
     pub(crate) fn close_dynamic(&mut self, handle: Operand) -> Result<(), AllocError>
         ensures { Appends result self.old self.new (closing_code handle) }
     {

@@ -1,13 +1,13 @@
-//! Where things begin.
+//! The slots, words and places with which a function is lowered.
 ghost use Rattle.std.specs.Prelude.{◌^◌, ◌+◌, ◌≤◌};
 
 use cyc_types::typed::StructType;
 use std::alloc::Global;
 
-/// What tells where things begin: the first slots of a function's locals, and the one behind them, the structs of its program, for
-/// their fields, the place behind which the blocks stand that raise exceptions, the slots of the counters of the arrays around, the
-/// outermost first, the first words of the globals, and where behind its record a `try` keeps how many lexical regions are open, if it
-/// does.
+/// The slots, words and places with which a function is lowered: the first slots of the locals and the slot after them, the structs, and
+/// the place after which the blocks that raise exceptions come. The record also contains the slots of the counters of enclosing arrays,
+/// outermost first, and the first words of the globals. The last field is the offset after a handler record at which a `try` keeps the
+/// number of open lexical regions.
 #[derive(Clone, Copy)]
 pub(crate) struct Starts<'a> {
     pub(crate) locals: &'a [usize],

@@ -1,32 +1,32 @@
-//! The code of statements. Each method adds its code behind what there is.
+//! The code of statements. Each method of this file adds code after the existing code.
 ghost use Rattle.std.specs.Prelude.{◌≡◌, ◌+◌, ◌≤◌, length, option_map};
 ghost use Rattle.cyc_types.specs.TypeView.{view_ty};
 ghost use Rattle.cyc_types.specs.TypedTreeView.{view_converted, view_expression, view_statement, items_of};
 ghost use Rattle.cyc_meaning.specs.FrameCount.{kept_by, kept_by_items};
-ghost use Rattle.cyc_lower.specs.inside.ControlCode.{inside_try, is_nothing};
-ghost use Rattle.cyc_lower.specs.inside.ValueCode.{blank_code};
-ghost use Rattle.cyc_lower.specs.inside.Lowering.{declaration_code, statement_code, items_code};
-ghost use Rattle.cyc_frame_count.specs.inside.Needs.{kept_by_item};
-ghost use Rattle.cyc_lower.specs.inside.Emission.{Appends, most_locals, item_code, exits_behind, free_behind, then_code, view_starts};
+ghost use Rattle.cyc_lower_proof.specs.inside.ControlCode.{inside_try, is_nothing};
+ghost use Rattle.cyc_lower_proof.specs.inside.ValueCode.{blank_code};
+ghost use Rattle.cyc_lower_proof.specs.inside.Lowering.{declaration_code, statement_code, items_code};
+ghost use Rattle.cyc_sizes.specs.inside.Needs.{kept_by_item};
+ghost use Rattle.cyc_lower.specs.inside.Emission.{Appends, most_locals, item_code, exits_after, free_after, then_code, view_starts};
 
 use crate::emitter::Emitter;
-use crate::exits::{Exits, exits_behind, inside_try};
+use crate::exits::{exits_after, inside_try};
 use crate::locals::slot_of;
 use crate::loops::goes_through;
 use crate::marks::{place_of_item, place_of_statement};
 use crate::operands::kind_of;
 use crate::starts::Starts;
-use cyc_frame_count::words_of;
+use cyc_lower_proof::Exits;
 use cyc_plain::{Instruction, Operand};
+use cyc_sizes::words_of;
 use cyc_types::Ty;
 use cyc_types::typed::{Converted, Expr, Item, Kind, LogicalOperator, Stmt};
 use std::alloc::AllocError;
 
-/// The first slot for temporaries behind an item of a block, in front of which they begin at this slot: behind a region they begin
-/// behind its mark.
-fn free_behind(item: &Item, free: usize) -> usize
+/// Returns the first slot for temporaries after an item of a block: after a region they begin after its mark.
+fn free_after(item: &Item, free: usize) -> usize
     requires { free + kept_by_item item.now ≤ most_locals }
-    ensures { result ≡ free_behind item.now free }
+    ensures { result ≡ free_after item.now free }
 {
     match item {
         Item::Region { .. } => free + 1,
@@ -38,7 +38,7 @@ fn free_behind(item: &Item, free: usize) -> usize
     }
 }
 
-/// Whether nothing stands behind `else`.
+/// Returns true if the `else` part is empty.
 fn is_nothing(statement: &Stmt) -> bool
     ensures { result ≡ is_nothing (view_statement statement.now) }
 {
@@ -46,7 +46,7 @@ fn is_nothing(statement: &Stmt) -> bool
 }
 
 impl Emitter {
-    /// A local that is declared without a value. It holds none, but the word of a char is below 256 all the same.
+    /// Emits the declaration of a local without a value. Only a char is given a value, since the word of a char must be below 256.
     fn leave_blank(&mut self, kind: Kind, slot: usize) -> Result<(), AllocError>
         ensures { Appends result self.old self.new (blank_code kind slot) }
     {
@@ -61,7 +61,7 @@ impl Emitter {
         }
     }
 
-    /// The declaration of a local, which gets its initial value if it has one.
+    /// Emits the declaration of a local, with its initial value if it has one.
     fn lower_declaration(
         &mut self,
         starts: &Starts,
@@ -71,7 +71,8 @@ impl Emitter {
         free: usize,
     ) -> Result<(), AllocError>
         requires { free ≤ most_locals + length self.old.code.items }
-        ensures { Appends result self.old self.new (declaration_code (view_starts starts.now) number (view_ty of_type.now) (option_map view_converted value.now) (length self.old.code.items) free) }
+        ensures { Appends result self.old self.new (declaration_code (view_starts starts.now) number (view_ty of_type.now)
+            (option_map view_converted value.now) (length self.old.code.items) free) }
     {
         let Some(value) = value else {
             return self.leave_blank(kind_of(of_type), slot_of(starts, number));
@@ -79,7 +80,7 @@ impl Emitter {
         self.lower_initial(starts, value, slot_of(starts, number), free)
     }
 
-    /// A branch with nothing behind `else`.
+    /// Emits a branch without an `else` part.
     #[cycle(statement)]
     fn lower_then(
         &mut self,
@@ -91,7 +92,8 @@ impl Emitter {
     ) -> Result<(), AllocError>
         requires slots { free + kept_by (view_statement then.now) ≤ most_locals }
         requires begun { exits.head ≤ length self.old.code.items }
-        ensures { Appends result self.old self.new (then_code (view_starts starts.now) (view_expression condition.now) (view_statement then.now) (length self.old.code.items) exits free) }
+        ensures { Appends result self.old self.new (then_code (view_starts starts.now) (view_expression condition.now) (view_statement then.now)
+            (length self.old.code.items) exits free) }
     {
         let tested = self.lower_branch(starts, LogicalOperator::AndThen, condition, free)?;
         let over = self.reserve()?;
@@ -100,7 +102,7 @@ impl Emitter {
         Ok(())
     }
 
-    /// A statement with these ways out.
+    /// Emits a statement with these exits.
     #[cycle(statement)]
     pub(crate) fn lower_statement(
         &mut self,
@@ -111,7 +113,8 @@ impl Emitter {
     ) -> Result<(), AllocError>
         requires slots { free + kept_by (view_statement statement.now) ≤ most_locals }
         requires begun { exits.head ≤ length self.old.code.items }
-        ensures { Appends result self.old self.new (statement_code (view_starts starts.now) (view_statement statement.now) (length self.old.code.items) exits free) }
+        ensures { Appends result self.old self.new (statement_code (view_starts starts.now) (view_statement statement.now)
+            (length self.old.code.items) exits free) }
     {
         let outer = self.enter(place_of_statement(statement));
         let made = self.lower_form(starts, statement, exits, free);
@@ -119,7 +122,7 @@ impl Emitter {
         made
     }
 
-    /// The same, at its place.
+    /// Emits the construct whose place in the text is already set.
     #[cycle(statement)]
     fn lower_form(
         &mut self,
@@ -130,7 +133,8 @@ impl Emitter {
     ) -> Result<(), AllocError>
         requires slots { free + kept_by (view_statement statement.now) ≤ most_locals }
         requires begun { exits.head ≤ length self.old.code.items }
-        ensures { Appends result self.old self.new (statement_code (view_starts starts.now) (view_statement statement.now) (length self.old.code.items) exits free) }
+        ensures { Appends result self.old self.new (statement_code (view_starts starts.now) (view_statement statement.now)
+            (length self.old.code.items) exits free) }
     {
         match statement {
             Stmt::Block { items, .. } => self.lower_items(starts, items, exits, free),
@@ -175,9 +179,9 @@ impl Emitter {
                 default,
                 ..
             } => {
-                let behind = self.begin_try(starts, free)?;
+                let following = self.begin_try(starts, free)?;
                 let opening = self.reserve()?;
-                self.lower_statement(starts, body, inside_try(exits, free), behind)?;
+                self.lower_statement(starts, body, inside_try(exits, free), following)?;
                 let out = self.end_body(opening, free)?;
                 self.restore_scopes(starts, free)?;
                 self.lower_clauses(starts, clauses, out, exits, free)?;
@@ -188,7 +192,7 @@ impl Emitter {
         }
     }
 
-    /// One item of a block.
+    /// Emits one item of a block.
     #[cycle(statement)]
     fn lower_item(
         &mut self,
@@ -207,7 +211,7 @@ impl Emitter {
         made
     }
 
-    /// The same, at its place.
+    /// Emits the construct whose place in the text is already set.
     #[cycle(statement)]
     fn lower_entry(
         &mut self,
@@ -251,7 +255,7 @@ impl Emitter {
         }
     }
 
-    /// The items of a block. At its end each lexical region is closed that it opened, the newest first.
+    /// Emits the items of a block. At its end each lexical region that it opened is closed, newest first.
     #[cycle(statement)]
     pub(crate) fn lower_items(
         &mut self,
@@ -265,15 +269,15 @@ impl Emitter {
         ensures { Appends result self.old self.new (items_code (view_starts starts.now) (items_of items.now) (length self.old.code.items) exits free) }
     {
         let mut inside = exits;
-        let mut behind = free;
+        let mut following = free;
         for item in items {
-            self.lower_item(starts, item, inside, behind)?;
-            inside = exits_behind(item, inside, behind);
-            behind = free_behind(item, behind);
+            self.lower_item(starts, item, inside, following)?;
+            inside = exits_after(item, inside, following);
+            following = free_after(item, following);
         }
-        while behind > free {
-            behind -= 1;
-            self.close_lexical(behind)?;
+        while following > free {
+            following -= 1;
+            self.close_lexical(following)?;
         }
         Ok(())
     }

@@ -3,9 +3,9 @@ ghost use Rattle.std.specs.Prelude.{◌≡◌, ◌+◌, ◌^◌, ◌<◌, ◌≤
 ghost use Rattle.cyc_types.specs.typing.Expressions.{type_of_side};
 ghost use Rattle.cyc_types.specs.TypedTreeView.{view_side};
 ghost use Rattle.cyc_meaning.specs.Values.{kind_of, words_of_kind};
-ghost use Rattle.cyc_lower.specs.inside.ValueCode.{word_by_word};
-ghost use Rattle.cyc_lower.specs.inside.ObjectCode.{right_slot, load_at};
-ghost use Rattle.cyc_lower.specs.inside.Lowering.{side_code, read_side, write_side, exchange_code, swap_code};
+ghost use Rattle.cyc_lower_proof.specs.inside.ValueCode.{word_by_word};
+ghost use Rattle.cyc_lower_proof.specs.inside.ObjectCode.{right_slot, load_at};
+ghost use Rattle.cyc_lower_proof.specs.inside.Lowering.{side_code, read_side, write_side, exchange_code, swap_code};
 ghost use Rattle.cyc_lower.specs.inside.Emission.{Appends, most_locals, view_starts};
 
 use crate::emitter::Emitter;
@@ -14,12 +14,12 @@ use crate::locals::slot_of;
 use crate::operands::{kind_at, kind_of};
 use crate::operators::{load_of, move_of};
 use crate::starts::Starts;
-use cyc_frame_count::words_of_kind;
 use cyc_plain::Operand;
+use cyc_sizes::words_of_kind;
 use cyc_types::typed::{Kind, Lvalue, Side};
 use std::alloc::AllocError;
 
-/// The kind of what a side holds.
+/// Returns the kind of the value of a side.
 fn kind_of_side(side: &Side) -> Kind
     ensures { result ≡ kind_of (type_of_side (view_side side.now)) }
 {
@@ -30,7 +30,7 @@ fn kind_of_side(side: &Side) -> Kind
 }
 
 impl Emitter {
-    /// The words of a cell of a kind come to slots, by its address in a slot.
+    /// Emits the loads of the words of a cell of a kind into slots, by its address in a slot.
     fn load_words(&mut self, kind: Kind, address: usize, slot: usize) -> Result<(), AllocError>
         requires { slot + words_of_kind kind < 2 ^ 64 }
         ensures { Appends result self.old self.new (word_by_word (load_at kind address) (words_of_kind kind) 0 slot) }
@@ -47,7 +47,7 @@ impl Emitter {
         Ok(())
     }
 
-    /// The words of a kind that a side holds come to slots from one on.
+    /// Emits the loads of the words of a side into consecutive slots.
     fn read_side(
         &mut self,
         starts: &Starts,
@@ -76,7 +76,7 @@ impl Emitter {
         }
     }
 
-    /// The words in slots from one on come to a side.
+    /// Emits the stores of words in consecutive slots to a side.
     fn write_side(
         &mut self,
         starts: &Starts,
@@ -103,7 +103,7 @@ impl Emitter {
         }
     }
 
-    /// The slot for the address of the right side, behind that of the left one.
+    /// Returns the slot for the address of the right side, after that of the left one.
     fn right_slot(&self, left: &Side, free: usize) -> usize
         requires { free ≤ most_locals + length self.now.code.items }
         ensures { result ≡ right_slot (view_side left.now) free }
@@ -114,7 +114,7 @@ impl Emitter {
         }
     }
 
-    /// The address of a side that is a cell comes to a slot. A variable has no code.
+    /// Emits the move of the address of a side that is a cell to a slot. A side that is a variable needs no code.
     fn lower_side(&mut self, starts: &Starts, side: &Side, free: usize) -> Result<(), AllocError>
         requires { free ≤ most_locals + length self.old.code.items }
         ensures { Appends result self.old self.new (side_code (view_starts starts.now) (view_side side.now) (length self.old.code.items) free) }
@@ -125,7 +125,7 @@ impl Emitter {
         }
     }
 
-    /// Both sides are read, the left one first, and then written.
+    /// Emits the exchange: both sides are read, the left one first, and then written.
     fn exchange(
         &mut self,
         starts: &Starts,
@@ -134,18 +134,19 @@ impl Emitter {
         free: usize,
     ) -> Result<(), AllocError>
         requires { free ≤ most_locals + length self.old.code.items }
-        ensures { Appends result self.old self.new (exchange_code (view_starts starts.now) (kind_of (type_of_side (view_side left.now))) (view_side left.now) (view_side right.now) free) }
+        ensures { Appends result self.old self.new (exchange_code (view_starts starts.now) (kind_of (type_of_side (view_side left.now)))
+            (view_side left.now) (view_side right.now) free) }
     {
         let kind = kind_of_side(left);
         let words = words_of_kind(kind);
-        let behind = self.right_slot(left, free);
+        let following = self.right_slot(left, free);
         self.read_side(starts, left, kind, free, free + 2)?;
-        self.read_side(starts, right, kind, behind, free + 2 + words)?;
+        self.read_side(starts, right, kind, following, free + 2 + words)?;
         self.write_side(starts, left, kind, free, free + 2 + words)?;
-        self.write_side(starts, right, kind, behind, free + 2)
+        self.write_side(starts, right, kind, following, free + 2)
     }
 
-    /// A swap: the places of both sides are found before either is written.
+    /// Emits a swap: the places of both sides are evaluated before either is written.
     pub(crate) fn lower_swap(
         &mut self,
         starts: &Starts,
@@ -154,11 +155,12 @@ impl Emitter {
         free: usize,
     ) -> Result<(), AllocError>
         requires { free ≤ most_locals + length self.old.code.items }
-        ensures { Appends result self.old self.new (swap_code (view_starts starts.now) (view_side left.now) (view_side right.now) (length self.old.code.items) free) }
+        ensures { Appends result self.old self.new (swap_code (view_starts starts.now) (view_side left.now) (view_side right.now)
+            (length self.old.code.items) free) }
     {
-        let behind = self.right_slot(left, free);
+        let following = self.right_slot(left, free);
         self.lower_side(starts, left, free)?;
-        self.lower_side(starts, right, behind)?;
+        self.lower_side(starts, right, following)?;
         self.exchange(starts, left, right, free)
     }
 }

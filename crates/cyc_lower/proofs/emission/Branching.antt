@@ -1,4 +1,4 @@
--- Code of statements that is made piece by piece: blocks, with the regions that they open, and branches whose jumps are written back.
+-- The code of statements, emitted piece by piece: blocks with their regions, and branches whose targets are set later.
 use Rattle.std.proofs.Common.{◌≡◌, ℕ, zero, suc, ◌+◌, ◌-◌, ◌<◌, ◌≤◌, Bool, true, false, List, [], ◌∷◌, ◌++◌, length, get_or, drop, set, refl, sym, ap, ◌∙◌, arith, append_assoc, append-nil}
 use Rattle.std.proofs.lemmas.List.{drop_all, drop_more, length-append, length-set}
 use Rattle.std.specs.declared.vec.Vec.{Vec}
@@ -17,31 +17,32 @@ use Rattle.cyc_types.proofs.TypedTreeViewLemmas.{view_block}
 use Rattle.cyc_meaning.specs.FrameCount.{kept_by_items}
 use Rattle.cyc_plain.specs.declared.instruction.Instruction.{Instruction}
 use Rattle.cyc_plain.specs.declared.instruction.Instruction.TheVariants as instructions
-use Rattle.cyc_lower.specs.declared.operands.Condition.{Condition}
+use Rattle.cyc_lower_proof.specs.declared.condition.Condition.{Condition}
 use Rattle.cyc_lower.specs.declared.conditions.Pending.{Pending}
-use Rattle.cyc_lower.specs.declared.exits.Exits.{Exits}
-use Rattle.cyc_lower.specs.inside.Slots.{Starts}
-use Rattle.cyc_lower.specs.inside.ControlCode.{failing_jump, inside_region, opened_code, closed_code, is_nothing, over_code, over_length}
-use Rattle.cyc_lower.specs.inside.Lowering.{branch_code, branch_of, statement_code, items_code}
-use Rattle.cyc_frame_count.specs.inside.Needs.{kept_by_item}
-use Rattle.cyc_lower.specs.inside.Emission.{most_locals, failed, Aims, item_code, exits_behind, free_behind, then_code}
+use Rattle.cyc_lower_proof.specs.declared.exits.Exits.{Exits}
+use Rattle.cyc_lower_proof.specs.inside.Slots.{Starts}
+use Rattle.cyc_lower_proof.specs.inside.ControlCode.{failing_jump, inside_region, opened_code, closed_code, is_nothing, over_code, over_length}
+use Rattle.cyc_lower_proof.specs.inside.Lowering.{branch_code, branch_of, statement_code, items_code}
+use Rattle.cyc_sizes.specs.inside.Needs.{kept_by_item}
+use Rattle.cyc_lower.specs.inside.Emission.{most_locals, failed, Aims, item_code, exits_after, free_after, then_code}
 use Rattle.cyc_lower.proofs.emission.Emitting.{Remains, goes_on_by, no_shorter_than, written_back}
-use Rattle.cyc_lower.proofs.emission.Conditions.{branch_same}
+use Rattle.cyc_lower_proof.proofs.emission.CodeLengths.{branch_same}
 
 -- ---- blocks
 
--- The code of items, but for what closes their regions at the end. What an item stands in are the ways out and the first slot for temporaries.
+-- The code of items, without the code that closes their regions at the end. The state of an item is its exits and its first slot for
+-- temporaries.
 abbrev pub one_item : Starts → ItemCode → List ItemCode → (p : ℕ) → Exits × ℕ → List Instruction
 one_item starts j js p s = item_code starts j p s.0 s.1
 
 abbrev pub next_item : ItemCode → List ItemCode → Exits × ℕ → Exits × ℕ
-next_item j js s = (exits_behind j s.0 s.1, free_behind j s.1)
+next_item j js s = (exits_after j s.0 s.1, free_after j s.1)
 
 abbrev pub opened_items : Starts → List ItemCode → (p : ℕ) → Exits × ℕ → List Instruction
 opened_items starts [] p s = []
 opened_items starts (j ∷ js) p s = one_item starts j js p s ++ opened_items starts js (p + length (one_item starts j js p s)) (next_item j js s)
 
--- so many regions are closed, the newest first, whose marks stand in the slots from t on
+-- the code that closes these regions, newest first, whose marks are in the slots from t on
 abbrev pub closed_items : (many t : ℕ) → List Instruction
 closed_items zero t = []
 closed_items (suc many) t = closed_items many (t + 1) ++ closed_code t
@@ -51,9 +52,9 @@ regions_in [] = 0
 regions_in (item.Region w r n ∷ js) = suc (regions_in js)
 regions_in (j ∷ js) = regions_in js
 
-behind_one : (starts : Starts) (j : ItemCode) (js : List ItemCode) (p : ℕ) (exits : Exits) (t : ℕ) → items_code starts (items_of js) (p + length (item_code starts j p exits t)) exits t ≡ opened_items starts js (p + length (item_code starts j p exits t)) (exits, t) ++ closed_items (regions_in js) t
+after_one : (starts : Starts) (j : ItemCode) (js : List ItemCode) (p : ℕ) (exits : Exits) (t : ℕ) → items_code starts (items_of js) (p + length (item_code starts j p exits t)) exits t ≡ opened_items starts js (p + length (item_code starts j p exits t)) (exits, t) ++ closed_items (regions_in js) t
     → item_code starts j p exits t ++ items_code starts (items_of js) (p + length (item_code starts j p exits t)) exits t ≡ (item_code starts j p exits t ++ opened_items starts js (p + length (item_code starts j p exits t)) (exits, t)) ++ closed_items (regions_in js) t
-behind_one starts j js p exits t rest =
+after_one starts j js p exits t rest =
     let one = item_code starts j p exits t in
     ap (λ (l : List Instruction). one ++ l) rest ∙ sym (append_assoc one (opened_items starts js (p + length one) (exits, t)) (closed_items (regions_in js) t))
 
@@ -66,13 +67,13 @@ items_open_and_close starts (item.Region w r n ∷ js) p exits t =
     ap (λ (l : List Instruction). first ++ (l ++ closed_code t)) (items_open_and_close starts js (p + length first) (inside_region exits t) (t + 1))
     ∙ ap (λ (l : List Instruction). first ++ l) (append_assoc front back (closed_code t))
     ∙ sym (append_assoc first front (back ++ closed_code t))
-items_open_and_close starts (item.Execute s ∷ js) p exits t = behind_one starts (item.Execute s) js p exits t (items_open_and_close starts js _ exits t)
-items_open_and_close starts (item.Local w n ty v ∷ js) p exits t = behind_one starts (item.Local w n ty v) js p exits t (items_open_and_close starts js _ exits t)
-items_open_and_close starts (item.Open r n w k ∷ js) p exits t = behind_one starts (item.Open r n w k) js p exits t (items_open_and_close starts js _ exits t)
-items_open_and_close starts (item.Alias r n ty w s ∷ js) p exits t = behind_one starts (item.Alias r n ty w s) js p exits t (items_open_and_close starts js _ exits t)
-items_open_and_close starts (item.DynamicRegion w r n ∷ js) p exits t = behind_one starts (item.DynamicRegion w r n) js p exits t (items_open_and_close starts js _ exits t)
+items_open_and_close starts (item.Execute s ∷ js) p exits t = after_one starts (item.Execute s) js p exits t (items_open_and_close starts js _ exits t)
+items_open_and_close starts (item.Local w n ty v ∷ js) p exits t = after_one starts (item.Local w n ty v) js p exits t (items_open_and_close starts js _ exits t)
+items_open_and_close starts (item.Open r n w k ∷ js) p exits t = after_one starts (item.Open r n w k) js p exits t (items_open_and_close starts js _ exits t)
+items_open_and_close starts (item.Alias r n ty w s ∷ js) p exits t = after_one starts (item.Alias r n ty w s) js p exits t (items_open_and_close starts js _ exits t)
+items_open_and_close starts (item.DynamicRegion w r n ∷ js) p exits t = after_one starts (item.DynamicRegion w r n) js p exits t (items_open_and_close starts js _ exits t)
 
--- the newest region is the first that is closed
+-- the newest region is closed first
 closed_first : (many t : ℕ) → closed_items (suc many) t ≡ closed_code (t + many) ++ closed_items many t
 closed_first zero t = let e : t + 0 ≡ t = omega arith in sym (append-nil _ ∙ ap closed_code e)
 closed_first (suc many) t =
@@ -81,13 +82,13 @@ closed_first (suc many) t =
     ∙ append_assoc (closed_code (t + 1 + many)) (closed_items many (t + 1)) (closed_code t)
     ∙ ap (λ (n : ℕ). closed_code n ++ closed_items (suc many) t) e
 
--- The items of a block that are made so far, with those that are still to come: the ways out and the first slot for temporaries are those
--- behind them, and there is room for what the others keep.
-abbrev pub ItemsRemain : Starts → (old : List Instruction) → List ItemCode → (first : Exits) → (free i : ℕ) → (code : List Instruction) → (inside : Exits) → (behind : ℕ) → Type 0
-ItemsRemain starts old js first free i code inside behind =
-    Remains (opened_items starts) old js (first, free) i code (inside, behind)
-    × (behind + regions_in (drop i js) ≡ free + regions_in js)
-    × (behind + kept_by_items (items_of (drop i js)) ≤ most_locals)
+-- The code so far equals the whole when extended by the remaining items of the block. The exits and the first slot for temporaries are
+-- those of the next item, and there is room for the values that the others keep.
+abbrev pub ItemsRemain : Starts → (old : List Instruction) → List ItemCode → (first : Exits) → (free i : ℕ) → (code : List Instruction) → (inside : Exits) → (following : ℕ) → Type 0
+ItemsRemain starts old js first free i code inside following =
+    Remains (opened_items starts) old js (first, free) i code (inside, following)
+    × (following + regions_in (drop i js) ≡ free + regions_in js)
+    × (following + kept_by_items (items_of (drop i js)) ≤ most_locals)
     × (inside.head ≤ length code)
 
 items_kept : (j : ItemCode) (js : List ItemCode) → kept_by_items (items_of (j ∷ js)) ≡ kept_by_item j + kept_by_items (items_of js)
@@ -95,54 +96,54 @@ items_kept (item.Execute s) js = refl
 items_kept (item.Region w r n) js = refl
 items_kept j js = omega arith
 
--- a region takes a slot for its mark
-one_region : (j : ItemCode) (js : List ItemCode) (t : ℕ) → free_behind j t + regions_in js ≡ t + regions_in (j ∷ js)
+-- a region takes one slot for its mark
+one_region : (j : ItemCode) (js : List ItemCode) (t : ℕ) → free_after j t + regions_in js ≡ t + regions_in (j ∷ js)
 one_region (item.Region w r n) js t = omega arith
 one_region j js t = refl
 
-region_kept : (j : ItemCode) (t : ℕ) → free_behind j t ≤ t + kept_by_item j
+region_kept : (j : ItemCode) (t : ℕ) → free_after j t ≤ t + kept_by_item j
 region_kept (item.Region w r n) t = omega arith
 region_kept j t = omega arith
 
-same_head : (j : ItemCode) (exits : Exits) (t : ℕ) → (exits_behind j exits t).head ≡ exits.head
+same_head : (j : ItemCode) (exits : Exits) (t : ℕ) → (exits_after j exits t).head ≡ exits.head
 same_head (item.Region w r n) exits t = refl
 same_head j exits t = refl
 
-module _ (starts : Starts) (old : List Instruction) (js : List ItemCode) (first : Exits) (free i : ℕ) (code : List Instruction) (inside : Exits) (behind : ℕ) where
-  pub item_room : (x : ItemCode) → i < length js → x ≡ get_or js i x → ItemsRemain starts old js first free i code inside behind → behind + kept_by_item x ≤ most_locals
+module _ (starts : Starts) (old : List Instruction) (js : List ItemCode) (first : Exits) (free i : ℕ) (code : List Instruction) (inside : Exits) (following : ℕ) where
+  pub item_room : (x : ItemCode) → i < length js → x ≡ get_or js i x → ItemsRemain starts old js first free i code inside following → following + kept_by_item x ≤ most_locals
   item_room x within at (made, regions, kept, begun) =
       let here : drop i js ≡ x ∷ drop (i + 1) js = drop_more js i x within ∙ ap (λ (y : ItemCode). y ∷ drop (i + 1) js) (sym at) in
       let all = ap (λ (l : List ItemCode). kept_by_items (items_of l)) here ∙ items_kept x (drop (i + 1) js) in
       omega (arith, kept, all)
 
-  pub more_items : (x : ItemCode) (new : List Instruction) (exits : Exits) (t : ℕ) → i < length js → x ≡ get_or js i x → new ≡ code ++ item_code starts x (length code) inside behind
-      → exits ≡ exits_behind x inside behind → t ≡ free_behind x behind → ItemsRemain starts old js first free i code inside behind → ItemsRemain starts old js first free (i + 1) new exits t
+  pub more_items : (x : ItemCode) (new : List Instruction) (exits : Exits) (t : ℕ) → i < length js → x ≡ get_or js i x → new ≡ code ++ item_code starts x (length code) inside following
+      → exits ≡ exits_after x inside following → t ≡ free_after x following → ItemsRemain starts old js first free i code inside following → ItemsRemain starts old js first free (i + 1) new exits t
   more_items x new exits t within at is exits_is t_is (made, regions, kept, begun) =
       let rest = drop (i + 1) js in
       let here : drop i js ≡ x ∷ rest = drop_more js i x within ∙ ap (λ (y : ItemCode). y ∷ rest) (sym at) in
       let all = ap (λ (l : List ItemCode). kept_by_items (items_of l)) here ∙ items_kept x rest in
       let opens = ap regions_in here in
       let longer = no_shorter_than code _ new is in
-      let head = ap (λ (e : Exits). e.head) exits_is ∙ same_head x inside behind in (
+      let head = ap (λ (e : Exits). e.head) exits_is ∙ same_head x inside following in (
         ap (λ (e : Exits). new ++ opened_items starts rest (length new) (e, t)) exits_is
-            ∙ ap (λ (n : ℕ). new ++ opened_items starts rest (length new) (exits_behind x inside behind, n)) t_is
-            ∙ goes_on_by (opened_items starts) (one_item starts) next_item (λ j l p s. refl) old js (first, free) i code new (inside, behind) x within at is made,
-        omega (arith, regions, opens, one_region x rest behind, t_is),
-        omega (arith, kept, all, region_kept x behind, t_is),
+            ∙ ap (λ (n : ℕ). new ++ opened_items starts rest (length new) (exits_after x inside following, n)) t_is
+            ∙ goes_on_by (opened_items starts) (one_item starts) next_item (λ j l p s. refl) old js (first, free) i code new (inside, following) x within at is made,
+        omega (arith, regions, opens, one_region x rest following, t_is),
+        omega (arith, kept, all, region_kept x following, t_is),
         omega (arith, begun, longer, head),
       )
 
--- the regions from slot `behind` down to slot `free` are still to be closed, and then all is made
-abbrev pub ClosesLeft : (whole code : List Instruction) → (free behind : ℕ) → Type 0
-ClosesLeft whole code free behind = (many : ℕ) × (behind ≡ free + many) × (code ++ closed_items many free ≡ whole)
+-- the code equals the whole when extended by the closing of the regions from slot `following` down to slot `free`
+abbrev pub ClosesLeft : (whole code : List Instruction) → (free following : ℕ) → Type 0
+ClosesLeft whole code free following = (many : ℕ) × (following ≡ free + many) × (code ++ closed_items many free ≡ whole)
 
-pub closes_begin : (starts : Starts) (old : List Instruction) (js : List ItemCode) (first : Exits) (free i : ℕ) (code : List Instruction) (inside : Exits) (behind : ℕ) → length js ≤ i
-    → ItemsRemain starts old js first free i code inside behind → ClosesLeft (old ++ items_code starts (items_of js) (length old) first free) code free behind
-closes_begin starts old js first free i code inside behind done (made, regions, kept, begun) =
+pub closes_begin : (starts : Starts) (old : List Instruction) (js : List ItemCode) (first : Exits) (free i : ℕ) (code : List Instruction) (inside : Exits) (following : ℕ) → length js ≤ i
+    → ItemsRemain starts old js first free i code inside following → ClosesLeft (old ++ items_code starts (items_of js) (length old) first free) code free following
+closes_begin starts old js first free i code inside following done (made, regions, kept, begun) =
     let none = drop_all i js done in
     let front = opened_items starts js (length old) (first, free) in
     let whole : code ≡ old ++ front
-    = sym (append-nil code) ∙ ap (λ (l : List ItemCode). code ++ opened_items starts l (length code) (inside, behind)) (sym none) ∙ made in (
+    = sym (append-nil code) ∙ ap (λ (l : List ItemCode). code ++ opened_items starts l (length code) (inside, following)) (sym none) ∙ made in (
       regions_in js,
       let e = ap regions_in none in omega (arith, regions, e),
       ap (λ (l : List Instruction). l ++ closed_items (regions_in js) free) whole
@@ -150,9 +151,9 @@ closes_begin starts old js first free i code inside behind done (made, regions, 
           ∙ ap (λ (l : List Instruction). old ++ l) (sym (items_open_and_close starts js (length old) first free)),
     )
 
-pub closes_next : (whole code new : List Instruction) (free behind next : ℕ) → free < behind → next ≡ behind - 1 → new ≡ code ++ closed_code next → ClosesLeft whole code free behind → ClosesLeft whole new free next
-closes_next whole code new free behind next more next_is is (zero, many_is, made) = absurd (omega (arith, more, many_is))
-closes_next whole code new free behind next more next_is is (suc many, many_is, made) =
+pub closes_next : (whole code new : List Instruction) (free following next : ℕ) → free < following → next ≡ following - 1 → new ≡ code ++ closed_code next → ClosesLeft whole code free following → ClosesLeft whole new free next
+closes_next whole code new free following next more next_is is (zero, many_is, made) = absurd (omega (arith, more, many_is))
+closes_next whole code new free following next more next_is is (suc many, many_is, made) =
     let e : next ≡ free + many = omega (arith, next_is, many_is) in (
       many,
       e,
@@ -162,9 +163,9 @@ closes_next whole code new free behind next more next_is is (suc many, many_is, 
           ∙ made,
     )
 
-pub closes_end : (whole code : List Instruction) (free behind : ℕ) → behind ≤ free → ClosesLeft whole code free behind → code ≡ whole
-closes_end whole code free behind done (zero, many_is, made) = sym (append-nil code) ∙ made
-closes_end whole code free behind done (suc many, many_is, made) = absurd (omega (arith, done, many_is))
+pub closes_end : (whole code : List Instruction) (free following : ℕ) → following ≤ free → ClosesLeft whole code free following → code ≡ whole
+closes_end whole code free following done (zero, many_is, made) = sym (append-nil code) ∙ made
+closes_end whole code free following done (suc many, many_is, made) = absurd (omega (arith, done, many_is))
 
 module _ (starts : Starts) (value : Stmt) (region : ℕ) (v : Vec ItemCode Heap) (is : value ≡ stmt.Block region v) (items : List ItemCode) (same : items ≡ v.items) (old new : List Instruction) (exits : Exits) (d : ℕ) where
   pub made_block : new ≡ old ++ items_code starts (items_of items) (length old) exits d → new ≡ old ++ statement_code starts (view_statement value) (length old) exits d
@@ -175,8 +176,8 @@ module _ (starts : Starts) (value : Stmt) (region : ℕ) (v : Vec ItemCode Heap)
 
 -- ---- branches
 
--- Behind a condition stand two pieces, each behind a jump whose target is written back. The first jump goes behind the second, and what leads
--- out of the midst of the condition goes there too.
+-- A condition followed by two pieces, each after a jump whose target is set later. The first jump and the inner jumps of the condition lead
+-- to the second piece.
 module _ (old : List Instruction) (condition : ℕ → List Instruction) (aim : ℕ → List Instruction → List Instruction) (aims : (rest : List Instruction) (target : ℕ) → aim target (old ++ (condition 0 ++ rest)) ≡ old ++ (condition target ++ rest)) (same : (target : ℕ) → length (condition target) ≡ length (condition 0)) (x y : Instruction) (first second : ℕ → List Instruction) (over : ℕ → Instruction) (out : ℕ → Instruction) (m0 m1 m2 m3 m4 m5 m6 : List Instruction) where
   pub branched : m0 ≡ old ++ condition 0 → m1 ≡ m0 ++ x ∷ [] → m2 ≡ m1 ++ first (length m1) → m3 ≡ m2 ++ y ∷ [] → m4 ≡ aim (length m3) (set m3 (length m0) (over (length m3)))
       → m5 ≡ m4 ++ second (length m4) → m6 ≡ set m5 (length m2) (out (length m5)) → (p : ℕ) → p ≡ length old + length (condition 0) + 1 → (q : ℕ) → q ≡ p + length (first p) + 1
@@ -216,7 +217,7 @@ nothing_is : (s : Statement) → is_nothing s ≡ true → s ≡ Empty
 nothing_is Empty is = refl
 nothing_is s is = absurd (let f : false ≡ true = is in cc)
 
--- a branch of which nothing stands behind `else`
+-- a branch without an `else` part
 module _ (starts : Starts) (a : Expression) (s : Statement) (exits : Exits) (d : ℕ) (o : Condition) (early : List Pending) (o_is : o ≡ branch_of starts logical.AndThen a d) (old : List Instruction) (aims : Aims early (λ other. branch_code starts logical.AndThen a other (length old) d) (length old)) (x : Instruction) (m0 m1 m2 m3 : List Instruction) (over : ℕ) where
   pub made_then : m0 ≡ old ++ branch_code starts logical.AndThen a 0 (length old) d → over ≡ length m0 → m1 ≡ m0 ++ x ∷ [] → m2 ≡ m1 ++ statement_code starts s (length m1) exits d → m3 ≡ failed early (length m2) (set m2 over (failing_jump o (length m2)))
       → m3 ≡ old ++ then_code starts a s (length old) exits d

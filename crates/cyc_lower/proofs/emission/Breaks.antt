@@ -1,4 +1,4 @@
--- Whether a loop's body has a `break` that leaves it, found item by item.
+-- The search for a `break` that leaves the body of a loop, item by item.
 use Rattle.std.proofs.Common.{◌≡◌, ℕ, Bool, true, false, List, [], ◌∷◌, drop, Option, refl, sym, ap, ◌∙◌}
 use Rattle.std.specs.Prelude.{◌||◌}
 use Rattle.cyc_words.proofs.Booleans.{or_assoc}
@@ -13,7 +13,7 @@ use Rattle.cyc_types.specs.declared.typed.Body.{Body}
 use Rattle.cyc_types.specs.TypedTrees.{Clauses, NoClauses}
 use Rattle.cyc_types.specs.TypedTreeView.{view_statement, items_of, clauses_of, default_of}
 use Rattle.cyc_types.proofs.TypedTreeViewLemmas.{view_block, view_typed_try}
-use Rattle.cyc_lower.specs.inside.ControlCode.{breaks, items_break, clauses_break}
+use Rattle.cyc_lower_proof.specs.inside.ControlCode.{breaks, items_break, clauses_break}
 
 -- ---- the items of a block
 

@@ -1,22 +1,22 @@
--- The code that brings values to the cells of an object, as far as it is made.
+-- The code that moves values to the cells of an object, in a loop that is not finished.
 use Rattle.std.proofs.Common.{◌≡◌, ℕ, zero, suc, ◌+◌, ◌*◌, ◌<◌, ◌≤◌, List, [], ◌∷◌, ◌++◌, length, get_or, drop, refl, sym, ap, ◌∙◌, arith, append_assoc, append-nil}
 use Rattle.std.proofs.lemmas.List.{drop_more}
 use Rattle.cyc_types.specs.declared.typed.Kind.{Kind}
 use Rattle.cyc_types.specs.declared.typed.Converted.{Converted as ConvertedCode}
 use Rattle.cyc_types.specs.TypedTreeView.{arguments_of}
-use Rattle.cyc_meaning.specs.Values.{words_of_kind, bytes_of_kind, begins, behind, bytes_from}
-use Rattle.cyc_objects.proofs.Places.{bytes-least}
+use Rattle.cyc_meaning.specs.Values.{words_of_kind, bytes_of_kind, begins, following, bytes_from}
+use Rattle.cyc_memory_relation.proofs.Places.{bytes-least}
 use Rattle.cyc_plain.specs.declared.instruction.Operand.TheVariants as operands
 use Rattle.cyc_plain.specs.declared.instruction.Instruction.{Instruction}
-use Rattle.cyc_lower.specs.inside.Slots.{begins_word}
-use Rattle.cyc_lower.specs.inside.ValueCode.{store_of, kinds_passed}
-use Rattle.cyc_lower.specs.inside.ObjectCode.{stores_code, cells_code, slots_of_kinds}
-use Rattle.cyc_lower.proofs.slots.CellBytes.{begins_is}
+use Rattle.cyc_lower_proof.specs.inside.Slots.{begins_word}
+use Rattle.cyc_lower_proof.specs.inside.ValueCode.{store_of, kinds_passed}
+use Rattle.cyc_lower_proof.specs.inside.ObjectCode.{stores_code, cells_code, slots_of_kinds}
+use Rattle.cyc_lower_proof.proofs.slots.CellBytes.{begins_is}
 use Rattle.cyc_lower.proofs.emission.Emitting.{Remains, goes_on_by}
 
 -- ---- one cell
 
--- words that come to memory one after the other: from the word of this number on they are left
+-- the code so far equals the whole when extended by the stores of the words from this number on
 abbrev pub StoresLeft : (old code : List Instruction) → Kind → (many address offset first i : ℕ) → Type 0
 StoresLeft old code kind many address offset first i =
     (left : ℕ) × (i + left ≡ many) × (code ++ stores_code kind left address (offset + 4 * i) (first + i) ≡ old ++ stores_code kind many address offset first)
@@ -56,42 +56,42 @@ stores_end old code kind many address offset first i done (suc left, count, made
 next_kind : (ks : List Kind) (i : ℕ) (kind : Kind) → i < length ks → kind ≡ get_or ks i kind → drop i ks ≡ kind ∷ drop (i + 1) ks
 next_kind ks i kind inside at = drop_more ks i kind inside ∙ ap (λ (k : Kind). k ∷ drop (i + 1) ks) (sym at)
 
--- an item that is there is the same whatever is found where there is none
+-- an existing item is found whatever the default is
 pub same_item : (ks : List Kind) (i : ℕ) (other : Kind) → i < length ks → get_or ks i other ≡ get_or ks i (get_or ks i other)
 same_item ks i other inside =
     let kind : Kind = get_or ks i other in
     let e : get_or ks i other ∷ drop (i + 1) ks ≡ get_or ks i kind ∷ drop (i + 1) ks = sym (drop_more ks i other inside) ∙ drop_more ks i kind inside in
     cc
 
--- those that fields are passed with
+-- the kinds so far, extended by the kinds of the remaining fields, are all kinds
 abbrev pub KindsLeft : List ConvertedCode → (i : ℕ) → List Kind → Type 0
 KindsLeft cs i ks = ks ++ kinds_passed (arguments_of (drop i cs)) ≡ kinds_passed (arguments_of cs)
 
--- the bytes of cells, of which those from one on are left; an object has no more than a block
+-- the bytes so far and those of the remaining cells are the bytes of the object, which has at most as many words as a block
 abbrev pub BytesLeft : List Kind → (i bytes : ℕ) → Type 0
 BytesLeft ks i bytes = bytes_from bytes (drop i ks) ≡ bytes_from 0 ks
 
 pub bytes_next : (ks : List Kind) (i bytes begin new : ℕ) (kind : Kind) → i < length ks → kind ≡ get_or ks i kind → bytes_from 0 ks ≤ 4000
     → begin ≡ begins_word kind bytes → new ≡ begin + bytes_of_kind kind → BytesLeft ks i bytes
-    → (begin ≡ begins kind bytes) × (new ≡ behind kind bytes) × BytesLeft ks (i + 1) new
+    → (begin ≡ begins kind bytes) × (new ≡ following kind bytes) × BytesLeft ks (i + 1) new
 bytes_next ks i bytes begin new kind inside at few begin_is new_is left =
     let rest = drop (i + 1) ks in
-    let all : bytes_from (behind kind bytes) rest ≡ bytes_from 0 ks = ap (bytes_from bytes) (sym (next_kind ks i kind inside at)) ∙ left in
-    let least : behind kind bytes ≤ bytes_from (behind kind bytes) rest = bytes-least (behind kind bytes) rest in
+    let all : bytes_from (following kind bytes) rest ≡ bytes_from 0 ks = ap (bytes_from bytes) (sym (next_kind ks i kind inside at)) ∙ left in
+    let least : following kind bytes ≤ bytes_from (following kind bytes) rest = bytes-least (following kind bytes) rest in
     let there : begin ≡ begins kind bytes = begin_is ∙ begins_is kind bytes (omega (arith, all, least, few)) in
-    let next : new ≡ behind kind bytes = omega (arith, new_is, there) in
+    let next : new ≡ following kind bytes = omega (arith, new_is, there) in
     (there, next, ap (λ (n : ℕ). bytes_from n rest) next ∙ all)
 
--- so they do not wrap
+-- the sums of these numbers of bytes do not overflow
 pub bytes_low : (ks : List Kind) (i bytes : ℕ) (kind : Kind) → i < length ks → kind ≡ get_or ks i kind → bytes_from 0 ks ≤ 4000 → BytesLeft ks i bytes
     → begins_word kind bytes + bytes_of_kind kind ≤ 4000
 bytes_low ks i bytes kind inside at few left =
     let rest = drop (i + 1) ks in
-    let all : bytes_from (behind kind bytes) rest ≡ bytes_from 0 ks = ap (bytes_from bytes) (sym (next_kind ks i kind inside at)) ∙ left in
-    let least : behind kind bytes ≤ bytes_from (behind kind bytes) rest = bytes-least (behind kind bytes) rest in
+    let all : bytes_from (following kind bytes) rest ≡ bytes_from 0 ks = ap (bytes_from bytes) (sym (next_kind ks i kind inside at)) ∙ left in
+    let least : following kind bytes ≤ bytes_from (following kind bytes) rest = bytes-least (following kind bytes) rest in
     omega (arith, all, least, few, begins_is kind bytes (omega (arith, all, least, few)))
 
--- the slots of their values
+-- the slots so far and those of the remaining values are the slots of all values
 abbrev pub SlotsLeft : List Kind → (first i slot : ℕ) → Type 0
 SlotsLeft ks first i slot = slot + slots_of_kinds (drop i ks) ≡ first + slots_of_kinds ks
 
@@ -103,7 +103,7 @@ slots_next ks first i slot kind inside at left =
 
 -- ---- several cells
 
--- the state is how many bytes are before the next cell, and the slot of its value
+-- the code of all cells; the state is the number of bytes before the next cell, and the slot of its value
 abbrev pub all_cells : (address : ℕ) → List Kind → ℕ → ℕ × ℕ → List Instruction
 all_cells address ks p s = cells_code ks address s.0 s.1
 
@@ -111,13 +111,13 @@ abbrev pub one_cell : (address : ℕ) → Kind → List Kind → ℕ → ℕ × 
 one_cell address kind ks p s = stores_code kind (words_of_kind kind) address (begins kind s.0) s.1
 
 abbrev pub next_cell : Kind → List Kind → ℕ × ℕ → ℕ × ℕ
-next_cell kind ks s = (behind kind s.0, s.1 + words_of_kind kind)
+next_cell kind ks s = (following kind s.0, s.1 + words_of_kind kind)
 
 abbrev pub CellsLeft : (old : List Instruction) → List Kind → (address first i : ℕ) → (code : List Instruction) → (bytes slot : ℕ) → Type 0
 CellsLeft old ks address first i code bytes slot = Remains (all_cells address) old ks (0, first) i code (bytes, slot)
 
 pub cells_next : (old : List Instruction) (ks : List Kind) (address first i : ℕ) (code new : List Instruction) (bytes begin next slot : ℕ) (kind : Kind)
-    → i < length ks → kind ≡ get_or ks i kind → begin ≡ begins kind bytes → next ≡ behind kind bytes
+    → i < length ks → kind ≡ get_or ks i kind → begin ≡ begins kind bytes → next ≡ following kind bytes
     → new ≡ code ++ stores_code kind (words_of_kind kind) address begin slot → CellsLeft old ks address first i code bytes slot
     → CellsLeft old ks address first (i + 1) new next (slot + words_of_kind kind)
 cells_next old ks address first i code new bytes begin next slot kind inside at begin_is next_is added left =

@@ -1,4 +1,4 @@
--- Code of conditions that is made piece by piece.
+-- Code of conditions that is emitted piece by piece.
 use Rattle.std.proofs.Common.{◌≡◌, ℕ, suc, ◌+◌, ◌≤◌, ◌<◌, Bool, true, false, drop, set, get_or, length-append, append_assoc, List, [], ◌∷◌, ◌++◌, length, Option, None, Some, slice_get, refl, sym, ap, subst, ◌∙◌, arith, append-nil}
 use Rattle.std.proofs.lemmas.Option.{same_Some, none-some}
 use Rattle.std.proofs.lemmas.List.{drop_all, drop_more, length-set}
@@ -22,17 +22,17 @@ use Rattle.cyc_types.specs.TypedTreeView.{view_expression, operations_of}
 use Rattle.cyc_plain.specs.declared.instruction.Comparison.{Comparison}
 use Rattle.cyc_plain.specs.declared.instruction.Operand.{Operand}
 use Rattle.cyc_plain.specs.declared.instruction.Instruction.{Instruction}
-use Rattle.cyc_lower.specs.declared.operands.Condition.{Condition}
+use Rattle.cyc_lower_proof.specs.declared.condition.Condition.{Condition}
 use Rattle.cyc_lower.specs.declared.conditions.Pending.{Pending}
 use Rattle.cyc_lower.specs.declared.conditions.Tested.{Tested}
-use Rattle.cyc_lower.specs.inside.Slots.{Starts}
-use Rattle.cyc_lower.specs.inside.ControlCode.{Compared, with_zero, compared_or, compared_of, is_same, deciding_condition, deciding_jump, failing_jump, turned_test, all_test, are_tests, nulled_or, pointers_failing}
-use Rattle.cyc_lower.specs.inside.ExpressionCode.{value_operand}
-use Rattle.cyc_lower.specs.inside.Lowering.{first_operand, first_code, second_code, pair_code, condition_code, condition_of, others_code, last_condition, tests_code, behind_tests, choice_code, choice_of, branch_code, branch_of, compares_light}
+use Rattle.cyc_lower_proof.specs.inside.Slots.{Starts}
+use Rattle.cyc_lower_proof.specs.inside.ControlCode.{Compared, with_zero, compared_or, compared_of, is_same, deciding_condition, deciding_jump, failing_jump, turned_test, all_test, are_tests, nulled_or, pointers_failing}
+use Rattle.cyc_lower_proof.specs.inside.ExpressionCode.{value_operand}
+use Rattle.cyc_lower_proof.specs.inside.Lowering.{first_operand, first_code, second_code, pair_code, condition_code, condition_of, others_code, last_condition, tests_code, after_tests, choice_code, choice_of, branch_code, branch_of, compares_light}
 use Rattle.cyc_lower.specs.inside.Emission.{most_locals, failed, AreBefore, early_jumps, Aims, IsTested, IsEarly, IsBranch, IsSettled, other_code, other_condition, value_code, zero_condition, null_condition, pair_condition, null_operation, pair_operation, right_of}
 use Rattle.cyc_lower.proofs.emission.Emitting.{emitted_joined, Lowers, Remains, goes_on, all_made, no_shorter_than}
 
--- ---- chains that are tested whole
+-- ---- chains that are tested as a whole
 
 pub not_single : (first : Expression) (os : List Operation) (ty : Ty) → (length os ≡ 1 → ⊥) → compared_of (Binary first (operations_of os) ty) ≡ with_zero (Binary first (operations_of os) ty)
 not_single first [] ty many = refl
@@ -53,7 +53,7 @@ not_single first (operation.Compute w o e ∷ operation.Test u x ∷ os) ty many
 not_single first (operation.Compute w o e ∷ operation.Pointer u x ∷ os) ty many = refl
 not_single first (operation.Compute w o e ∷ operation.PointerPeek u n x ∷ os) ty many = refl
 
--- one that is not compares nothing
+-- a chain of several operators is not a single comparison
 pub compares_alone : (starts : Starts) (first : Expression) (os : List Operation) → (length os ≡ 1 → ⊥) → compares_light starts first (operations_of os) ≡ false
 compares_alone starts first [] many = refl
 compares_alone starts first (operation.Test o e ∷ os) many = refl
@@ -65,10 +65,10 @@ compares_alone starts first (operation.Compute w o e ∷ operation.Test u x ∷ 
 compares_alone starts first (operation.Compute w o e ∷ operation.Pointer u x ∷ os) many = refl
 compares_alone starts first (operation.Compute w o e ∷ operation.PointerPeek u n x ∷ os) many = refl
 
--- ---- locals that have these first slots
+-- ---- the first slots of locals
 
 module _ (starts : Starts) where
-  -- what is made of a condition, and answered
+  -- true if the code of a condition is emitted, and the condition is returned
   abbrev IsMade : (whole : Expression) → (answer : Condition) → (old new : List Instruction) → (t : ℕ) → Type 0
   IsMade whole answer old new t = (answer ≡ condition_of starts whole t) × (new ≡ old ++ condition_code starts whole (length old) t)
 
@@ -83,7 +83,7 @@ module _ (starts : Starts) where
         ∙ sym (ap (λ (x : Compared). old ++ pair_code starts x.left x.right (length old) t) is),
   )
 
-  -- a pointer that is compared with null, by the only operator of a chain
+  -- a pointer is compared with null by the only operator of a chain
   made_nulled : (whole a : Expression) (failing : Comparison) (answer : Condition) (old new : List Instruction) (t : ℕ) → compared_of whole ≡ record { failing = failing; left = a; right = Number 0 }
       → (answer ≡ null_condition starts failing a t) × (new ≡ old ++ value_code starts a (length old) t) → IsMade whole answer old new t
   made_nulled whole a failing answer old new t is (answers, made) = (
@@ -111,7 +111,7 @@ module _ (starts : Starts) where
       subst (λ (w : Expression). IsMade w answer old new t) (sym chain)
       (made_nulled (Binary first (operations_of (y ∷ [])) ty) first failing answer old new t (null_chain first y ty failing here) made)
 
-  -- two operands that are compared by it
+  -- two operands are compared by the only operator of a chain
   pair_chain : (first : Expression) (x : Operation) (ty : Ty) (failing : Comparison) → null_operation x ≡ None → pair_operation x ≡ Some failing
       → compared_of (Binary first (operations_of (x ∷ [])) ty) ≡ record { failing = failing; left = first; right = right_of x }
   pair_chain first (operation.Compute w o e) ty failing none is =
@@ -143,12 +143,12 @@ module _ (starts : Starts) where
       subst (λ (w : Expression). IsMade w answer old new t) (sym (chain ∙ ap (λ (z : Operation). Binary first (operations_of (z ∷ [])) ty) (sym same)))
       (made_paired (Binary first (operations_of (x ∷ [])) ty) first (right_of x) failing answer old new t (pair_chain first x ty failing none is) made)
 
-  -- the operands of a pair, one behind the other
-  pub pair_made : (a b : Expression) (failing : Comparison) (l r : Operand) (old m1 m2 : List Instruction) (t behind : ℕ) → behind ≡ t + 1
-      → l ≡ first_operand starts a b t → m1 ≡ old ++ first_code starts a b (length old) t → r ≡ value_operand starts b behind → m2 ≡ m1 ++ value_code starts b (length m1) behind
+  -- the operands of a pair are emitted one after the other
+  pub pair_made : (a b : Expression) (failing : Comparison) (l r : Operand) (old m1 m2 : List Instruction) (t following : ℕ) → following ≡ t + 1
+      → l ≡ first_operand starts a b t → m1 ≡ old ++ first_code starts a b (length old) t → r ≡ value_operand starts b following → m2 ≡ m1 ++ value_code starts b (length m1) following
       → (record { failing = failing; left = l; right = r } ≡ pair_condition starts failing a b t) × (m2 ≡ old ++ pair_code starts a b (length old) t)
-  pair_made a b failing l r old m1 m2 t behind behind_is left made_left right made_right =
-      let next : behind ≡ suc t = omega (arith, behind_is) in
+  pair_made a b failing l r old m1 m2 t following following_is left made_left right made_right =
+      let next : following ≡ suc t = omega (arith, following_is) in
       let front = first_code starts a b (length old) t in (
         ap (λ (x : Operand). let k : Condition = record { failing = failing; left = x; right = r } in k) left
             ∙ ap (λ (x : Operand). let k : Condition = record { failing = failing; left = first_operand starts a b t; right = x } in k) (right ∙ ap (value_operand starts b) next),
@@ -158,106 +158,76 @@ module _ (starts : Starts) where
 -- ---- conditions with several operands
 
 module _ (starts : Starts) where
-  -- how long the code of the operands is does not depend on where they lead
-  others_same : (u : LogicalOperator) (os : Operations) (c : Condition) (x y p t : ℕ) → length (others_code starts u os c x p t) ≡ length (others_code starts u os c y p t)
-  others_same u NoOperations c x y p t = refl
-  others_same u (ThenTest o b os) c x y p t =
-      let operand = condition_code starts b (p + 1) t in
-      let q = p + suc (length operand) in
-      let first = others_code starts u os (condition_of starts b t) x q t in
-      let second = others_code starts u os (condition_of starts b t) y q t in
-      omega (arith, length-append (deciding_jump u c x ∷ operand) first, length-append (deciding_jump u c y ∷ operand) second, others_same u os (condition_of starts b t) x y q t)
-  others_same u (ThenCompute o b os) c x y p t = others_same u os c x y p t
-  others_same u (ThenPointer o b os) c x y p t = others_same u os c x y p t
-  others_same u (ThenPointerPeek n o b os) c x y p t = others_same u os c x y p t
+  -- the operands after the first one; the state is the condition of the previous operand
+  abbrev pub all_others : LogicalOperator → (following t : ℕ) → List Operation → ℕ → Condition → List Instruction
+  all_others u following t os p c = others_code starts u (operations_of os) c following p t
 
-  pub tests_same : (u : LogicalOperator) (a : Expression) (os : Operations) (x y p t : ℕ) → length (tests_code starts u a os x p t) ≡ length (tests_code starts u a os y p t)
-  tests_same u a os x y p t =
-      let first = condition_code starts a p t in
-      let q = p + length first in
-      let c = condition_of starts a t in
-      omega (arith, length-append first (others_code starts u os c x q t), length-append first (others_code starts u os c y q t), others_same u os c x y q t)
-
-  pub branch_same : (u : LogicalOperator) (a : Expression) (x y p t : ℕ) → length (branch_code starts u a x p t) ≡ length (branch_code starts u a y p t)
-  branch_same u (Unary unary.Not a) x y p t = branch_same (turned_test u) a x y p t
-  branch_same u (Binary a os ty) x y p t = by (are_tests u os)
-    where
-      by : (tests : Bool) → length (if tests then tests_code starts u a os x p t else choice_code starts (turned_test u) (Binary a os ty) p t)
-          ≡ length (if tests then tests_code starts u a os y p t else choice_code starts (turned_test u) (Binary a os ty) p t)
-      by true = tests_same u a os x y p t
-      by false = refl
-  branch_same u a x y p t = refl
-
-  -- the operands behind the first, where the state is the condition that is made of the one before
-  abbrev pub all_others : LogicalOperator → (behind t : ℕ) → List Operation → ℕ → Condition → List Instruction
-  all_others u behind t os p c = others_code starts u (operations_of os) c behind p t
-
-  abbrev pub one_other : LogicalOperator → (behind t : ℕ) → Operation → List Operation → ℕ → Condition → List Instruction
-  one_other u behind t o os p c = other_code starts u o c behind p t
+  abbrev pub one_other : LogicalOperator → (following t : ℕ) → Operation → List Operation → ℕ → Condition → List Instruction
+  one_other u following t o os p c = other_code starts u o c following p t
 
   abbrev pub next_other : (t : ℕ) → Operation → List Operation → Condition → Condition
   next_other t o os c = other_condition starts o c t
 
-  other_more : (u : LogicalOperator) (behind t : ℕ) (o : Operation) (os : List Operation) (p : ℕ) (c : Condition)
-      → all_others u behind t (o ∷ os) p c ≡ one_other u behind t o os p c ++ all_others u behind t os (p + length (one_other u behind t o os p c)) (next_other t o os c)
-  other_more u behind t (operation.Test o e) os p c = refl
-  other_more u behind t (operation.Compute w o e) os p c = ap (λ (n : ℕ). all_others u behind t os n c) (let z : p ≡ p + 0 = omega arith in z)
-  other_more u behind t (operation.Pointer o e) os p c = ap (λ (n : ℕ). all_others u behind t os n c) (let z : p ≡ p + 0 = omega arith in z)
-  other_more u behind t (operation.PointerPeek n o e) os p c = ap (λ (n : ℕ). all_others u behind t os n c) (let z : p ≡ p + 0 = omega arith in z)
+  other_more : (u : LogicalOperator) (following t : ℕ) (o : Operation) (os : List Operation) (p : ℕ) (c : Condition)
+      → all_others u following t (o ∷ os) p c ≡ one_other u following t o os p c ++ all_others u following t os (p + length (one_other u following t o os p c)) (next_other t o os c)
+  other_more u following t (operation.Test o e) os p c = refl
+  other_more u following t (operation.Compute w o e) os p c = ap (λ (n : ℕ). all_others u following t os n c) (let z : p ≡ p + 0 = omega arith in z)
+  other_more u following t (operation.Pointer o e) os p c = ap (λ (n : ℕ). all_others u following t os n c) (let z : p ≡ p + 0 = omega arith in z)
+  other_more u following t (operation.PointerPeek n o e) os p c = ap (λ (n : ℕ). all_others u following t os n c) (let z : p ≡ p + 0 = omega arith in z)
 
-  pub others_lower : (u : LogicalOperator) (behind t : ℕ) → Lowers (all_others u behind t) (one_other u behind t) (next_other t)
-  others_lower u behind t = record { none = λ p c. refl; more = other_more u behind t }
+  pub others_lower : (u : LogicalOperator) (following t : ℕ) → Lowers (all_others u following t) (one_other u following t) (next_other t)
+  others_lower u following t = record { none = λ p c. refl; more = other_more u following t }
 
-  -- the operands that are made so far, and the condition of the last of them
-  abbrev pub OthersRemain : LogicalOperator → Expression → List Operation → (behind t : ℕ) → (old : List Instruction) → (i : ℕ) → (code : List Instruction) → Condition → Type 0
-  OthersRemain u a os behind t old i code c =
-      Remains (all_others u behind t) (old ++ condition_code starts a (length old) t) os (condition_of starts a t) i code c
+  -- the operands so far have been emitted, and this is the condition of the last one
+  abbrev pub OthersRemain : LogicalOperator → Expression → List Operation → (following t : ℕ) → (old : List Instruction) → (i : ℕ) → (code : List Instruction) → Condition → Type 0
+  OthersRemain u a os following t old i code c =
+      Remains (all_others u following t) (old ++ condition_code starts a (length old) t) os (condition_of starts a t) i code c
       × (last_condition starts (operations_of (drop i os)) c t ≡ last_condition starts (operations_of os) (condition_of starts a t) t)
       × (t ≤ most_locals + length code)
 
-  pub others_begin : (u : LogicalOperator) (a : Expression) (os : List Operation) (behind t : ℕ) (old code : List Instruction) (c : Condition) → t ≤ most_locals + length old
-      → c ≡ condition_of starts a t → code ≡ old ++ condition_code starts a (length old) t → OthersRemain u a os behind t old 0 code c
-  others_begin u a os behind t old code c low is made = (
-    ap (λ (l : List Instruction). l ++ all_others u behind t os (length l) c) made ∙ ap (λ (x : Condition). (old ++ condition_code starts a (length old) t) ++ all_others u behind t os (length (old ++ condition_code starts a (length old) t)) x) is,
+  pub others_begin : (u : LogicalOperator) (a : Expression) (os : List Operation) (following t : ℕ) (old code : List Instruction) (c : Condition) → t ≤ most_locals + length old
+      → c ≡ condition_of starts a t → code ≡ old ++ condition_code starts a (length old) t → OthersRemain u a os following t old 0 code c
+  others_begin u a os following t old code c low is made = (
+    ap (λ (l : List Instruction). l ++ all_others u following t os (length l) c) made ∙ ap (λ (x : Condition). (old ++ condition_code starts a (length old) t) ++ all_others u following t os (length (old ++ condition_code starts a (length old) t)) x) is,
     ap (λ (x : Condition). last_condition starts (operations_of os) x t) is,
     omega (arith, low, no_shorter_than old _ code made),
   )
 
-  -- the condition of the last one stays where no test is passed over
+  -- the condition of the last operand is unchanged if no test is skipped
   last_more : (o : Operation) (os : List Operation) (c : Condition) (t : ℕ) → last_condition starts (operations_of (o ∷ os)) c t ≡ last_condition starts (operations_of os) (next_other t o os c) t
   last_more (operation.Test o e) os c t = refl
   last_more (operation.Compute w o e) os c t = refl
   last_more (operation.Pointer o e) os c t = refl
   last_more (operation.PointerPeek n o e) os c t = refl
 
-  pub others_next : (u : LogicalOperator) (a : Expression) (os : List Operation) (behind t : ℕ) (old : List Instruction) (i : ℕ) (code new : List Instruction) (c d : Condition) (x : Operation) → i < length os → x ≡ get_or os i x
-      → new ≡ code ++ one_other u behind t x (drop (i + 1) os) (length code) c → d ≡ next_other t x (drop (i + 1) os) c → OthersRemain u a os behind t old i code c → OthersRemain u a os behind t old (i + 1) new d
-  others_next u a os behind t old i code new c d x inside at made is (remains, last, low) =
+  pub others_next : (u : LogicalOperator) (a : Expression) (os : List Operation) (following t : ℕ) (old : List Instruction) (i : ℕ) (code new : List Instruction) (c d : Condition) (x : Operation) → i < length os → x ≡ get_or os i x
+      → new ≡ code ++ one_other u following t x (drop (i + 1) os) (length code) c → d ≡ next_other t x (drop (i + 1) os) c → OthersRemain u a os following t old i code c → OthersRemain u a os following t old (i + 1) new d
+  others_next u a os following t old i code new c d x inside at made is (remains, last, low) =
       let rest = drop (i + 1) os in
       let here : drop i os ≡ x ∷ rest = drop_more os i x inside ∙ ap (λ (y : Operation). y ∷ rest) (sym at) in (
-        subst (λ (z : Condition). Remains (all_others u behind t) (old ++ condition_code starts a (length old) t) os (condition_of starts a t) (i + 1) new z) (sym is)
-            (goes_on (all_others u behind t) (one_other u behind t) (next_other t) (others_lower u behind t) (old ++ condition_code starts a (length old) t) os (condition_of starts a t) i code new c x inside at made remains),
+        subst (λ (z : Condition). Remains (all_others u following t) (old ++ condition_code starts a (length old) t) os (condition_of starts a t) (i + 1) new z) (sym is)
+            (goes_on (all_others u following t) (one_other u following t) (next_other t) (others_lower u following t) (old ++ condition_code starts a (length old) t) os (condition_of starts a t) i code new c x inside at made remains),
         ap (λ (z : Condition). last_condition starts (operations_of rest) z t) is ∙ sym (last_more x rest c t) ∙ sym (ap (λ (l : List Operation). last_condition starts (operations_of l) c t) here) ∙ last,
         omega (arith, low, no_shorter_than code _ new made),
       )
 
-  pub others_end : (u : LogicalOperator) (a : Expression) (os : List Operation) (behind t : ℕ) (old : List Instruction) (i : ℕ) (code : List Instruction) (c : Condition) → length os ≤ i → OthersRemain u a os behind t old i code c
-      → (c ≡ last_condition starts (operations_of os) (condition_of starts a t) t) × (code ≡ old ++ tests_code starts u a (operations_of os) behind (length old) t)
-  others_end u a os behind t old i code c done (remains, last, low) =
+  pub others_end : (u : LogicalOperator) (a : Expression) (os : List Operation) (following t : ℕ) (old : List Instruction) (i : ℕ) (code : List Instruction) (c : Condition) → length os ≤ i → OthersRemain u a os following t old i code c
+      → (c ≡ last_condition starts (operations_of os) (condition_of starts a t) t) × (code ≡ old ++ tests_code starts u a (operations_of os) following (length old) t)
+  others_end u a os following t old i code c done (remains, last, low) =
       let first = condition_code starts a (length old) t in (
         sym (ap (λ (l : List Operation). last_condition starts (operations_of l) c t) (drop_all i os done)) ∙ last,
-        all_made (all_others u behind t) (one_other u behind t) (next_other t) (others_lower u behind t) (old ++ first) os (condition_of starts a t) i code c done remains
-            ∙ ap (λ (n : ℕ). (old ++ first) ++ all_others u behind t os n (condition_of starts a t)) (length-append old first)
-            ∙ append_assoc old first (others_code starts u (operations_of os) (condition_of starts a t) behind (length old + length first) t),
+        all_made (all_others u following t) (one_other u following t) (next_other t) (others_lower u following t) (old ++ first) os (condition_of starts a t) i code c done remains
+            ∙ ap (λ (n : ℕ). (old ++ first) ++ all_others u following t os n (condition_of starts a t)) (length-append old first)
+            ∙ append_assoc old first (others_code starts u (operations_of os) (condition_of starts a t) following (length old + length first) t),
       )
 
   -- a condition that is a chain of tests, and one that is not
   pub chain_chosen : (u : LogicalOperator) (a : Expression) (os : Operations) (ty : Ty) (whole : Expression) (answer : Condition) (old new : List Instruction) (t : ℕ) → whole ≡ Binary a os ty → are_tests u os ≡ true
-      → (answer ≡ last_condition starts os (condition_of starts a t) t) × (new ≡ old ++ tests_code starts u a os (behind_tests starts u a os (length old) t) (length old) t)
+      → (answer ≡ last_condition starts os (condition_of starts a t) t) × (new ≡ old ++ tests_code starts u a os (after_tests starts u a os (length old) t) (length old) t)
       → (answer ≡ choice_of starts u whole t) × (new ≡ old ++ choice_code starts u whole (length old) t)
   chain_chosen u a os ty whole answer old new t is tests (answers, made) =
       let p = length old in
-      let x = behind_tests starts u a os p t in
+      let x = after_tests starts u a os p t in
       let chosen : choice_of starts u whole t ≡ last_condition starts os (condition_of starts a t) t
       = ap (λ (z : Expression). choice_of starts u z t) is ∙ ap (λ (b : Bool). if b then last_condition starts os (condition_of starts a t) t else condition_of starts (Binary a os ty) t) tests in
       let code : choice_code starts u whole p t ≡ tests_code starts u a os x p t
@@ -271,10 +241,10 @@ module _ (starts : Starts) where
       let chosen : choice_of starts u whole t ≡ condition_of starts whole t
       = ap (λ (z : Expression). choice_of starts u z t) is ∙ ap (λ (b : Bool). if b then last_condition starts os (condition_of starts a t) t else condition_of starts (Binary a os ty) t) other ∙ ap (λ (z : Expression). condition_of starts z t) (sym is) in
       let code : choice_code starts u whole p t ≡ condition_code starts whole p t
-      = ap (λ (z : Expression). choice_code starts u z p t) is ∙ ap (λ (b : Bool). if b then tests_code starts u a os (behind_tests starts u a os p t) p t else condition_code starts (Binary a os ty) p t) other ∙ ap (λ (z : Expression). condition_code starts z p t) (sym is) in
+      = ap (λ (z : Expression). choice_code starts u z p t) is ∙ ap (λ (b : Bool). if b then tests_code starts u a os (after_tests starts u a os p t) p t else condition_code starts (Binary a os ty) p t) other ∙ ap (λ (z : Expression). condition_code starts z p t) (sym is) in
       (answers ∙ sym chosen, made ∙ ap (λ (l : List Instruction). old ++ l) (sym code))
 
--- ---- jumps of a branch's condition whose target is not yet known
+-- ---- the inner jumps of the condition of a branch
 
 pub before_more : (js : List Pending) (m n : ℕ) → AreBefore js m → m ≤ n → AreBefore js n
 before_more [] m n before more = tt
@@ -284,7 +254,7 @@ pub failed_long : (js : List Pending) (target : ℕ) (code : List Instruction) �
 failed_long [] target code = refl
 failed_long (j ∷ js) target code = failed_long js target (set code j.place (failing_jump j.condition target)) ∙ length-set code j.place (failing_jump j.condition target)
 
--- those that still wait come to lead there, as the others do
+-- the remaining pending jumps get the target that the others have
 abbrev pub FailedRest : List Pending → (target : ℕ) → (old : List Instruction) → (i : ℕ) → (code : List Instruction) → Type 0
 FailedRest js target old i code =
     (failed (drop i js) target code ≡ failed js target old) × (length code ≡ target) × AreBefore (drop i js) target
@@ -309,7 +279,7 @@ failed_place js target old i code none inside (rest, long, before) =
 pub failed_done : (js : List Pending) (target : ℕ) (old : List Instruction) (i : ℕ) (code : List Instruction) → length js ≤ i → FailedRest js target old i code → code ≡ failed js target old
 failed_done js target old i code done (rest, long, before) = sym (ap (λ (l : List Pending). failed l target code) (drop_all i js done)) ∙ rest
 
--- what is made of a condition is made of one that has the same code
+-- the result for a condition is the result for another condition whose code is equal
 same_tested : (last again : Condition) (code other : ℕ → List Instruction) (old new : List Instruction) (tested : Tested) → again ≡ last → ((x : ℕ) → other x ≡ code x) → IsTested last code old new tested → IsTested again other old new tested
 same_tested last again code other old new tested answers same (last_is, aims, before, made) = (
   last_is ∙ sym answers,
@@ -321,12 +291,12 @@ same_tested last again code other old new tested answers same (last_is, aims, be
   made ∙ ap (λ (l : List Instruction). old ++ l) (sym (same 0)),
 )
 
--- where no jump waits, the code leads nowhere out of its midst
+-- without pending jumps, the code has no inner jumps
 pub none_wait : (code : List Instruction) (early : List Pending) (place : ℕ) → early ≡ [] → Aims early (λ x. code) place
 none_wait code early place none = λ old rest target here. ap (λ (l : List Pending). failed l target (old ++ (code ++ rest))) none
 
 module _ (starts : Starts) where
-  -- the jumps that are kept so far, with those of the operands that are still to be made
+  -- the pending jumps so far, extended by those of the remaining operands, are all pending jumps
   abbrev pub EarlyRemain : LogicalOperator → Expression → List Operation → (t : ℕ) → (old : List Instruction) → (i : ℕ) → (code : List Instruction) → Condition → List Pending → Type 0
   EarlyRemain u a os t old i code c early =
       OthersRemain starts u a os 0 t old i code c
@@ -367,7 +337,7 @@ module _ (starts : Starts) where
       let (last, made) = others_end starts u a os 0 t old i code c done remains in
       (last, sym (append-nil early) ∙ sym (ap (λ (l : List Operation). early ++ early_jumps starts u l c (length code) t) (drop_all i os done)) ∙ jumps, made)
 
-  -- they are those of the code, which leads elsewhere for them
+  -- they are the jumps of the code, which gets other targets through them
   others_aim : (u : LogicalOperator) (os : List Operation) (c : Condition) (t : ℕ) (old rest : List Instruction) (target : ℕ) → all_test u (operations_of os) ≡ true
       → failed (early_jumps starts u os c (length old) t) target (old ++ (others_code starts u (operations_of os) c 0 (length old) t ++ rest)) ≡ old ++ (others_code starts u (operations_of os) c target (length old) t ++ rest)
   others_aim u [] c t old rest target all = refl
@@ -406,7 +376,7 @@ module _ (starts : Starts) where
   others_before u (operation.Pointer o e ∷ os) c p t all = absurd (let z : false ≡ true = all in cc)
   others_before u (operation.PointerPeek n o e ∷ os) c p t all = absurd (let z : false ≡ true = all in cc)
 
-  -- a branch's condition that is a chain of such tests, and one that is not
+  -- the condition of a branch that is a chain of such tests, and one that is not
   tests_all : (u : LogicalOperator) (os : List Operation) → are_tests u (operations_of os) ≡ true → all_test u (operations_of os) ≡ true
   tests_all u [] tests = refl
   tests_all u (operation.Test o e ∷ os) tests = tests
@@ -457,7 +427,7 @@ module _ (starts : Starts) where
       (λ x. ap (λ (z : Expression). branch_code starts u z x p t) is ∙ ap (λ (b : Bool). if b then tests_code starts u a os x p t else choice_code starts (turned_test u) (Binary a os ty) p t) other ∙ ap (λ (z : Expression). choice_code starts (turned_test u) z p t) (sym is))
       made
 
-  -- what is neither a chain nor negated is made as by the other operator
+  -- a condition that is neither a chain nor a negation is emitted as for the other operator
   abbrev pub IsBare : LogicalOperator → Expression → (t : ℕ) → Type 0
   IsBare u a t = (branch_of starts u a t ≡ choice_of starts (turned_test u) a t) × ((x p : ℕ) → branch_code starts u a x p t ≡ choice_code starts (turned_test u) a p t)
 

@@ -1,4 +1,4 @@
--- The code of an expression is made piece by piece: no expression is without code, and nodes with lists.
+-- The code of an expression is emitted piece by piece, also for nodes with lists. No expression has empty code.
 use Rattle.std.proofs.Common.{◌≡◌, ℕ, zero, suc, ◌+◌, ◌-◌, ◌<◌, ◌≤◌, Bool, true, false, List, [], ◌∷◌, ◌++◌, length, drop, set, Option, Some, None, refl, sym, ap, ◌∙◌, arith, append_assoc}
 use Rattle.std.specs.Prelude.{◌==◌, if◌then◌else◌}
 use Rattle.std.proofs.lemmas.Bool.{eqb-true, eq-eqb}
@@ -38,22 +38,22 @@ use Rattle.cyc_plain.specs.declared.instruction.Operand.{Operand}
 use Rattle.cyc_plain.specs.declared.instruction.Operand.TheVariants as operands
 use Rattle.cyc_plain.specs.declared.instruction.Instruction.{Instruction}
 use Rattle.cyc_plain.specs.declared.instruction.Instruction.TheVariants as instructions
-use Rattle.cyc_lower.specs.inside.Slots.{slot_of, Starts, global_of}
-use Rattle.cyc_lower.specs.inside.ValueCode.{passed_words, kind_passed, all_passed, kinds_passed, converts_there, converted_by, moved_by, move_of, operand_or, code_unless, left_with, low_byte, next_slot, operator_code, compute_code, test_jump}
-use Rattle.cyc_lower.specs.inside.ValueCode.{truth_code, test_code, copy_code, address_code, addressed_by, reached_code, span_of, followed_code, span_in, code_unless_slot, global_code, masked_by, masks, inside_code, scaled_code, summed_code}
-use Rattle.cyc_lower.specs.inside.ObjectCode.{object_code, saved_code}
-use Rattle.cyc_lower.specs.inside.ExpressionCode.{source_of, source_slot, operand_of, left_of, slot_with, left_slot, value_operand, converted_operand, printed_operand, load_code, expression_code, value_slot, arguments_code}
-use Rattle.cyc_lower.specs.inside.ExpressionCode.{converted_code, converted_operand_code, printed_code, initial_code, operations_code, made_code, place_operand, place_offset, place_code, pointer_of, brought_code, is_simple}
-use Rattle.cyc_lower.specs.inside.Lowering.{assignment_code, assigned_operand, discarded_code, store_address_code, store_code}
+use Rattle.cyc_lower_proof.specs.inside.Slots.{slot_of, Starts, global_of}
+use Rattle.cyc_lower_proof.specs.inside.ValueCode.{passed_words, kind_passed, all_passed, kinds_passed, converts_there, converted_by, moved_by, move_of, operand_or, code_unless, left_with, low_byte, next_slot, operator_code, compute_code, test_jump}
+use Rattle.cyc_lower_proof.specs.inside.ValueCode.{truth_code, test_code, copy_code, address_code, addressed_by, reached_code, span_of, followed_code, span_in, code_unless_slot, global_code, masked_by, masks, inside_code, scaled_code, summed_code}
+use Rattle.cyc_lower_proof.specs.inside.ObjectCode.{object_code, saved_code}
+use Rattle.cyc_lower_proof.specs.inside.ExpressionCode.{source_of, source_slot, operand_of, left_of, slot_with, left_slot, value_operand, converted_operand, printed_operand, load_code, expression_code, value_slot, arguments_code}
+use Rattle.cyc_lower_proof.specs.inside.ExpressionCode.{converted_code, converted_operand_code, printed_code, initial_code, operations_code, made_code, place_operand, place_offset, place_code, pointer_of, brought_code, is_simple}
+use Rattle.cyc_lower_proof.specs.inside.Lowering.{assignment_code, assigned_operand, discarded_code, store_address_code, store_code}
 use Rattle.cyc_lower.specs.inside.Emission.{most_locals, value_code, print_code, left_code, takes_operand, operation_code}
-use Rattle.cyc_lower.proofs.slots.Widths.{kind_positive}
-use Rattle.cyc_lower.proofs.slots.Slots.{words_positive}
-use Rattle.cyc_lower.proofs.emission.Emitting.{some_behind, before, loaded_some, counted_some, operates, Lowers, Remains, all_made, call_viewed, binary_viewed, tested, emitted_joined, no_shorter_than}
+use Rattle.cyc_lower_proof.proofs.slots.Widths.{kind_positive}
+use Rattle.cyc_lower_proof.proofs.slots.Slots.{words_positive}
+use Rattle.cyc_lower.proofs.emission.Emitting.{some_after, before, loaded_some, counted_some, operates, Lowers, Remains, all_made, call_viewed, binary_viewed, tested, emitted_joined, no_shorter_than}
 
--- ---- locals that have these first slots
+-- ---- the first slots of locals
 
 module _ (starts : Starts) where
-  -- ---- no expression is without code
+  -- ---- no expression has empty code
 
   loads : (words : ℕ) (l : Lvalue) (d : ℕ) → 1 ≤ words → 0 < length (load_code starts words l d)
   loads words (Local p n) d some = omega arith
@@ -71,7 +71,7 @@ module _ (starts : Starts) where
   computes : (o : Operator) (b : Expression) (os : Operations) (p : ℕ) (l : Operand) (d t : ℕ) → 0 < length (operations_code starts (ThenCompute o b os) p l d t)
   computes o b os p l d t =
       before (compute_code starts o l (value_operand starts b (suc t)) (value_code starts b p (suc t)) (next_slot os d t)) _
-      (some_behind (value_code starts b p (suc t)) _ (operates starts o l (value_operand starts b (suc t)) (next_slot os d t)))
+      (some_after (value_code starts b p (suc t)) _ (operates starts o l (value_operand starts b (suc t)) (next_slot os d t)))
 
   tests : (o : LogicalOperator) (b : Expression) (os : Operations) (p : ℕ) (l : Operand) (d t : ℕ) → 0 < length (operations_code starts (ThenTest o b os) p l d t)
   tests o b os p l d t = before (test_code o (expression_code starts b (p + 1) t t) p (next_slot os d t) t) _ (omega arith)
@@ -79,7 +79,7 @@ module _ (starts : Starts) where
   initial_by : (there : Bool) (known : Option Operand) (at_once inner : List Instruction) (from to : Kind) (span : Option ℕ) (o : Operand) (p d : ℕ) → 0 < length at_once
       → 0 < length (if there then at_once else moved_by starts known inner from to span o p d)
   initial_by true known at_once inner from to span o p d some = some
-  initial_by false known at_once inner from to span o p d some = some_behind (converted_by starts known inner from to span o p) (move_of (words_of_kind to) d o ∷ []) (omega arith)
+  initial_by false known at_once inner from to span o p d some = some_after (converted_by starts known inner from to span o p) (move_of (words_of_kind to) d o ∷ []) (omega arith)
 
   reached_some : (span : Option ℕ) (n m t p : ℕ) → 0 < length (reached_code starts span n m t p)
   reached_some None n m t p = omega arith
@@ -92,15 +92,15 @@ module _ (starts : Starts) where
 
   place_some : (x : Dereference) (p t : ℕ) → 0 < length (place_code starts x p t)
   place_some (Target k a ty) p t =
-      some_behind (code_unless (operand_of starts a) (expression_code starts a p (value_slot starts a t) t)) _ (followed_some (is_thin k) (span_in ty) (value_operand starts a t) t _)
-  place_some (Member k a s f ty) p t = some_behind (code_unless (operand_of starts a) (expression_code starts a p (value_slot starts a t) t)) _ (omega arith)
+      some_after (code_unless (operand_of starts a) (expression_code starts a p (value_slot starts a t) t)) _ (followed_some (is_thin k) (span_in ty) (value_operand starts a t) t _)
+  place_some (Member k a s f ty) p t = some_after (code_unless (operand_of starts a) (expression_code starts a p (value_slot starts a t) t)) _ (omega arith)
   place_some (Element a i ty) p t =
       let front = code_unless_slot (pointer_of starts a i) (expression_code starts a p t t) in
-      some_behind front _ (some_behind (code_unless (operand_of starts i) (expression_code starts i (p + length front) (value_slot starts i (t + 3)) (t + 3))) _ (omega arith))
+      some_after front _ (some_after (code_unless (operand_of starts i) (expression_code starts i (p + length front) (value_slot starts i (t + 3)) (t + 3))) _ (omega arith))
 
   brought_by_some : (masking : Bool) (known : Option Operand) (at_once inner : List Instruction) (o : Operand) (d : ℕ) → 0 < length at_once
       → 0 < length (if masking then masked_by known inner o d else at_once)
-  brought_by_some true known at_once inner o d some = some_behind (code_unless known inner) (low_byte o d ∷ []) (omega arith)
+  brought_by_some true known at_once inner o d some = some_after (code_unless known inner) (low_byte o d ∷ []) (omega arith)
   brought_by_some false known at_once inner o d some = some
 
   mutual
@@ -109,39 +109,39 @@ module _ (starts : Starts) where
     expression_some (Copy l ty) p d t = loads (words_of ty) l d (words_positive ty)
     expression_some (Move w n ty) p d t = loads (words_of ty) (Local w n) d (words_positive ty)
     expression_some (Peek w n ty) p d t = loads (words_of ty) (Local w n) d (words_positive ty)
-    expression_some (Call callees.Putchar cs ty) p d t = some_behind (printed_code starts cs p t) _ (omega arith)
-    expression_some (Call callees.Getchar cs ty) p d t = some_behind (arguments_code starts cs p t) _ (omega arith)
-    expression_some (Call (callees.Function n) cs ty) p d t = some_behind (arguments_code starts cs p t) _ (omega arith)
-    expression_some (NumberOfElements a) p d t = some_behind (value_code starts a p t) _ (counted_some (value_operand starts a t) (p + length (value_code starts a p t)) d)
+    expression_some (Call callees.Putchar cs ty) p d t = some_after (printed_code starts cs p t) _ (omega arith)
+    expression_some (Call callees.Getchar cs ty) p d t = some_after (arguments_code starts cs p t) _ (omega arith)
+    expression_some (Call (callees.Function n) cs ty) p d t = some_after (arguments_code starts cs p t) _ (omega arith)
+    expression_some (NumberOfElements a) p d t = some_after (value_code starts a p t) _ (counted_some (value_operand starts a t) (p + length (value_code starts a p t)) d)
     expression_some (Unary unary.Widen a) p d t = expression_some a p d t
-    expression_some (Unary o a) p d t = some_behind (value_code starts a p t) _ (omega arith)
+    expression_some (Unary o a) p d t = some_after (value_code starts a p t) _ (omega arith)
     expression_some (Binary a NoOperations ty) p d t = before (expression_code starts a p d t) _ (expression_some a p d t)
     expression_some (Binary a (ThenCompute o b os) ty) p d t =
         let front = left_code starts a (ThenCompute o b os) p d t in
-        some_behind front _ (computes o b os (p + length front) (operand_or (left_of starts a (ThenCompute o b os)) (left_slot starts a (ThenCompute o b os) d t)) d t)
+        some_after front _ (computes o b os (p + length front) (operand_or (left_of starts a (ThenCompute o b os)) (left_slot starts a (ThenCompute o b os) d t)) d t)
     expression_some (Binary a (ThenTest o b os) ty) p d t =
         let front = left_code starts a (ThenTest o b os) p d t in
-        some_behind front _ (tests o b os (p + length front) (operands.Slot t) d t)
+        some_after front _ (tests o b os (p + length front) (operands.Slot t) d t)
     expression_some (Binary a os ty) p d t = before (expression_code starts a p t t) _ (expression_some a p t t)
     expression_some (Assign (Local w n) c ty) p d t = before (initial_code starts c p (slot_of starts n) t) _ (initial_some c p (slot_of starts n) t)
     expression_some (Assign (Global n) c ty) p d t =
-        before (converted_operand_code starts c p t ++ _) (copy_code (passed_words c) (converted_operand starts c t) d) (some_behind (converted_operand_code starts c p t) _ (saves (passed_words c) (global_of starts n) (converted_operand starts c t) (passed_some c)))
-    expression_some (Load x) p d t = some_behind (place_code starts x p t) _ (loaded_some (words_of_kind (kind_of (type_of_place x)) == 1) (kind_of (type_of_place x)) (place_operand starts x t) (place_offset starts x) d t)
+        before (converted_operand_code starts c p t ++ _) (copy_code (passed_words c) (converted_operand starts c t) d) (some_after (converted_operand_code starts c p t) _ (saves (passed_words c) (global_of starts n) (converted_operand starts c t) (passed_some c)))
+    expression_some (Load x) p d t = some_after (place_code starts x p t) _ (loaded_some (words_of_kind (kind_of (type_of_place x)) == 1) (kind_of (type_of_place x)) (place_operand starts x t) (place_offset starts x) d t)
     expression_some (AddressOf (Local w n) ty) p d t = omega arith
     expression_some (AddressOf (Global n) ty) p d t = omega arith
     expression_some (AddressOfCell x ty) p d t = before (place_code starts x p t) _ (place_some x p t)
     expression_some (Store x c ty) p d t = before (store_code starts x c p t) _ (before (store_address_code starts x p t) _ (before (place_code starts x p t) _ (place_some x p t)))
-    expression_some (FreeUnique a) p d t = some_behind (value_code starts a p t) _ (omega arith)
-    expression_some (FreeKey a) p d t = some_behind (value_code starts a p t) _ (omega arith)
+    expression_some (FreeUnique a) p d t = some_after (value_code starts a p t) _ (omega arith)
+    expression_some (FreeKey a) p d t = some_after (value_code starts a p t) _ (omega arith)
     expression_some (New OnHeap i ty) p d t = made_some i (operands.Word HEAP) p d t
     expression_some (New AsUnique i ty) p d t = made_some i (operands.Word UNIQUE) p d t
     expression_some (New (ByHandle a) i ty) p d t = before (expression_code starts a p t t) _ (expression_some a p t t)
     expression_some a p d t = omega arith
 
     made_some : (i : Initial) (handle : Operand) (p d t : ℕ) → 0 < length (made_code starts i handle p d t)
-    made_some (Plain kind a) handle p d t = some_behind (expression_code starts a p t t) (object_code handle (kind ∷ []) d t) (omega arith)
-    made_some (Fields cs) handle p d t = some_behind (arguments_code starts cs p t) (object_code handle (kinds_passed cs) d t) (omega arith)
-    made_some (Array w level n kind a) handle p d t = some_behind (expression_code starts n p t t) _ (omega arith)
+    made_some (Plain kind a) handle p d t = some_after (expression_code starts a p t t) (object_code handle (kind ∷ []) d t) (omega arith)
+    made_some (Fields cs) handle p d t = some_after (arguments_code starts cs p t) (object_code handle (kinds_passed cs) d t) (omega arith)
+    made_some (Array w level n kind a) handle p d t = some_after (expression_code starts n p t t) _ (omega arith)
 
     initial_some : (c : Converted) (p d t : ℕ) → 0 < length (initial_code starts c p d t)
     initial_some (Convert from to a) p d t =
@@ -149,7 +149,7 @@ module _ (starts : Starts) where
         initial_by (converts_there from to) (source_of starts (Convert from to a)) (brought_code starts (Convert from to a) p d t) (brought_code starts (Convert from to a) p slot t) from to (span_of a) (converted_operand starts (Convert from to a) t) p d
         (brought_by_some (masks from to) (operand_of starts a) (expression_code starts a p d t) (expression_code starts a p (value_slot starts a t) t) (value_operand starts a t) d (expression_some a p d t))
 
-  -- arguments: the state is the slot of the next
+  -- the code of arguments; the state is the slot of the next one
   abbrev pub all_arguments : List ConvertedCode → (p t : ℕ) → List Instruction
   all_arguments cs p t = arguments_code starts (arguments_of cs) p t
 
@@ -162,7 +162,7 @@ module _ (starts : Starts) where
   pub arguments_lower : Lowers all_arguments one_argument next_argument
   arguments_lower = record { none = λ p t. refl; more = λ x xs p t. refl }
 
-  -- the argument of `putchar`: the state is where its value stands
+  -- the code of the argument of `putchar`; the state is the operand of its value
   abbrev pub all_printed : ℕ → List ConvertedCode → ℕ → Operand → List Instruction
   all_printed t cs p o = printed_code starts (arguments_of cs) p t
 
@@ -175,14 +175,14 @@ module _ (starts : Starts) where
   pub printed_lower : (t : ℕ) → Lowers (all_printed t) (one_printed t) (next_printed t)
   printed_lower t = record { none = λ p o. refl; more = λ x xs p o. refl }
 
-  -- where the value stands in the end
+  -- the operand of the value at the end
   abbrev pub PrintedLeft : List ConvertedCode → (i : ℕ) → Operand → ℕ → Type 0
   PrintedLeft cs i o t = printed_operand starts (arguments_of (drop i cs)) o t ≡ printed_operand starts (arguments_of cs) (operands.Slot t) t
 
   pub printed_done : (cs : List ConvertedCode) (i : ℕ) (o : Operand) (t : ℕ) → length cs ≤ i → PrintedLeft cs i o t → o ≡ printed_operand starts (arguments_of cs) (operands.Slot t) t
   printed_done cs i o t done left = sym (ap (λ (ys : List ConvertedCode). printed_operand starts (arguments_of ys) o t) (drop_all i cs done)) ∙ left
 
-  -- a chain: the state is the left operand
+  -- the code of a chain; the state is the left operand
   abbrev pub all_operations : (d t : ℕ) → List Operation → ℕ → Operand → List Instruction
   all_operations d t os p l = operations_code starts (operations_of os) p l d t
 
@@ -204,7 +204,7 @@ module _ (starts : Starts) where
 
   -- ---- nodes with lists
 
-  -- the type of what a call gives changes no code
+  -- the type of the result of a call does not affect its code
   pub call_alike : (f : Callee) (cs : Arguments) (ty other : ValueType) (p d t : ℕ) → expression_code starts (Call f cs ty) p d t ≡ expression_code starts (Call f cs other) p d t
   call_alike callees.Putchar cs ty other p d t = refl
   call_alike callees.Getchar cs ty other p d t = refl
@@ -217,7 +217,7 @@ module _ (starts : Starts) where
         tested old x (λ (q : ℕ). expression_code starts (view_expression e) q t t) (λ (q : ℕ). test_jump o t q) begun made patched new (truth_code t d) place here target b m k p n
         ∙ ap (λ (y : Operation). old ++ operation_code starts y (length old) l d t) (sym is)
 
-  -- ---- pieces one behind the other
+  -- ---- pieces one after the other
 
   -- ---- calls
 
@@ -238,14 +238,14 @@ module _ (starts : Starts) where
         emitted_joined old (arguments_code starts (arguments_of items) (length old) t) (λ p. instructions.Call n t all d ∷ []) m1 m2 e1 (e2 ∙ ap (λ k. m1 ++ instructions.Call n t k d ∷ []) counted)
         ∙ ap (λ (g : Callee). old ++ expression_code starts (Call g (arguments_of items) Void) (length old) d t) (sym is)
 
-  -- a call, as the expression that it is
+  -- a call as an expression
   pub made_called : (value : Expr) {w : Span} (f : Callee) (v : Vec ConvertedCode Heap) (ty : ValueTypeCode) (items : List ConvertedCode) (old new : List Instruction) (d t : ℕ) → value ≡ expr.Call w f v ty → items ≡ v.items
       → new ≡ old ++ expression_code starts (Call f (arguments_of items) Void) (length old) d t → new ≡ old ++ expression_code starts (view_expression value) (length old) d t
   made_called value f v ty items old new d t is same made =
       made ∙ ap (λ (l : List Instruction). old ++ l) (call_alike f (arguments_of items) Void (view_value_type ty) (length old) d t)
       ∙ ap (λ (a : Expression). old ++ expression_code starts a (length old) d t) (sym (call_viewed value f v ty is items same))
 
-  -- a new struct, of its fields
+  -- a new struct with its fields
   pub made_fields : (value : InitialCode) (v : Vec ConvertedCode Heap) (items : List ConvertedCode) (ks : List Kind) (old m1 m2 : List Instruction) (handle : Operand) (d t : ℕ) → value ≡ initial.Fields v → items ≡ v.items → ks ≡ kinds_passed (arguments_of items)
       → m1 ≡ old ++ arguments_code starts (arguments_of items) (length old) t → m2 ≡ m1 ++ object_code handle ks d t → m2 ≡ old ++ made_code starts (view_initial value) handle (length old) d t
   made_fields value v items ks old m1 m2 handle d t is same ks_are first second =
@@ -271,11 +271,11 @@ module _ (starts : Starts) where
       (e2 ∙ ap (λ (os' : List Operation). m1 ++ operations_code starts (operations_of os') (length m1) l d t) (same_others ∙ sym same) ∙ ap (λ (o : Operand). m1 ++ operations_code starts os (length m1) o d t) l_is)
       ∙ ap (λ (x : Expression). old ++ expression_code starts x (length old) d t) (sym (binary_viewed value b v ty is first at items same))
 
-  -- behind a left operand there is room for the chain
-  pub room_behind : (a : Expression) (os : Operations) (old new : List Instruction) (d t : ℕ) → t ≤ most_locals + length old → new ≡ old ++ left_code starts a os (length old) d t → t ≤ most_locals + length new
-  room_behind a os old new d t low is = omega (arith, low, no_shorter_than old _ new is)
+  -- after a left operand there is room for the chain
+  pub room_following : (a : Expression) (os : Operations) (old new : List Instruction) (d t : ℕ) → t ≤ most_locals + length old → new ≡ old ++ left_code starts a os (length old) d t → t ≤ most_locals + length new
+  room_following a os old new d t low is = omega (arith, low, no_shorter_than old _ new is)
 
-  -- a left operand that is not one without code
+  -- a left operand with code
   left_plain : (a : Expression) (os : List Operation) (d t to : ℕ) → takes_operand starts (operations_of os) ≡ false → (length os ≡ 0 → to ≡ d) → (0 < length os → to ≡ t)
       → (left_of starts a (operations_of os) ≡ None) × (to ≡ left_slot starts a (operations_of os) d t)
   left_plain a [] d t to plain none some = (refl, none refl)
@@ -298,7 +298,7 @@ module _ (starts : Starts) where
         is ∙ ap (λ (n : ℕ). old ++ expression_code starts a (length old) n t) slot ∙ sym (ap (λ (k : Option Operand). old ++ code_unless k (expression_code starts a (length old) there t)) unknown),
       )
 
-  -- a left operand that is taken without code
+  -- a left operand without code
   pub made_left_operand : (a : Expression) (os : Operations) (old : List Instruction) (d t : ℕ) → takes_operand starts os ≡ true
       → (value_operand starts a t ≡ operand_or (left_of starts a os) (left_slot starts a os d t)) × (value_code starts a (length old) t ≡ left_code starts a os (length old) d t)
   made_left_operand a (ThenCompute o b os) old d t takes = by (is_simple starts b) takes
@@ -322,18 +322,18 @@ module _ (starts : Starts) where
   made_left_first a os old new d t to plain more there is =
       made_left a os old new d t to plain (λ none. absurd (let f : false ≡ true = sym more ∙ eq-eqb (length os) 0 none in cc)) (λ some. there) is
 
-  pub made_compute : {w : Span} (value : Operation) (o : Operator) (e : Expr) (old m1 m2 : List Instruction) (l r : Operand) (d t behind : ℕ) → value ≡ operation.Compute w o e → behind ≡ t + 1
-      → r ≡ value_operand starts (view_expression e) behind → m1 ≡ old ++ value_code starts (view_expression e) (length old) behind → m2 ≡ m1 ++ operator_code starts o l r d
+  pub made_compute : {w : Span} (value : Operation) (o : Operator) (e : Expr) (old m1 m2 : List Instruction) (l r : Operand) (d t following : ℕ) → value ≡ operation.Compute w o e → following ≡ t + 1
+      → r ≡ value_operand starts (view_expression e) following → m1 ≡ old ++ value_code starts (view_expression e) (length old) following → m2 ≡ m1 ++ operator_code starts o l r d
       → m2 ≡ old ++ operation_code starts value (length old) l d t
-  made_compute value o e old m1 m2 l r d t behind is behind_is r_is e1 e2 =
+  made_compute value o e old m1 m2 l r d t following is following_is r_is e1 e2 =
       let a = view_expression e in
-      let next : behind ≡ suc t = omega (arith, behind_is) in
+      let next : following ≡ suc t = omega (arith, following_is) in
       let right = value_operand starts a (suc t) in
       emitted_joined old (value_code starts a (length old) (suc t)) (λ p. operator_code starts o l right d) m1 m2 (e1 ∙ ap (λ (n : ℕ). old ++ value_code starts a (length old) n) next)
       (e2 ∙ ap (λ (x : Operand). m1 ++ operator_code starts o l x d) (r_is ∙ ap (value_operand starts a) next))
       ∙ ap (λ (x : Operation). old ++ operation_code starts x (length old) l d t) (sym is)
 
-  -- behind one operator there is room for more
+  -- after one operator there is room for the following ones
   pub room_after : (x : Operation) (old new : List Instruction) (l : Operand) (d t : ℕ) → t ≤ most_locals + length old → new ≡ old ++ operation_code starts x (length old) l d t → t ≤ most_locals + length new
   room_after x old new l d t low is = omega (arith, low, no_shorter_than old _ new is)
 
@@ -349,7 +349,7 @@ module _ (starts : Starts) where
         emitted_joined old (printed_code starts (arguments_of items) (length old) t) (λ p. instructions.WriteByte o ∷ []) code new made (is ∙ ap (λ (b : Operand). code ++ instructions.WriteByte b ∷ []) byte_is),
       )
 
-  -- a call whose value is dropped, as the expression that it is
+  -- a call whose value is dropped, as an expression
   discarded_alike : (f : Callee) (cs : Arguments) (ty other : ValueType) (p t : ℕ) → discarded_code starts (Call f cs ty) p t ≡ discarded_code starts (Call f cs other) p t
   discarded_alike callees.Putchar cs ty other p t = refl
   discarded_alike callees.Getchar cs ty other p t = refl
@@ -367,7 +367,7 @@ module _ (starts : Starts) where
   assigned_code (Local w n) c ty p d t = refl
   assigned_code (Global n) c ty p d t = refl
 
-  -- an assignment, whose value comes to a slot then
+  -- an assignment whose value is moved to a slot afterwards
   pub made_assigned : (value : Expr) (l : LvalueCode) (b : Box ConvertedCode Heap) (ty : ValueTypeCode) → value ≡ expr.Assign l b ty → (x : ConvertedCode) → x ≡ b.value → (old m1 m2 : List Instruction) (o : Operand) (d t : ℕ)
       → o ≡ assigned_operand starts (view_lvalue l) (view_converted x) t → m1 ≡ old ++ assignment_code starts (view_lvalue l) (view_converted x) (length old) t → m2 ≡ m1 ++ copy_code (words_of_kind x.to) o d
       → m2 ≡ old ++ expression_code starts (view_expression value) (length old) d t
@@ -381,9 +381,9 @@ module _ (starts : Starts) where
       ∙ ap (λ (k : List Instruction). old ++ k) (assigned_code (view_lvalue l) c (view_value_type ty) (length old) d t)
       ∙ ap (λ (y : Expression). old ++ expression_code starts y (length old) d t) (sym tree)
 
-  -- ---- cells that are written
+  -- ---- written cells
 
-  -- the address of a place waits in a slot, so there are as many instructions as slots
+  -- the address of a place is in a slot, so there are as many instructions as slots
   pub room_for_right : (x : Dereference) (old new : List Instruction) (t : ℕ) → t ≤ most_locals + length old
       → new ≡ old ++ addressed_by (place_code starts x (length old) t) (place_operand starts x t) (place_offset starts x) t → t < most_locals + length new
   room_for_right x old new t low made =
@@ -398,22 +398,22 @@ module _ (starts : Starts) where
       ∙ ap (λ (z : DereferenceCode). Store (view_dereference z) (view_converted b'.value) (view_value_type ty)) (sym x_at)
       ∙ ap (λ (z : ConvertedCode). Store (view_dereference x) (view_converted z) (view_value_type ty)) (sym y_at)
 
-  -- an index is compared with a length, and what tells which exception is raised is jumped over
-  pub made_inside : (old new : List Instruction) (n m behind here : ℕ) → behind ≡ n + 3 → here ≡ length old
+  -- an index is compared with a length, and a jump skips the code that chooses the exception
+  pub made_inside : (old new : List Instruction) (n m following here : ℕ) → following ≡ n + 3 → here ≡ length old
       → new
       ≡ old
-      ++ instructions.Branch comparisons.LessUnsigned (operands.Slot m) (operands.Slot (behind - 2)) (here + 3)
+      ++ instructions.Branch comparisons.LessUnsigned (operands.Slot m) (operands.Slot (following - 2)) (here + 3)
       ∷ instructions.Binary plain_binary.NotEqual starts.tag_slot (operands.Slot n) (operands.Word 0) ∷ instructions.Jump (starts.raises + 1) ∷ []
       → new ≡ old ++ inside_code starts n m (length old)
-  made_inside old new n m behind here behind_is here_is made =
+  made_inside old new n m following here following_is here_is made =
       let question = instructions.Binary plain_binary.NotEqual starts.tag_slot (operands.Slot n) (operands.Word 0) in
       let jump = instructions.Jump (starts.raises + 1) in
-      let bound : behind - 2 ≡ n + 1 = omega (arith, behind_is) in
+      let bound : following - 2 ≡ n + 1 = omega (arith, following_is) in
       made
       ∙ ap (λ (x : ℕ). old ++ instructions.Branch comparisons.LessUnsigned (operands.Slot m) (operands.Slot x) (here + 3) ∷ question ∷ jump ∷ []) bound
       ∙ ap (λ (x : ℕ). old ++ instructions.Branch comparisons.LessUnsigned (operands.Slot m) (operands.Slot (n + 1)) (x + 3) ∷ question ∷ jump ∷ []) here_is
 
-  -- an access: the index is scaled first
+  -- an access, whose index is scaled first
   pub made_reached : (span : Option ℕ) (old m1 m2 m3 : List Instruction) (n m t distance : ℕ) → distance ≡ t + 3 → m1 ≡ old ++ scaled_code span m distance → m2 ≡ m1 ++ inside_code starts n m (length m1)
       → m3 ≡ m2 ++ summed_code span n distance t → m3 ≡ old ++ reached_code starts span n m t (length old)
   made_reached span old m1 m2 m3 n m t distance distance_is e1 e2 e3 =
@@ -423,13 +423,13 @@ module _ (starts : Starts) where
       let last : m3 ≡ m2 ++ summed = e3 ∙ ap (λ (x : ℕ). m2 ++ summed_code span n x t) distance_is in
       emitted_joined old scaled (λ p. inside_code starts n m p ++ summed) m1 m3 first (emitted_joined m1 (inside_code starts n m (length m1)) (λ p. summed) m2 m3 e2 last)
 
-  -- the third word of a fat pointer moves, and behind that stands the access
-  pub made_element : (span : Option ℕ) (old m1 m2 : List Instruction) (o : Operand) (n past behind t : ℕ) → past ≡ n + 3 → behind ≡ t + 3
-      → m1 ≡ old ++ instructions.Binary plain_binary.Add (behind - 1) (operands.Slot (past - 1)) o ∷ []
-      → m2 ≡ m1 ++ reached_code starts span n (behind - 1) t (length m1)
+  -- the third word of a fat pointer changes, and the access follows
+  pub made_element : (span : Option ℕ) (old m1 m2 : List Instruction) (o : Operand) (n past following t : ℕ) → past ≡ n + 3 → following ≡ t + 3
+      → m1 ≡ old ++ instructions.Binary plain_binary.Add (following - 1) (operands.Slot (past - 1)) o ∷ []
+      → m2 ≡ m1 ++ reached_code starts span n (following - 1) t (length m1)
       → m2 ≡ old ++ (instructions.Binary plain_binary.Add (t + 2) (operands.Slot (n + 2)) o ∷ reached_code starts span n (t + 2) t (length old + 1))
-  made_element span old m1 m2 o n past behind t past_is behind_is e1 e2 =
-      let less : behind - 1 ≡ t + 2 = omega (arith, behind_is) in
+  made_element span old m1 m2 o n past following t past_is following_is e1 e2 =
+      let less : following - 1 ≡ t + 2 = omega (arith, following_is) in
       let third : past - 1 ≡ n + 2 = omega (arith, past_is) in
       let sum = instructions.Binary plain_binary.Add (t + 2) (operands.Slot (n + 2)) o in
       let summed : m1 ≡ old ++ sum ∷ [] =
@@ -438,14 +438,14 @@ module _ (starts : Starts) where
       ∙ ap (λ (x : ℕ). old ++ instructions.Binary plain_binary.Add (t + 2) (operands.Slot x) o ∷ []) third in
       emitted_joined old (sum ∷ []) (λ p. reached_code starts span n (t + 2) t p) m1 m2 summed (e2 ∙ ap (λ (x : ℕ). m1 ++ reached_code starts span n x t (length m1)) less)
 
-  -- the address, and behind it what is stored there
+  -- the code of the address, followed by that of the stored value
   made_store : (x : Dereference) (c : Converted) (old m1 m2 : List Instruction) (t : ℕ)
       → m1 ≡ old ++ addressed_by (place_code starts x (length old) t) (place_operand starts x t) (place_offset starts x) t
       → m2 ≡ m1 ++ (converted_operand_code starts c (length m1) (t + 1) ++ saved_code (kind_passed c) t (converted_operand starts c (t + 1))) → m2 ≡ old ++ store_code starts x c (length old) t
   made_store x c old m1 m2 t e1 e2 =
       emitted_joined old (store_address_code starts x (length old) t) (λ p. converted_operand_code starts c p (t + 1) ++ saved_code (kind_passed c) t (converted_operand starts c (t + 1))) m1 m2 e1 e2
 
-  -- a value that is stored in a cell comes to a slot then
+  -- a value that is stored in a cell and then moved to a slot
   pub made_stored : (value : Expr) (b : Box DereferenceCode Heap) (b' : Box ConvertedCode Heap) (ty : ValueTypeCode) → value ≡ expr.Store b b' ty → (x : DereferenceCode) → x ≡ b.value → (y : ConvertedCode) → y ≡ b'.value
       → (old m1 m2 m3 : List Instruction) (o : Operand) (d t : ℕ) → o ≡ converted_operand starts (view_converted y) (t + 1)
       → m1 ≡ old ++ addressed_by (place_code starts (view_dereference x) (length old) t) (place_operand starts (view_dereference x) t) (place_offset starts (view_dereference x)) t
@@ -457,7 +457,7 @@ module _ (starts : Starts) where
       ∙ ap (λ (q : Operand). old ++ (front ++ copy_code (words_of_kind y.to) q d)) o_is
       ∙ ap (λ (z : Expression). old ++ expression_code starts z (length old) d t) (sym (stored_viewed value b b' ty is x x_at y y_at))
 
-  -- one that nobody wants then
+  -- a value that is stored in a cell and then dropped
   pub made_stored_only : (value : Expr) (b : Box DereferenceCode Heap) (b' : Box ConvertedCode Heap) (ty : ValueTypeCode) → value ≡ expr.Store b b' ty → (x : DereferenceCode) → x ≡ b.value → (y : ConvertedCode) → y ≡ b'.value
       → (old m1 m2 : List Instruction) (t : ℕ)
       → m1 ≡ old ++ addressed_by (place_code starts (view_dereference x) (length old) t) (place_operand starts (view_dereference x) t) (place_offset starts (view_dereference x)) t

@@ -1,4 +1,5 @@
--- Code of handlers that is made piece by piece: clauses, whose jumps are written back, and what they keep beside the variables.
+-- Code of handlers that is emitted piece by piece: clauses, whose jumps get their targets later, and the slots that they keep besides the
+-- variables.
 use Rattle.std.proofs.Common.{◌≡◌, ℕ, zero, suc, ◌+◌, ◌≤◌, ◌<◌, List, [], ◌∷◌, ◌++◌, length, get_or, set, Option, None, Some, refl, sym, ap, ◌∙◌, arith, append_assoc, length-set}
 use Rattle.std.proofs.lemmas.List.{drop_all, length-append}
 use Rattle.std.specs.declared.vec.Vec.{Vec}
@@ -15,15 +16,15 @@ use Rattle.cyc_types.proofs.TypedTreeViewLemmas.{view_typed_try}
 use Rattle.cyc_plain.specs.declared.instruction.Instruction.{Instruction}
 use Rattle.cyc_plain.specs.declared.instruction.Instruction.TheVariants as instructions
 use Rattle.cyc_meaning.specs.FrameCount.{kept_by_items, kept_by_clauses}
-use Rattle.cyc_lower.specs.declared.exits.Exits.{Exits}
-use Rattle.cyc_lower.specs.inside.Slots.{Starts}
-use Rattle.cyc_lower.specs.inside.ControlCode.{other_jump, inside_try, behind_record, behind_record_in, kept_code, restored_code}
-use Rattle.cyc_lower.specs.inside.Lowering.{statement_code, clauses_code, caught_code, items_code}
+use Rattle.cyc_lower_proof.specs.declared.exits.Exits.{Exits}
+use Rattle.cyc_lower_proof.specs.inside.Slots.{Starts}
+use Rattle.cyc_lower_proof.specs.inside.ControlCode.{other_jump, inside_try, after_record, after_record_in, kept_code, restored_code}
+use Rattle.cyc_lower_proof.specs.inside.Lowering.{statement_code, clauses_code, caught_code, items_code}
 use Rattle.cyc_lower.specs.inside.Emission.{case_code, caught_items_code, BeginClauses}
 use Rattle.cyc_lower.proofs.emission.Emitting.{Remains, goes_on_by, emitted_joined, written_back}
 use Rattle.cyc_lower.proofs.emission.Branching.{branched}
 
--- ---- what is kept
+-- ---- kept slots
 
 pub kept_of_clause : (cs : List Clause) (i : ℕ) (x : Clause) → i < length cs → x ≡ get_or cs i x → kept_by_items (items_of x.items.items) ≤ kept_by_clauses (clauses_of cs NoClauses)
 kept_of_clause [] i x inside at = absurd (omega (arith, inside))
@@ -41,20 +42,20 @@ one_clause starts out exits c cs p t = case_code starts c.tag c.number (items_of
 abbrev pub next_clause : Clause → List Clause → (t : ℕ) → ℕ
 next_clause c cs t = t
 
--- all clauses are made
+-- all clauses have been emitted
 pub made_clauses : (starts : Starts) (out : ℕ) (exits : Exits) (old : List Instruction) (cs : List Clause) (i : ℕ) (code : List Instruction) (t : ℕ) → length cs ≤ i
     → ((default : Clauses) → Remains (all_clauses starts default out exits) old cs t i code t) → BeginClauses starts cs out exits t old code
 made_clauses starts out exits old cs i code t done r default =
     ap (λ (xs : List Clause). code ++ all_clauses starts default out exits xs (length code) t) (sym (drop_all i cs done)) ∙ r default
 
--- one clause more is made
+-- one more clause is emitted
 pub more_clauses : (starts : Starts) (out : ℕ) (exits : Exits) (old : List Instruction) (cs : List Clause) (i : ℕ) (code new : List Instruction) (t : ℕ) (x : Clause) → i < length cs → x ≡ get_or cs i x
     → new ≡ code ++ case_code starts x.tag x.number (items_of x.items.items) (length code) out exits t
     → ((default : Clauses) → Remains (all_clauses starts default out exits) old cs t i code t) → (default : Clauses) → Remains (all_clauses starts default out exits) old cs t (i + 1) new t
 more_clauses starts out exits old cs i code new t x inside at is r default =
     goes_on_by (all_clauses starts default out exits) (one_clause starts out exits) next_clause (λ c rest p s. refl) old cs t i code new t x inside at is (r default)
 
--- the code of a default does not tell where that of the clauses before it leads
+-- the code of a default does not depend on where the clauses before it lead
 default_alike : (starts : Starts) (d : Option Body) (p out : ℕ) (exits : Exits) (t : ℕ) → clauses_code starts (default_of d) p 0 exits t ≡ clauses_code starts (default_of d) p out exits t
 default_alike starts None p out exits t = refl
 default_alike starts (Some body) p out exits t = refl
@@ -81,29 +82,29 @@ module _ (starts : Starts) (tag : ℕ) (x : Option ℕ) (js : Items) (out : ℕ)
 -- ---- a `try`
 
 module _ (starts : Starts) (s : Statement) (cs : Clauses) (exits : Exits) (t : ℕ) (old : List Instruction) (x y : Instruction) (m0 m1 m2 m3 m4 m5 m6 m7 m8 : List Instruction) (opening out : ℕ) where
-  pub made_try : m0 ≡ old ++ kept_code starts t → opening ≡ length m0 → m1 ≡ m0 ++ x ∷ [] → m2 ≡ m1 ++ statement_code starts s (length m1) (inside_try exits t) (behind_record starts t) → m3 ≡ m2 ++ instructions.Leave t ∷ []
+  pub made_try : m0 ≡ old ++ kept_code starts t → opening ≡ length m0 → m1 ≡ m0 ++ x ∷ [] → m2 ≡ m1 ++ statement_code starts s (length m1) (inside_try exits t) (after_record starts t) → m3 ≡ m2 ++ instructions.Leave t ∷ []
       → out ≡ length m3 → m4 ≡ m3 ++ y ∷ [] → m5 ≡ set m4 opening (instructions.Try t (length m4)) → m6 ≡ m5 ++ restored_code starts t → m7 ≡ m6 ++ clauses_code starts cs (length m6) out exits t
       → m8 ≡ set m7 out (instructions.Jump (length m7)) → m8 ≡ old ++ statement_code starts (Try s cs) (length old) exits t
   made_try e0 h1 e1 e2 e3 h2 e4 e5 e6 e7 e8 =
       let kept = kept_code starts t in
       let restored = restored_code starts t in
-      let first : ℕ → List Instruction = λ p. statement_code starts s p (inside_try exits t) (behind_record starts t) ++ instructions.Leave t ∷ [] in
+      let first : ℕ → List Instruction = λ p. statement_code starts s p (inside_try exits t) (after_record starts t) ++ instructions.Leave t ∷ [] in
       let second : ℕ → List Instruction = λ p. restored ++ clauses_code starts cs (p + length restored) out exits t in
       let p = length old + length kept + 1 in
       let q = p + length (first p) + 1 in
       let made : m3 ≡ m1 ++ first (length m1)
-      = e3 ∙ ap (λ (l : List Instruction). l ++ instructions.Leave t ∷ []) e2 ∙ append_assoc m1 (statement_code starts s (length m1) (inside_try exits t) (behind_record starts t)) (instructions.Leave t ∷ []) in
+      = e3 ∙ ap (λ (l : List Instruction). l ++ instructions.Leave t ∷ []) e2 ∙ append_assoc m1 (statement_code starts s (length m1) (inside_try exits t) (after_record starts t)) (instructions.Leave t ∷ []) in
       let l0 : length m0 ≡ length old + length kept = ap length e0 ∙ length-append old kept in
       let l1 : length m1 ≡ p = ap length e1 ∙ length-append m0 (x ∷ []) ∙ ap (λ (n : ℕ). n + 1) l0 in
       let there : out ≡ p + length (first p) = h2 ∙ ap length made ∙ length-append m1 (first (length m1)) ∙ ap (λ (n : ℕ). n + length (first n)) l1 in
-      let behind : m7 ≡ m5 ++ second (length m5) = emitted_joined m5 restored (λ (n : ℕ). clauses_code starts cs n out exits t) m6 m7 e6 e7 in
+      let following : m7 ≡ m5 ++ second (length m5) = emitted_joined m5 restored (λ (n : ℕ). clauses_code starts cs n out exits t) m6 m7 e6 e7 in
       branched old (λ _. kept) (λ _ code. code) (λ rest target. refl) (λ target. refl) x y first second (λ (n : ℕ). instructions.Try t n) (λ (n : ℕ). instructions.Jump n) m0 m1 m3 m4 m5 m7 m8
-      e0 e1 made e4 (e5 ∙ ap (λ (n : ℕ). set m4 n (instructions.Try t (length m4))) h1) behind (e8 ∙ ap (λ (n : ℕ). set m7 n (instructions.Jump (length m7))) h2)
+      e0 e1 made e4 (e5 ∙ ap (λ (n : ℕ). set m4 n (instructions.Try t (length m4))) h1) following (e8 ∙ ap (λ (n : ℕ). set m7 n (instructions.Jump (length m7))) h2)
       p refl q refl
       ∙ ap (λ (n : ℕ). old ++ (kept ++ (instructions.Try t q ∷ (first p ++ (instructions.Jump (q + length (restored ++ clauses_code starts cs (q + length restored) n exits t)) ∷ (restored ++ clauses_code starts cs (q + length restored) n exits t)))))) there
 
 module _ (starts : Starts) (value : Stmt) {w : Span} (b : Box Stmt Heap) (v : Vec Clause Heap) (d : Option Body) (is : value ≡ stmt.Try w b v d) (body : Stmt) (at : body ≡ b.value) (clauses : List Clause) (same : clauses ≡ v.items) (exits : Exits) (t : ℕ) (old : List Instruction) (x : Instruction) (m0 m1 m2 m3 m4 m5 m6 m7 : List Instruction) (opening out : ℕ) where
-  pub made_handler : m0 ≡ old ++ kept_code starts t → opening ≡ length m0 → m1 ≡ m0 ++ x ∷ [] → m2 ≡ m1 ++ statement_code starts (view_statement body) (length m1) (inside_try exits t) (behind_record starts t) → out ≡ length m2 + 1
+  pub made_handler : m0 ≡ old ++ kept_code starts t → opening ≡ length m0 → m1 ≡ m0 ++ x ∷ [] → m2 ≡ m1 ++ statement_code starts (view_statement body) (length m1) (inside_try exits t) (after_record starts t) → out ≡ length m2 + 1
       → m3 ≡ set (m2 ++ instructions.Leave t ∷ instructions.Jump 0 ∷ []) opening (instructions.Try t (length m2 + 2)) → m4 ≡ m3 ++ restored_code starts t → BeginClauses starts clauses out exits t m4 m5
       → m6 ≡ m5 ++ clauses_code starts (default_of d) (length m5) 0 exits t → m7 ≡ set m6 out (instructions.Jump (length m6))
       → m7 ≡ old ++ statement_code starts (view_statement value) (length old) exits t
@@ -125,8 +126,8 @@ module _ (starts : Starts) (value : Stmt) {w : Span} (b : Box Stmt Heap) (v : Ve
       (e6 ∙ ap (λ (l : List Instruction). m5 ++ l) (default_alike starts d (length m5) out exits t) ∙ begin (default_of d)) e7
       ∙ ap (λ (s : Statement). old ++ statement_code starts s (length old) exits t) (sym e)
 
--- the record and what is kept behind it have room
-pub record_room : (scopes : Option ℕ) (t : ℕ) → behind_record_in scopes t ≤ t + 6
+-- the record and the number after it have room
+pub record_room : (scopes : Option ℕ) (t : ℕ) → after_record_in scopes t ≤ t + 6
 record_room None t = omega arith
 record_room (Some place) t = omega arith
 

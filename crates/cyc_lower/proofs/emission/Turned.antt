@@ -1,8 +1,8 @@
--- The loop by which what leads behind one place comes to lead behind another: it ends with all of the code.
+-- The loop that replaces targets after one place by targets after another: it ends with all of the code.
 use Rattle.std.proofs.Common.{◌≡◌, ℕ, zero, suc, ◌≤◌, List, [], ◌∷◌, ◌++◌, length, take, drop, refl, sym, ap, subst, ◌∙◌, arith}
 use Rattle.cyc_plain.specs.declared.instruction.Instruction.{Instruction}
-use Rattle.cyc_lower.specs.inside.Lowering.{AreTurned}
-use Rattle.cyc_lower.proofs.emission.Alike.{TurnedTo, turned-all}
+use Rattle.cyc_lower_proof.specs.inside.Lowering.{AreTurned}
+use Rattle.cyc_lower_proof.proofs.emission.Alike.{TurnedTo, turned-all}
 
 all_taken : (old new : List Instruction) → length new ≡ length old → take (length old) (new ++ drop (length new) old) ≡ new
 all_taken [] [] same = refl

@@ -1,4 +1,4 @@
--- What the code that emits says of itself: what it adds to the code made so far.
+-- The contract of the code emitter: how its functions extend the code emitted so far.
 use Rattle.std.specs.Prelude.{◌≡◌, ℕ, suc, ◌+◌, ◌^◌, ◌≤◌, ◌<◌, Bool, false, if◌then◌else◌, Option, IfOk, List, [], ◌∷◌, ◌++◌, length, map, set, Some, None, option_map, Result, OnOk, slice_get}
 use Rattle.std.specs.declared.alloc.AllocError.{AllocError}
 use Rattle.cyc_types.specs.declared.typed.Operation.{Operation}
@@ -17,92 +17,92 @@ use Rattle.cyc_plain.specs.declared.instruction.Operand.{Operand}
 use Rattle.cyc_plain.specs.declared.instruction.Operand.TheVariants.{Slot, Word}
 use Rattle.cyc_plain.specs.declared.instruction.Instruction.{Instruction}
 use Rattle.cyc_plain.specs.declared.instruction.Instruction.TheVariants.{WriteByte, Throw, Jump}
-use Rattle.cyc_frame_count.specs.inside.Needs.{most_frame_count}
-use Rattle.cyc_lower.specs.inside.Slots.{Starts, slot_of}
-use Rattle.cyc_lower.specs.inside.ValueCode.{code_unless, slot_or, code_unless_slot, conversion_code, compute_code, test_code, behind_left, pointer_code, span_of, failing_comparison}
-use Rattle.cyc_lower.specs.inside.ControlCode.{is_same, deciding_condition, deciding_jump, failing_jump, holding_jump, inside_loop, tag_operand, clause_code, opened_code, named_code, dynamic_code, inside_region, entry_code, looped_code, body_target, null_compared, pointers_failing, through_code}
-use Rattle.cyc_lower.specs.inside.ControlCode.{breaks}
-use Rattle.cyc_lower.specs.inside.ExpressionCode.{operand_of, source_of, source_slot, printed_operand, printed_code, left_of, value_slot, left_slot, value_operand, expression_code, brought_code, are_simple, is_simple}
-use Rattle.cyc_lower.specs.inside.Lowering.{is_guard, first_operand, condition_code, choice_code, choice_of, tests_code, last_condition, branch_code, branch_of, statement_code, declaration_code, condition_of}
-use Rattle.cyc_lower.specs.inside.Lowering.{thrown_operand, thrown_code, caught_code, items_code, clauses_code, farthest, body_code, starts_with, raises_of}
+use Rattle.cyc_sizes.specs.inside.Needs.{most_frame_count}
+use Rattle.cyc_lower_proof.specs.inside.Slots.{Starts, slot_of}
+use Rattle.cyc_lower_proof.specs.inside.ValueCode.{code_unless, slot_or, code_unless_slot, conversion_code, compute_code, test_code, after_left, pointer_code, span_of, failing_comparison}
+use Rattle.cyc_lower_proof.specs.inside.ControlCode.{is_same, deciding_condition, deciding_jump, failing_jump, holding_jump, inside_loop, tag_operand, clause_code, opened_code}
+use Rattle.cyc_lower_proof.specs.inside.ControlCode.{named_code, dynamic_code, inside_region, entry_code, looped_code, body_target, null_compared, pointers_failing, through_code}
+use Rattle.cyc_lower_proof.specs.inside.ControlCode.{breaks}
+use Rattle.cyc_lower_proof.specs.inside.ExpressionCode.{operand_of, source_of, source_slot, printed_operand, printed_code, left_of, value_slot, left_slot, value_operand, expression_code, brought_code, are_simple, is_simple}
+use Rattle.cyc_lower_proof.specs.inside.Lowering.{is_guard, first_operand, condition_code, choice_code, choice_of, tests_code, last_condition, branch_code, branch_of, statement_code, declaration_code, condition_of}
+use Rattle.cyc_lower_proof.specs.inside.Lowering.{thrown_operand, thrown_code, caught_code, items_code, clauses_code, farthest, body_code, starts_with, raises_of}
 use Rattle.cyc_meaning.specs.FrameCount.{frame_count}
 use Rattle.cyc_plain.specs.declared.instruction.Comparison.{Comparison}
 use Rattle.cyc_plain.specs.declared.instruction.Comparison.TheVariants as comparisons
 use Rattle.cyc_lower.specs.declared.emitter.Emitter.{Emitter}
 use Rattle.cyc_lower.specs.declared.starts.Starts.{Starts as StartsCode}
-use Rattle.cyc_lower.specs.declared.operands.Condition.{Condition}
+use Rattle.cyc_lower_proof.specs.declared.condition.Condition.{Condition}
 use Rattle.cyc_lower.specs.declared.conditions.Pending.{Pending}
 use Rattle.cyc_lower.specs.declared.conditions.Tested.{Tested}
-use Rattle.cyc_lower.specs.declared.exits.Exits.{Exits}
+use Rattle.cyc_lower_proof.specs.declared.exits.Exits.{Exits}
 
--- this code is added behind what there was
+-- true if the function adds this code after the old code, unless memory runs out
 abbrev pub Appends : {T : Type 0} → Result T AllocError → (old new : Emitter) → List Instruction → Type 0
 Appends result old new code = OnOk result (new.code.items ≡ old.code.items ++ code)
 
--- the same, and this is answered
+-- true if the function adds this code after the old code and returns this value, unless memory runs out
 abbrev pub Gives : {T : Type 0} → T → Result T AllocError → (old new : Emitter) → List Instruction → Type 0
 Gives answer result old new code = IfOk result (λ given. (given ≡ answer) × (new.code.items ≡ old.code.items ++ code))
 
--- where things begin, as the code has it
+-- the first slots, words and places, as the code represents them
 abbrev pub view_starts : StartsCode → Starts
 view_starts starts = record { locals = starts.locals.now; tag_slot = starts.tag_slot; structs = map view_struct starts.structs.now; raises = starts.raises; counters = starts.counters.now; globals = starts.globals.now; scopes = starts.scopes }
 
--- Slots are numbers that a word holds: a function has fewer locals than this, and of its temporaries no more are in use than
--- there are instructions before.
+-- Slots are numbers that fit in a word. A function has fewer locals than this. A function uses at most as many temporaries at a time as
+-- there are previous instructions.
 abbrev pub most_locals : ℕ
 most_locals = 2 ^ 32
 
--- whether an item of a block leaves the loop around it by a `break`
+-- true if an item of a block may leave the enclosing loop by a `break`
 abbrev pub item_breaks : Item → Bool
 item_breaks (item.Execute s) = breaks (view_statement s)
 item_breaks i = false
 
--- this expression is a chain of these operators
+-- true if this expression is a chain of these operators
 abbrev pub IsChain : (whole first : Expression) → Operations → Type 0
 IsChain whole first os = (ty : Ty) × (whole ≡ Binary first os ty)
 
--- a test by this operator
+-- true if the operation is a test by this operator
 abbrev pub is_test : LogicalOperator → Operation → Bool
 is_test u (operation.Test o e) = is_same u o
 is_test u o = false
 
--- Locals that have these first slots, in a program with these structs.
--- whether an operator compares with null, and by what that fails
+-- for an operator that compares with null, the comparison that holds if it fails
 abbrev pub null_operation : Operation → Option Comparison
 null_operation (operation.Pointer o e) = null_compared o (view_expression e)
 null_operation (operation.PointerPeek n o e) = null_compared o (view_expression e)
 null_operation o = None
 
--- whether an operator compares its two operands, and by what that fails
+-- for an operator that compares its two operands, the comparison that holds if it fails
 abbrev pub pair_operation : Operation → Option Comparison
 pair_operation (operation.Compute w o e) = failing_comparison o
 pair_operation (operation.Pointer o e) = pointers_failing o
 pair_operation (operation.PointerPeek n o e) = pointers_failing o
 pair_operation (operation.Test o e) = None
 
--- what stands on the right of one
+-- the right operand of an operation
 abbrev pub right_of : Operation → Expression
 right_of (operation.Compute w o e) = view_expression e
 right_of (operation.Test o e) = view_expression e
 right_of (operation.Pointer o e) = view_expression e
 right_of (operation.PointerPeek n o e) = view_expression e
 
--- jumps whose targets are not yet known come to lead to a place where their conditions fail
+-- the code after pending jumps have got this target, which they take if their conditions fail
 abbrev pub failed : List Pending → (target : ℕ) → List Instruction → List Instruction
 failed [] target code = code
 failed (j ∷ js) target code = failed js target (set code j.place (failing_jump j.condition target))
 
--- they stand before a place
+-- true if the pending jumps are before a place
 abbrev pub AreBefore : List Pending → (place : ℕ) → Type 0
 AreBefore [] place = Unit {0}
 AreBefore (j ∷ js) place = (j.place < place) × AreBefore js place
 
--- Code that was made to lead to place 0 comes to lead to any other by these jumps, wherever it begins at this place.
+-- Setting the targets of these jumps turns code for target 0 into code for any other target, if the code begins at this place.
 abbrev pub Aims : List Pending → (code : ℕ → List Instruction) → (place : ℕ) → Type 0
 Aims early code place =
     (old rest : List Instruction) (target : ℕ) → length old ≡ place → failed early target (old ++ (code 0 ++ rest)) ≡ old ++ (code target ++ rest)
 
--- A branch's condition is made, for place 0 where it leads out of its midst, with the jumps that lead there.
+-- The condition of a branch is emitted, with target 0 for its inner jumps, and these jumps are returned.
 abbrev pub IsTested : Condition → (code : ℕ → List Instruction) → (old new : List Instruction) → Tested → Type 0
 IsTested last code old new tested =
     (tested.last ≡ last) × Aims tested.early.items code (length old) × AreBefore tested.early.items (length new) × (new ≡ old ++ code 0)
@@ -112,32 +112,32 @@ module _ (starts : Starts) where
   abbrev pub value_code : Expression → (p t : ℕ) → List Instruction
   value_code a p t = code_unless (operand_of starts a) (expression_code starts a p (value_slot starts a t) t)
 
-  -- a condition that is such an expression compared with 0
+  -- the condition that compares an operand without a comparison with 0
   abbrev pub zero_condition : Expression → (t : ℕ) → Condition
   zero_condition a t = record { failing = comparisons.Equal; left = value_operand starts a t; right = Word 0 }
 
-  -- the same where another comparison holds where it fails
+  -- the condition that compares such an operand with 0 by another comparison
   abbrev pub null_condition : Comparison → Expression → (t : ℕ) → Condition
   null_condition failing a t = record { failing = failing; left = value_operand starts a t; right = Word 0 }
 
-  -- a condition that is a comparison of two
+  -- the condition that compares two operands
   abbrev pub pair_condition : Comparison → (a b : Expression) → (t : ℕ) → Condition
   pair_condition failing a b t = record { failing = failing; left = first_operand starts a b t; right = value_operand starts b (suc t) }
 
-  -- `putchar` of its argument
+  -- the code of `putchar` with its argument
   abbrev pub print_code : Arguments → (p t : ℕ) → List Instruction
   print_code cs p t = printed_code starts cs p t ++ WriteByte (printed_operand starts cs (Slot t) t) ∷ []
 
-  -- the code of a value that is to be converted
+  -- the code of a value that will be converted
   abbrev pub source_code : Converted → (p t : ℕ) → List Instruction
   source_code (Convert from to a) p t =
       code_unless (source_of starts (Convert from to a)) (brought_code starts (Convert from to a) p (source_slot starts (Convert from to a) t) t)
 
-  -- that of one which only a slot will do for
+  -- the code of a value that must be in a slot
   abbrev pub slot_code : Converted → (p t : ℕ) → List Instruction
   slot_code (Convert from to a) p t = code_unless_slot (source_of starts (Convert from to a)) (brought_code starts (Convert from to a) p t t)
 
-  -- a value that is returned, converted, and its slot
+  -- the slot of a returned value after its conversion
   abbrev pub converted_slot : Converted → (t : ℕ) → ℕ
   converted_slot c t = slot_or (source_of starts c) t
 
@@ -146,25 +146,25 @@ module _ (starts : Starts) where
       code_unless_slot (source_of starts (Convert from to a)) (brought_code starts (Convert from to a) p t t)
       ++ conversion_code starts from to (span_of a) (Slot (slot_or (source_of starts (Convert from to a)) t)) (p + length (code_unless_slot (source_of starts (Convert from to a)) (brought_code starts (Convert from to a) p t t)))
 
-  -- what brings the left operand of a chain
+  -- the code that moves the left operand of a chain to its place
   abbrev pub left_code : Expression → Operations → (p d t : ℕ) → List Instruction
   left_code a os p d t = code_unless (left_of starts a os) (expression_code starts a p (left_slot starts a os d t) t)
 
-  -- behind a simple operand a chain is, with these operators
+  -- true if a chain of these operators is simple after a simple operand
   abbrev pub is_simple_chain : Operations → Bool
   is_simple_chain (ThenCompute o b os) = are_simple starts (ThenCompute o b os)
   is_simple_chain os = false
 
-  -- the first of these operators has a simple operand on its right
+  -- true if the first of these operators has a simple right operand
   abbrev pub takes_operand : Operations → Bool
   takes_operand (ThenCompute o b os) = is_simple starts b
   takes_operand os = false
 
-  -- an operator on pointers with its right operand
+  -- the code of an operator on pointers and its right operand
   abbrev pub pointer_operation_code : PointerOperator → Expression → (p : ℕ) → (l : Operand) → (d t : ℕ) → List Instruction
-  pointer_operation_code o b p l d t = pointer_code o l (value_operand starts b (behind_left o t)) (value_code b p (behind_left o t)) d
+  pointer_operation_code o b p l d t = pointer_code o l (value_operand starts b (after_left o t)) (value_code b p (after_left o t)) d
 
-  -- one operator of a chain with its right operand, where the left one is l
+  -- the code of one operator of a chain and its right operand, with l as its left operand
   abbrev pub operation_code : Operation → (p : ℕ) → (l : Operand) → (d t : ℕ) → List Instruction
   operation_code (operation.Compute w o e) p l d t =
       compute_code starts o l (value_operand starts (view_expression e) (suc t)) (value_code (view_expression e) p (suc t)) d
@@ -172,45 +172,45 @@ module _ (starts : Starts) where
   operation_code (operation.Pointer o e) p l d t = pointer_operation_code o (view_expression e) p l d t
   operation_code (operation.PointerPeek n o e) p l d t = pointer_operation_code o (view_expression e) p l d t
 
-  -- the right operand of a test, behind a jump that is taken where the left one decides, and its condition
-  abbrev pub other_code : LogicalOperator → Operation → Condition → (behind p t : ℕ) → List Instruction
-  other_code u (operation.Test o e) c behind p t = deciding_jump u c behind ∷ condition_code starts (view_expression e) (p + 1) t
-  other_code u o c behind p t = []
+  -- the code of the right operand of a test and its condition, after a jump that is taken if the left operand decides
+  abbrev pub other_code : LogicalOperator → Operation → Condition → (following p t : ℕ) → List Instruction
+  other_code u (operation.Test o e) c following p t = deciding_jump u c following ∷ condition_code starts (view_expression e) (p + 1) t
+  other_code u o c following p t = []
 
   abbrev pub other_condition : Operation → Condition → (t : ℕ) → Condition
   other_condition (operation.Test o e) c t = condition_of starts (view_expression e) t
   other_condition o c t = c
 
-  -- The jumps of tests by an operator behind an operand that is made, each at the place behind what it decides on.
+  -- The jumps of tests by an operator after the first operand. Each jump is at the place after the operand that it tests.
   abbrev pub early_jumps : LogicalOperator → List Operation → Condition → (p t : ℕ) → List Pending
   early_jumps u [] c p t = []
   early_jumps u (o ∷ os) c p t =
       record { place = p; condition = deciding_condition u c }
       ∷ early_jumps u os (other_condition o c t) (p + length (other_code u o c 0 p t)) t
 
-  -- what is made of such tests where it is not known where one leads that decides
+  -- the code of such tests is emitted while the target of the deciding jumps is unknown
   abbrev pub IsEarly : LogicalOperator → Expression → List Operation → (t : ℕ) → (old new : List Instruction) → Tested → Type 0
   IsEarly u a os t old new tested =
       (tested.last ≡ last_condition starts (operations_of os) (condition_of starts a t) t)
       × (tested.early.items ≡ early_jumps u os (condition_of starts a t) (length old + length (condition_code starts a (length old) t)) t)
       × (new ≡ old ++ tests_code starts u a (operations_of os) 0 (length old) t)
 
-  -- what is made of a branch's condition, and of one whose jumps all lead where they are to
+  -- the condition of a branch is emitted, and so is one whose jumps all have their targets
   abbrev pub IsBranch : LogicalOperator → Expression → (t : ℕ) → (old new : List Instruction) → Tested → Type 0
   IsBranch u a t old new tested = IsTested (branch_of starts u a t) (λ other. branch_code starts u a other (length old) t) old new tested
 
   abbrev pub IsSettled : LogicalOperator → Expression → (t : ℕ) → (old new : List Instruction) → Tested → Type 0
   IsSettled u a t old new tested = IsTested (choice_of starts u a t) (λ other. choice_code starts u a (length old) t) old new tested
 
-  -- an exception is thrown
+  -- the code that throws an exception
   abbrev pub throw_code : (tag : ℕ) → Option Expression → (p t : ℕ) → List Instruction
   throw_code tag v p t = thrown_code starts v p t ++ Throw (tag_operand tag) (thrown_operand starts v t) ∷ []
 
-  -- what comes behind the jump over a clause
+  -- the code after the jump over a clause
   abbrev pub caught_items_code : (number : Option ℕ) → Items → (p : ℕ) → Exits → (t : ℕ) → List Instruction
   caught_items_code x js p exits t = caught_code starts x t ++ items_code starts js (p + length (caught_code starts x t)) exits t
 
-  -- one item of a block
+  -- the code of one item of a block
   abbrev pub item_code : Item → (p : ℕ) → Exits → (t : ℕ) → List Instruction
   item_code (item.Execute s) p exits t = statement_code starts (view_statement s) p exits t
   item_code (item.Local w n ty v) p exits t = declaration_code starts n (view_ty ty) (option_map view_converted v) p t
@@ -219,57 +219,43 @@ module _ (starts : Starts) where
   item_code (item.Alias r n ty w s) p exits t = named_code starts (words_of (view_ty ty)) n (Slot (slot_of starts s))
   item_code (item.DynamicRegion w r n) p exits t = dynamic_code starts n t
 
-  -- a clause of a `try`
+  -- the code of a clause of a `try`
   abbrev pub case_code : (tag : ℕ) → (number : Option ℕ) → Items → (p out : ℕ) → Exits → (t : ℕ) → List Instruction
   case_code tag x js p out exits t = clause_code tag t (caught_items_code x js (p + 1) exits t) p out
 
-  -- clauses were added behind what there was, before the default, whichever that is
+  -- clauses were added after the old code, before the default, which may be any
   abbrev pub BeginClauses : List Clause → (out : ℕ) → Exits → (t : ℕ) → (old new : List Instruction) → Type 0
   BeginClauses cs out exits t old new =
       (default : Clauses)
       → new ++ clauses_code starts default (length new) out exits t ≡ old ++ clauses_code starts (clauses_of cs default) (length old) out exits t
 
-  -- what a loop begins with, where it is not known yet at which place its condition is behind its body
+  -- the beginning of a loop while the place of the condition after its body is unknown
   abbrev pub begun_loop : Expression → (p t : ℕ) → List Instruction
   begun_loop a p t = entry_code (is_guard starts a) (choice_code starts logical.AndThen a p t) (holding_jump (choice_of starts logical.AndThen a t)) 0 p
 
-  -- and once that is known, as the next place, in code that has the loop from this place on
+  -- the beginning of the loop at this place, once the place of its condition is known to be the next one
   abbrev pub entered_loop : Expression → (code : List Instruction) → (head : ℕ) → List Instruction
   entered_loop a code head = if is_guard starts a then code else set code head (Jump (length code))
 
-  -- a branch with nothing behind `else`
+  -- the code of a branch without an `else` part
   abbrev pub then_code : Expression → Statement → (p : ℕ) → Exits → (t : ℕ) → List Instruction
   then_code a s p exits t = statement_code starts (If a s Empty) p exits t
 
-  -- a loop whose condition may have little code, and whose body has no break
+  -- the code of a loop with a light condition and without a `break`
   abbrev pub through_loop : Expression → Statement → (p : ℕ) → Exits → (t : ℕ) → List Instruction
   through_loop a s p exits t =
       through_code (choice_code starts logical.OrElse a p t) (failing_jump (choice_of starts logical.OrElse a t)) (λ q. statement_code starts s q (inside_loop p p exits) t) (λ q. choice_code starts logical.AndThen a q t) (holding_jump (choice_of starts logical.AndThen a t)) p
 
-  -- any other loop
+  -- the code of any other loop
   abbrev pub loop_code : Expression → Statement → (p : ℕ) → Exits → (t : ℕ) → List Instruction
   loop_code a s p exits t =
       looped_code (is_guard starts a) (λ q. choice_code starts logical.AndThen a q t) (λ leaving. statement_code starts s (body_target leaving) (inside_loop p leaving exits) t) (holding_jump (choice_of starts logical.AndThen a t)) p
 
--- behind an item of a block: the ways out, and the first slot for temporaries
-abbrev pub exits_behind : Item → Exits → (t : ℕ) → Exits
-exits_behind (item.Region w r n) exits t = inside_region exits t
-exits_behind i exits t = exits
+-- the exits and the first slot for temporaries after an item of a block
+abbrev pub exits_after : Item → Exits → (t : ℕ) → Exits
+exits_after (item.Region w r n) exits t = inside_region exits t
+exits_after i exits t = exits
 
-abbrev pub free_behind : Item → (t : ℕ) → ℕ
-free_behind (item.Region w r n) t = t + 1
-free_behind i t = t
-
--- ---- programs
-
--- the frame of each function has few enough words
-abbrev pub HaveFewWords : List Function → Type 0
-HaveFewWords hs = (n : ℕ) (h : Function) → slice_get hs n ≡ Some h → frame_count h ≤ most_frame_count
-
--- the code of a function leads no farther than to what stands behind its body
-abbrev pub IsClose : List StructType → (globals : List ℕ) → (scopes : Option ℕ) → Function → Type 0
-IsClose structs globals scopes h =
-    farthest (body_code (starts_with (raises_of structs globals scopes h) structs globals scopes h) h) ≤ raises_of structs globals scopes h + 7
-
-abbrev pub AreClose : List StructType → (globals : List ℕ) → (scopes : Option ℕ) → List Function → Type 0
-AreClose structs globals scopes hs = (n : ℕ) (h : Function) → slice_get hs n ≡ Some h → IsClose structs globals scopes h
+abbrev pub free_after : Item → (t : ℕ) → ℕ
+free_after (item.Region w r n) t = t + 1
+free_after i t = t

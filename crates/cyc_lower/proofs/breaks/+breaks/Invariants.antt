@@ -5,6 +5,6 @@ use Rattle.cyc_lower.proofs.breaks.+breaks.Given as goal
 abbrev pub invariant-items_break-loop-item : goal.invariant-items_break-loop-item
 invariant-items_break-loop-item l = ItemsStay l.items l.item-index
 
--- and none of the clauses
+-- none of the clauses so far has a `break`
 abbrev pub invariant-clauses_break-loop-clause : goal.invariant-clauses_break-loop-clause
 invariant-clauses_break-loop-clause l = ClausesStay l.clauses l.clause-index

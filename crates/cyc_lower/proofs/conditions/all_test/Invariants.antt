@@ -1,6 +1,6 @@
 use Rattle.std.proofs.Common.{◌≡◌, drop}
 use Rattle.cyc_types.specs.TypedTreeView.{operations_of}
-use Rattle.cyc_lower.specs.inside.ControlCode.{all_test}
+use Rattle.cyc_lower_proof.specs.inside.ControlCode.{all_test}
 use Rattle.cyc_lower.proofs.conditions.all_test.Given as goal
 
 -- the operators so far are tests

@@ -3,11 +3,11 @@ use Rattle.cyc_types.specs.TypedTreeView.{view_struct, view_function}
 use Rattle.cyc_types.specs.TypeView.{view_ty}
 use Rattle.cyc_types.specs.declared.ty.Ty.{Ty}
 use Rattle.cyc_meaning.specs.FrameCount.{items_need, kept_by_items, words_of_all, frame_count}
-use Rattle.cyc_lower.specs.inside.ValueCode.{first_temporary}
-use Rattle.cyc_lower.specs.inside.ControlCode.{outside_loops}
-use Rattle.cyc_lower.specs.inside.Lowering.{function_code, items_code, blocks_kept, span_of_place}
-use Rattle.cyc_lower.proofs.slots.Slots.{slots-few}
-use Rattle.cyc_lower.proofs.sizes.Routines.{few_locals, function_made}
+use Rattle.cyc_lower_proof.specs.inside.ValueCode.{first_temporary}
+use Rattle.cyc_lower_proof.specs.inside.ControlCode.{outside_loops}
+use Rattle.cyc_lower_proof.specs.inside.Lowering.{function_code, items_code, blocks_kept, span_of_place}
+use Rattle.cyc_lower_proof.proofs.slots.Slots.{slots-few}
+use Rattle.cyc_lower.proofs.Routines.{few_locals, function_made}
 use Rattle.cyc_lower.proofs.functions.lower_function.Goals as goal
 
 pub lower_body-requires : goal.lower_body-requires

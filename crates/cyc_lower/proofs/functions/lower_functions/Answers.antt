@@ -2,8 +2,8 @@ use Rattle.std.specs.Prelude.{map}
 use Rattle.cyc_words.proofs.Items.{slice_get-map_read}
 use Rattle.cyc_types.specs.TypedTreeView.{view_struct, view_function}
 use Rattle.cyc_plain.specs.inside.Program.{routine_of}
-use Rattle.cyc_lower.specs.inside.Lowering.{lower_function}
-use Rattle.cyc_lower.proofs.sizes.Routines.{one_more_mapped}
+use Rattle.cyc_lower_proof.specs.inside.Lowering.{lower_function}
+use Rattle.cyc_lower.proofs.Routines.{one_more_mapped}
 use Rattle.cyc_lower.proofs.functions.lower_functions.Goals as goal
 
 pub lower_function-requires-clause-few : goal.lower_function-requires-clause-few

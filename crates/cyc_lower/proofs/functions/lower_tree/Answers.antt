@@ -7,10 +7,10 @@ use Rattle.cyc_types.specs.TypedTreeView.{view_struct, view_function, view_globa
 use Rattle.cyc_plain.specs.inside.Program.{program_of, routine_of}
 use Rattle.cyc_plain.specs.inside.WellFormed.{IsPlain}
 use Rattle.cyc_meaning.specs.FrameCount.{words_of_all}
-use Rattle.cyc_lower.specs.inside.Slots.{starts_from, global_types}
-use Rattle.cyc_lower.specs.inside.Lowering.{lower_function, lower_globals, globals_of, lower_program, may_open, scopes_if, scopes_of}
-use Rattle.cyc_lower.specs.inside.Emission.{AreClose}
-use Rattle.cyc_lower.proofs.sizes.Lowerings.{is_plain, closely_lowered}
+use Rattle.cyc_lower_proof.specs.inside.Slots.{starts_from, global_types}
+use Rattle.cyc_lower_proof.specs.inside.Lowering.{lower_function, lower_globals, globals_of, lower_program, may_open, scopes_if, scopes_of}
+use Rattle.cyc_lower_proof.specs.inside.Bounds.{AreClose}
+use Rattle.cyc_lower_proof.proofs.sizes.Lowerings.{is_plain, closely_lowered}
 use Rattle.cyc_lower.proofs.functions.lower_tree.Goals as goal
 
 pub starts_of_globals-requires : goal.starts_of_globals-requires

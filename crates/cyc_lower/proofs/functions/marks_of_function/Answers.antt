@@ -1,5 +1,5 @@
 use Rattle.std.proofs.Common.{arith}
-use Rattle.cyc_lower.proofs.sizes.Routines.{few_locals}
+use Rattle.cyc_lower.proofs.Routines.{few_locals}
 use Rattle.cyc_lower.proofs.functions.marks_of_function.Goals as goal
 
 pub lower_body-requires : goal.lower_body-requires

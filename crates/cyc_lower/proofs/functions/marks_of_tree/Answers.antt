@@ -5,7 +5,7 @@ use Rattle.cyc_types.specs.declared.typed.Function.{Function}
 use Rattle.cyc_types.specs.declared.typed.Global.{Global}
 use Rattle.cyc_types.specs.TypedTreeView.{view_function, view_global}
 use Rattle.cyc_meaning.specs.FrameCount.{words_of_all}
-use Rattle.cyc_lower.specs.inside.Slots.{global_types}
+use Rattle.cyc_lower_proof.specs.inside.Slots.{global_types}
 use Rattle.cyc_lower.proofs.functions.marks_of_tree.Goals as goal
 
 pub starts_of_globals-requires : goal.starts_of_globals-requires

@@ -1,7 +1,7 @@
 use Rattle.std.proofs.Common.{◌≡◌, drop, map}
 use Rattle.std.specs.List.{list_any}
 use Rattle.cyc_types.specs.TypedTreeView.{view_function}
-use Rattle.cyc_lower.specs.inside.Lowering.{may_open}
+use Rattle.cyc_lower_proof.specs.inside.Lowering.{may_open}
 use Rattle.cyc_lower.proofs.functions.may_open.Given as goal
 
 -- none of the functions so far may open a region

@@ -1,6 +1,6 @@
 use Rattle.std.specs.Prelude.{◌-◌}
 use Rattle.cyc_types.specs.TypedTreeView.{view_global}
-use Rattle.cyc_lower.proofs.slots.GlobalWords.{ZerosLeft}
+use Rattle.cyc_lower_proof.proofs.slots.GlobalWords.{ZerosLeft}
 use Rattle.cyc_lower.proofs.globals.add_global.Given as goal
 
 abbrev pub decreases-loop-left : goal.decreases-loop-left

@@ -1,4 +1,4 @@
-use Rattle.cyc_lower.proofs.slots.GlobalWords.{StartsLeft}
+use Rattle.cyc_lower_proof.proofs.slots.GlobalWords.{StartsLeft}
 use Rattle.cyc_lower.proofs.globals.starts_of_globals.Given as goal
 
 abbrev pub invariant-loop-global : goal.invariant-loop-global

@@ -1,6 +1,6 @@
 use Rattle.std.specs.Prelude.{map}
 use Rattle.cyc_types.specs.TypeView.{view_ty}
-use Rattle.cyc_lower.proofs.slots.LocalSlots.{SlotsLeft}
+use Rattle.cyc_lower_proof.proofs.slots.LocalSlots.{SlotsLeft}
 use Rattle.cyc_lower.proofs.locals.add_locals.Given as goal
 
 abbrev pub invariant-loop-of_type : goal.invariant-loop-of_type

@@ -1,5 +1,5 @@
 use Rattle.cyc_types.specs.TypedTreeView.{view_program}
-use Rattle.cyc_lower.proofs.sizes.NeedBounds.{small_frames}
+use Rattle.cyc_lower_proof.proofs.sizes.NeedBounds.{small_frames}
 use Rattle.cyc_lower.proofs.marks.marks_of.Goals as goal
 
 pub marks_of_tree-requires-clause-few : goal.marks_of_tree-requires-clause-few

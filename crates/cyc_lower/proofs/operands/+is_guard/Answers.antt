@@ -4,9 +4,9 @@ use Rattle.cyc_types.specs.Types.{Ty}
 use Rattle.cyc_types.specs.TypeView.{view_ty}
 use Rattle.cyc_types.specs.TypedTrees.{Expression, Operations, Binary}
 use Rattle.cyc_types.specs.TypedTreeView.{view_expression, operations_of}
-use Rattle.cyc_lower.specs.inside.Slots.{Starts}
-use Rattle.cyc_lower.specs.inside.ExpressionCode.{is_simple}
-use Rattle.cyc_lower.specs.inside.Lowering.{compares_light, is_guard}
+use Rattle.cyc_lower_proof.specs.inside.Slots.{Starts}
+use Rattle.cyc_lower_proof.specs.inside.ExpressionCode.{is_simple}
+use Rattle.cyc_lower_proof.specs.inside.Lowering.{compares_light, is_guard}
 use Rattle.cyc_lower.specs.inside.Emission.{view_starts}
 use Rattle.cyc_lower.proofs.emission.Emitting.{binary_viewed}
 use Rattle.cyc_lower.proofs.operands.+is_guard.Goals as goal

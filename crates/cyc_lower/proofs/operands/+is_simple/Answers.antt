@@ -4,8 +4,8 @@ use Rattle.cyc_types.specs.Types.{Ty}
 use Rattle.cyc_types.specs.TypeView.{view_ty}
 use Rattle.cyc_types.specs.TypedTrees.{Expression, Operations, ThenCompute, Binary}
 use Rattle.cyc_types.specs.TypedTreeView.{view_expression, operations_of}
-use Rattle.cyc_lower.specs.inside.Slots.{Starts}
-use Rattle.cyc_lower.specs.inside.ExpressionCode.{are_simple, is_simple}
+use Rattle.cyc_lower_proof.specs.inside.Slots.{Starts}
+use Rattle.cyc_lower_proof.specs.inside.ExpressionCode.{are_simple, is_simple}
 use Rattle.cyc_lower.specs.inside.Emission.{is_simple_chain, view_starts}
 use Rattle.cyc_lower.proofs.emission.Emitting.{binary_viewed}
 use Rattle.cyc_lower.proofs.operands.+is_simple.Goals as goal

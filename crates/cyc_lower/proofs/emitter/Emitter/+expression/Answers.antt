@@ -10,16 +10,16 @@ use Rattle.cyc_plain.specs.declared.instruction.Operand.{Operand}
 use Rattle.cyc_plain.specs.declared.instruction.Operand.TheVariants as operands
 use Rattle.cyc_plain.specs.declared.instruction.Instruction.TheVariants as instructions
 use Rattle.cyc_plain.specs.declared.instruction.Instruction.{Instruction}
-use Rattle.cyc_lower.specs.inside.ValueCode.{copy_code, conversion_code, test_jump, next_slot, span_of, all_passed, kinds_passed}
-use Rattle.cyc_lower.specs.inside.ExpressionCode.{value_operand, brought_code}
+use Rattle.cyc_lower_proof.specs.inside.ValueCode.{copy_code, conversion_code, test_jump, next_slot, span_of, all_passed, kinds_passed}
+use Rattle.cyc_lower_proof.specs.inside.ExpressionCode.{value_operand, brought_code}
 use Rattle.cyc_lower.specs.inside.Emission.{Gives, left_code, operation_code, view_starts}
 use Rattle.cyc_lower.proofs.emission.Emitting.{Remains, goes_on, emitted_joined, passed_on, slot_by_count, made_elements}
 use Rattle.cyc_lower.proofs.emission.ExpressionEmitting.{all_arguments, one_argument, next_argument, arguments_lower, all_operations, one_operation, next_operation, operations_lower, made_putchar, made_call, made_called, made_fields}
-use Rattle.cyc_lower.proofs.emission.ExpressionEmitting.{made_binary, room_behind, made_left_alone, made_left_first, made_compute, made_test, room_after, made_print, made_assigned, room_for_right, made_stored, made_left_operand}
-use Rattle.cyc_lower.proofs.emitter.Emitter.+expression.Goals.{lower_left-then-is_empty, lower_left-else-is_empty, lower_operations-then-behind-eq0, lower_operations-else-behind-eq0}
-use Rattle.cyc_lower.proofs.slots.CellBytes.{passed_slots}
+use Rattle.cyc_lower.proofs.emission.ExpressionEmitting.{made_binary, room_following, made_left_alone, made_left_first, made_compute, made_test, room_after, made_print, made_assigned, room_for_right, made_stored, made_left_operand}
+use Rattle.cyc_lower.proofs.emitter.Emitter.+expression.Goals.{lower_left-then-is_empty, lower_left-else-is_empty, lower_operations-then-following-eq0, lower_operations-else-following-eq0}
+use Rattle.cyc_lower_proof.proofs.slots.CellBytes.{passed_slots}
 use Rattle.cyc_lower.proofs.emitter.Emitter.+expression.Goals as goal
-use Rattle.cyc_lower.specs.inside.ObjectCode.{slots_of_kinds}
+use Rattle.cyc_lower_proof.specs.inside.ObjectCode.{slots_of_kinds}
 
 pub lower_arguments-loop-argument-preserved : goal.lower_arguments-loop-argument-preserved
 lower_arguments-loop-argument-preserved t c =
@@ -54,7 +54,7 @@ call-returns-in_ok-count-in-Function t c =
 
 pub lower_value-lower_operations-requires : goal.lower_value-lower_operations-requires
 lower_value-lower_operations-requires t c =
-    let room = room_behind (view_starts c.args.starts.now) (view_expression c.deref-in-Binary.result.now) (operations_of c.deref-in-Binary-2.result.now) c.args.self.now.code.items c.lower_left.new.self.code.items c.args.slot c.args.free c.requires c.in_ok-left-in-Binary.ensures.1 in
+    let room = room_following (view_starts c.args.starts.now) (view_expression c.deref-in-Binary.result.now) (operations_of c.deref-in-Binary-2.result.now) c.args.self.now.code.items c.lower_left.new.self.code.items c.args.slot c.args.free c.requires c.in_ok-left-in-Binary.ensures.1 in
     (search (rules, types.the_lemmas, expressions.the_lemmas, get_or_read), room)
 
 pub lower_value-returns-in-Call : goal.lower_value-returns-in-Call
@@ -86,7 +86,7 @@ lower_left-returns t c =
 pub apply-returns-in_ok-right-in-Compute : goal.apply-returns-in_ok-right-in-Compute
 apply-returns-in_ok-right-in-Compute t c =
     on_ok_weaker c.lower_operator.result
-    (made_compute (view_starts c.args.starts.now) c.args.operation.now c.in-Compute.operator c.in-Compute.operand c.args.self.now.code.items c.lower_operand.new.self.code.items c.lower_operator.new.self.code.items c.args.left c.in_ok-right-in-Compute.right c.args.slot c.args.free c.in_ok-behind-in-Compute.behind c.in-Compute.is c.in_ok-behind-in-Compute.ensures.0 c.in_ok-right-in-Compute.ensures.0 c.in_ok-right-in-Compute.ensures.1)
+    (made_compute (view_starts c.args.starts.now) c.args.operation.now c.in-Compute.operator c.in-Compute.operand c.args.self.now.code.items c.lower_operand.new.self.code.items c.lower_operator.new.self.code.items c.args.left c.in_ok-right-in-Compute.right c.args.slot c.args.free c.in_ok-following-in-Compute.following c.in-Compute.is c.in_ok-following-in-Compute.ensures.0 c.in_ok-right-in-Compute.ensures.0 c.in_ok-right-in-Compute.ensures.1)
     c.lower_operator.ensures
 
 pub apply-returns-in_ok-lower_expression-in-Test : goal.apply-returns-in_ok-lower_expression-in-Test
@@ -94,9 +94,9 @@ apply-returns-in_ok-lower_expression-in-Test t c =
     let o = c.in-Test.operator in
     let free = c.args.free in
     let made = c.lower_expression.new.self.code.items in
-    let patched : c.patch.new.self.code.items ≡ set made c.place-jump.result (test_jump o free c.place-behind.result) = c.patch.ensures ∙ ap (λ (j : Instruction). set made c.place-jump.result j) c.test_jump-in-Test.ensures in
+    let patched : c.patch.new.self.code.items ≡ set made c.place-jump.result (test_jump o free c.place-following.result) = c.patch.ensures ∙ ap (λ (j : Instruction). set made c.place-jump.result j) c.test_jump-in-Test.ensures in
     on_ok_weaker c.make_truth.result
-    (made_test (view_starts c.args.starts.now) c.args.operation.now o c.in-Test.operand c.in-Test.is c.args.self.now.code.items c.test_jump.result c.emit.new.self.code.items made c.patch.new.self.code.items c.make_truth.new.self.code.items c.args.left c.args.slot free c.place-jump.result c.place-behind.result c.place-jump.ensures c.in_ok-emit-in-Test.ensures c.in_ok-lower_expression-in-Test.ensures c.place-behind.ensures patched)
+    (made_test (view_starts c.args.starts.now) c.args.operation.now o c.in-Test.operand c.in-Test.is c.args.self.now.code.items c.test_jump.result c.emit.new.self.code.items made c.patch.new.self.code.items c.make_truth.new.self.code.items c.args.left c.args.slot free c.place-jump.result c.place-following.result c.place-jump.ensures c.in_ok-emit-in-Test.ensures c.in_ok-lower_expression-in-Test.ensures c.place-following.ensures patched)
     c.make_truth.ensures
 
 pub lower_operations-loop-operation-preserved : goal.lower_operations-loop-operation-preserved
@@ -109,14 +109,14 @@ lower_operations-loop-operation-preserved t c =
     let left = c.loop-operation.left in
     let d = c.args.slot in
     let free = c.args.free in
-    let to = c.if-behind-eq0.to in
+    let to = c.if-following-eq0.to in
     let x = c.operation-item.result in
-    let many = c.loop-operation.behind - 1 in
+    let many = c.loop-operation.following - 1 in
     let counted : many + (i + 1) ≡ length xs = omega (arith, c.loop-operation.invariant.1, c.loop-operation-test.true) in
     let slot = slot_by_count xs i many to d free counted in
-    let there : to ≡ next_slot (operations_of (drop (i + 1) xs)) d free = elim c.if-behind-eq0.branch [
-      | lower_operations-then-behind-eq0 w ↦ slot (λ none. w.to-is) (λ some. absurd (omega (arith, some, w.if-behind-eq0.true)))
-      | lower_operations-else-behind-eq0 w ↦ slot (λ none. absurd (omega (arith, none, w.if-behind-eq0.false))) (λ some. w.to-is)
+    let there : to ≡ next_slot (operations_of (drop (i + 1) xs)) d free = elim c.if-following-eq0.branch [
+      | lower_operations-then-following-eq0 w ↦ slot (λ none. w.to-is) (λ some. absurd (omega (arith, some, w.if-following-eq0.true)))
+      | lower_operations-else-following-eq0 w ↦ slot (λ none. absurd (omega (arith, none, w.if-following-eq0.false))) (λ some. w.to-is)
     ] in
     let added = c.in_ok-lower_operation.ensures ∙ ap (λ (n : ℕ). code ++ operation_code (view_starts c.args.starts.now) x (length code) left n free) there in
     let room = room_after (view_starts c.args.starts.now) x code new left to free c.loop-operation.invariant.2 c.in_ok-lower_operation.ensures in (
@@ -175,7 +175,7 @@ pub lower_elements-returns : goal.lower_elements-returns
 lower_elements-returns t c =
     on_ok_weaker c.end_array.result
     (made_elements (view_starts c.args.starts.now) c.deref.result.now (view_expression c.args.element.now) c.args.self.now.code.items c.reserve.new.self.code.items c.lower_expression.new.self.code.items c.write_element.new.self.code.items c.jump_here_if_failing.new.self.code.items c.end_array.new.self.code.items
-    (instructions.Jump 0) c.last_element.result c.args.kind c.in_ok-head.head c.in_ok-behind.behind c.args.slot c.args.free c.in_ok-behind.ensures.0 (c.deref.ensures.value ∙ c.in_ok-counters.ensures) c.in_ok-head.ensures.0 c.in_ok-head.ensures.1
+    (instructions.Jump 0) c.last_element.result c.args.kind c.in_ok-head.head c.in_ok-following.following c.args.slot c.args.free c.in_ok-following.ensures.0 (c.deref.ensures.value ∙ c.in_ok-counters.ensures) c.in_ok-head.ensures.0 c.in_ok-head.ensures.1
     c.in_ok-lower_expression.ensures c.in_ok-write_element.ensures c.last_element.ensures c.jump_here_if_failing.ensures)
     c.end_array.ensures
 

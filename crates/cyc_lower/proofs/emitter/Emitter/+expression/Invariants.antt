@@ -1,7 +1,7 @@
 use Rattle.std.specs.Prelude.{◌≡◌, ◌+◌, ◌≤◌, length, drop}
 use Rattle.cyc_types.specs.TypedTreeView.{arguments_of}
 use Rattle.cyc_plain.specs.declared.instruction.Operand.TheVariants as operands
-use Rattle.cyc_lower.specs.inside.ValueCode.{all_passed}
+use Rattle.cyc_lower_proof.specs.inside.ValueCode.{all_passed}
 use Rattle.cyc_lower.specs.inside.Emission.{most_locals, view_starts}
 use Rattle.cyc_lower.proofs.emission.Emitting.{Remains}
 use Rattle.cyc_lower.proofs.emission.ExpressionEmitting.{all_arguments, all_printed, all_operations, PrintedLeft}
@@ -22,5 +22,5 @@ invariant-print-loop-argument l =
 abbrev pub invariant-lower_operations-loop-operation : goal.invariant-lower_operations-loop-operation
 invariant-lower_operations-loop-operation l =
     Remains (all_operations (view_starts l.starts) l.slot l.free) l.fn.self.code.items l.operations l.fn.first l.operation-index l.self.code.items l.left
-    × (l.behind + l.operation-index ≡ length l.operations)
+    × (l.following + l.operation-index ≡ length l.operations)
     × (l.free ≤ most_locals + length l.self.code.items)

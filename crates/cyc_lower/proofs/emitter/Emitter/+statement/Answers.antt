@@ -11,17 +11,17 @@ use Rattle.cyc_types.specs.TypedTreeView.{view_expression, view_statement, items
 use Rattle.cyc_meaning.specs.FrameCount.{kept_by, kept_by_items, kept_by_clauses}
 use Rattle.cyc_plain.specs.declared.instruction.Instruction.{Instruction}
 use Rattle.cyc_plain.specs.declared.instruction.Instruction.TheVariants.{Jump, Leave}
-use Rattle.cyc_lower.specs.inside.ControlCode.{other_jump, inside_try, is_nothing}
-use Rattle.cyc_lower.specs.inside.Lowering.{items_code, statement_code, goes_through}
-use Rattle.cyc_lower.specs.declared.exits.Exits.{Exits}
-use Rattle.cyc_lower.specs.declared.exits.Opened.{Opened}
+use Rattle.cyc_lower_proof.specs.inside.ControlCode.{other_jump, inside_try, is_nothing}
+use Rattle.cyc_lower_proof.specs.inside.Lowering.{items_code, statement_code, goes_through}
+use Rattle.cyc_lower_proof.specs.declared.exits.Exits.{Exits}
+use Rattle.cyc_lower_proof.specs.declared.exits.Opened.{Opened}
 use Rattle.cyc_lower.specs.inside.Emission.{view_starts}
 use Rattle.cyc_lower.proofs.emission.Branching.{made_block, made_if, made_then, made_alone, if_viewed, item_room, more_items, closes_begin, closes_next, closes_end}
 use Rattle.cyc_lower.proofs.emission.Conditions.{before_more}
 use Rattle.cyc_lower.proofs.emission.Loops.{made_loop, entering_keeps, made_through, made_while}
 use Rattle.cyc_lower.proofs.emission.Handlers.{kept_of_clause, made_clause, made_clauses, more_clauses, made_handler, record_room, clauses_longer, body_longer}
 use Rattle.cyc_lower.proofs.emission.Emitting.{no_shorter_than}
-use Rattle.cyc_frame_count.proofs.NeedsFound.{block_keeps, try_keeps}
+use Rattle.cyc_sizes.proofs.NeedsFound.{block_keeps, try_keeps}
 use Rattle.cyc_lower.proofs.emitter.Emitter.+statement.Goals as goal
 
 pub lower_loop-returns : goal.lower_loop-returns
@@ -141,44 +141,44 @@ pub lower_items-lower_item-requires : goal.lower_items-lower_item-requires
 lower_items-lower_item-requires t c = (
   search (rules, types.the_lemmas, statements.the_lemmas, get_or_read),
   (
-    item_room (view_starts c.args.starts.now) c.args.self.now.code.items c.args.items.now c.args.exits c.args.free c.loop-item.item-index c.loop-item.self.code.items c.loop-item.inside c.loop-item.behind c.item-item.result c.loop-item-test.true c.item-item.is c.loop-item.invariant,
+    item_room (view_starts c.args.starts.now) c.args.self.now.code.items c.args.items.now c.args.exits c.args.free c.loop-item.item-index c.loop-item.self.code.items c.loop-item.inside c.loop-item.following c.item-item.result c.loop-item-test.true c.item-item.is c.loop-item.invariant,
     c.loop-item.invariant.3,
   ),
 )
 
-pub lower_items-free_behind-behind-requires : goal.lower_items-free_behind-behind-requires
-lower_items-free_behind-behind-requires t c =
-    item_room (view_starts c.args.starts.now) c.args.self.now.code.items c.args.items.now c.args.exits c.args.free c.loop-item.item-index c.loop-item.self.code.items c.loop-item.inside c.loop-item.behind c.item-item.result c.loop-item-test.true c.item-item.is c.loop-item.invariant
+pub lower_items-free_after-following-requires : goal.lower_items-free_after-following-requires
+lower_items-free_after-following-requires t c =
+    item_room (view_starts c.args.starts.now) c.args.self.now.code.items c.args.items.now c.args.exits c.args.free c.loop-item.item-index c.loop-item.self.code.items c.loop-item.inside c.loop-item.following c.item-item.result c.loop-item-test.true c.item-item.is c.loop-item.invariant
 
 pub lower_items-loop-item-preserved : goal.lower_items-loop-item-preserved
 lower_items-loop-item-preserved t c =
-    more_items (view_starts c.args.starts.now) c.args.self.now.code.items c.args.items.now c.args.exits c.args.free c.loop-item.item-index c.loop-item.self.code.items c.loop-item.inside c.loop-item.behind c.item-item.result
-    c.lower_item.new.self.code.items c.exits_behind-inside.result c.free_behind-behind.result c.loop-item-test.true c.item-item.is c.in_ok-lower_item.ensures c.exits_behind-inside.ensures c.free_behind-behind.ensures c.loop-item.invariant
+    more_items (view_starts c.args.starts.now) c.args.self.now.code.items c.args.items.now c.args.exits c.args.free c.loop-item.item-index c.loop-item.self.code.items c.loop-item.inside c.loop-item.following c.item-item.result
+    c.lower_item.new.self.code.items c.exits_after-inside.result c.free_after-following.result c.loop-item-test.true c.item-item.is c.in_ok-lower_item.ensures c.exits_after-inside.ensures c.free_after-following.ensures c.loop-item.invariant
 
-pub lower_items-loop-behind-init : goal.lower_items-loop-behind-init
-lower_items-loop-behind-init t c =
-    closes_begin (view_starts c.args.starts.now) c.args.self.now.code.items c.args.items.now c.args.exits c.args.free c.loop-item.item-index c.loop-item.self.code.items c.loop-item.inside c.loop-item.behind c.loop-item-test.false c.loop-item.invariant
+pub lower_items-loop-following-init : goal.lower_items-loop-following-init
+lower_items-loop-following-init t c =
+    closes_begin (view_starts c.args.starts.now) c.args.self.now.code.items c.args.items.now c.args.exits c.args.free c.loop-item.item-index c.loop-item.self.code.items c.loop-item.inside c.loop-item.following c.loop-item-test.false c.loop-item.invariant
 
-pub lower_items-loop-behind-preserved : goal.lower_items-loop-behind-preserved
-lower_items-loop-behind-preserved t c =
-    closes_next _ c.loop-behind.self.code.items c.close_lexical.new.self.code.items c.args.free c.loop-behind.behind _ c.loop-behind-test.true refl c.in_ok-close_lexical.ensures c.loop-behind.invariant
+pub lower_items-loop-following-preserved : goal.lower_items-loop-following-preserved
+lower_items-loop-following-preserved t c =
+    closes_next _ c.loop-following.self.code.items c.close_lexical.new.self.code.items c.args.free c.loop-following.following _ c.loop-following-test.true refl c.in_ok-close_lexical.ensures c.loop-following.invariant
 
 pub lower_items-returns : goal.lower_items-returns
-lower_items-returns t c = closes_end _ c.loop-behind.self.code.items c.args.free c.loop-behind.behind c.loop-behind-test.false c.loop-behind.invariant
+lower_items-returns t c = closes_end _ c.loop-following.self.code.items c.args.free c.loop-following.following c.loop-following-test.false c.loop-following.invariant
 
 pub lower_form-lower_statement-requires-in-Try : goal.lower_form-lower_statement-requires-in-Try
 lower_form-lower_statement-requires-in-Try t c =
     let e = try_keeps c.args.statement.now c.in-Try.body c.in-Try.clauses c.in-Try.default c.in-Try.is c.deref-in-Try.result.now c.deref-in-Try.ensures c.in-Try.clauses.items refl in
     let room = record_room c.args.starts.now.scopes c.args.free in
-    let zero = no_shorter_than c.args.self.now.code.items _ c.begin_try.new.self.code.items c.in_ok-behind-in-Try.ensures.1 in
+    let zero = no_shorter_than c.args.self.now.code.items _ c.begin_try.new.self.code.items c.in_ok-following-in-Try.ensures.1 in
     let one = no_shorter_than c.begin_try.new.self.code.items _ c.reserve-in-Try.new.self.code.items c.in_ok-opening-in-Try.ensures.1 in
     let head = ap (λ (exits : Exits). exits.head) c.inside_try.ensures in
-    (search (rules, types.the_lemmas, statements.the_lemmas, get_or_read), (omega (arith, e, room, c.in_ok-behind-in-Try.ensures.0, c.requires.slots), omega (arith, zero, one, head, c.requires.begun)))
+    (search (rules, types.the_lemmas, statements.the_lemmas, get_or_read), (omega (arith, e, room, c.in_ok-following-in-Try.ensures.0, c.requires.slots), omega (arith, zero, one, head, c.requires.begun)))
 
 pub lower_form-lower_clauses-requires : goal.lower_form-lower_clauses-requires
 lower_form-lower_clauses-requires t c =
     let e = try_keeps c.args.statement.now c.in-Try.body c.in-Try.clauses c.in-Try.default c.in-Try.is c.deref-in-Try.result.now c.deref-in-Try.ensures c.deref-in-Try-2.result.now c.deref-in-Try-2.ensures.value in
-    let zero = no_shorter_than c.args.self.now.code.items _ c.begin_try.new.self.code.items c.in_ok-behind-in-Try.ensures.1 in
+    let zero = no_shorter_than c.args.self.now.code.items _ c.begin_try.new.self.code.items c.in_ok-following-in-Try.ensures.1 in
     let one = no_shorter_than c.begin_try.new.self.code.items _ c.reserve-in-Try.new.self.code.items c.in_ok-opening-in-Try.ensures.1 in
     let two = no_shorter_than c.reserve-in-Try.new.self.code.items _ c.lower_statement-in-Try.new.self.code.items c.in_ok-lower_statement-in-Try.ensures in
     let three = body_longer c.lower_statement-in-Try.new.self.code.items c.end_body.new.self.code.items (Leave c.args.free) (Jump 0) _ c.in_ok-opening-in-Try.opening c.in_ok-out-in-Try.ensures.1 in
@@ -188,7 +188,7 @@ lower_form-lower_clauses-requires t c =
 pub lower_form-lower_default-requires : goal.lower_form-lower_default-requires
 lower_form-lower_default-requires t c =
     let e = try_keeps c.args.statement.now c.in-Try.body c.in-Try.clauses c.in-Try.default c.in-Try.is c.deref-in-Try.result.now c.deref-in-Try.ensures c.deref-in-Try-2.result.now c.deref-in-Try-2.ensures.value in
-    let zero = no_shorter_than c.args.self.now.code.items _ c.begin_try.new.self.code.items c.in_ok-behind-in-Try.ensures.1 in
+    let zero = no_shorter_than c.args.self.now.code.items _ c.begin_try.new.self.code.items c.in_ok-following-in-Try.ensures.1 in
     let one = no_shorter_than c.begin_try.new.self.code.items _ c.reserve-in-Try.new.self.code.items c.in_ok-opening-in-Try.ensures.1 in
     let two = no_shorter_than c.reserve-in-Try.new.self.code.items _ c.lower_statement-in-Try.new.self.code.items c.in_ok-lower_statement-in-Try.ensures in
     let three = body_longer c.lower_statement-in-Try.new.self.code.items c.end_body.new.self.code.items (Leave c.args.free) (Jump 0) _ c.in_ok-opening-in-Try.opening c.in_ok-out-in-Try.ensures.1 in
@@ -211,9 +211,9 @@ lower_form-returns-in_ok-lower_default-in-Try t c =
     made_handler (view_starts c.args.starts.now) c.args.statement.now c.in-Try.body c.in-Try.clauses c.in-Try.default c.in-Try.is c.deref-in-Try.result.now c.deref-in-Try.ensures c.deref-in-Try-2.result.now c.deref-in-Try-2.ensures.value c.args.exits c.args.free c.args.self.now.code.items (Jump 0)
     c.begin_try.new.self.code.items begun c.lower_statement-in-Try.new.self.code.items c.end_body.new.self.code.items c.restore_scopes.new.self.code.items c.lower_clauses.new.self.code.items c.lower_default.new.self.code.items c.jump_here-in-Try.new.self.code.items
     c.in_ok-opening-in-Try.opening c.in_ok-out-in-Try.out
-    c.in_ok-behind-in-Try.ensures.1 c.in_ok-opening-in-Try.ensures.0 c.in_ok-opening-in-Try.ensures.1
-    (c.in_ok-lower_statement-in-Try.ensures ∙ ap (λ (exits : Exits). begun ++ statement_code (view_starts c.args.starts.now) body (length begun) exits c.in_ok-behind-in-Try.behind) c.inside_try.ensures
-    ∙ ap (λ (n : ℕ). begun ++ statement_code (view_starts c.args.starts.now) body (length begun) (inside_try c.args.exits c.args.free) n) c.in_ok-behind-in-Try.ensures.0)
+    c.in_ok-following-in-Try.ensures.1 c.in_ok-opening-in-Try.ensures.0 c.in_ok-opening-in-Try.ensures.1
+    (c.in_ok-lower_statement-in-Try.ensures ∙ ap (λ (exits : Exits). begun ++ statement_code (view_starts c.args.starts.now) body (length begun) exits c.in_ok-following-in-Try.following) c.inside_try.ensures
+    ∙ ap (λ (n : ℕ). begun ++ statement_code (view_starts c.args.starts.now) body (length begun) (inside_try c.args.exits c.args.free) n) c.in_ok-following-in-Try.ensures.0)
     c.in_ok-out-in-Try.ensures.0 c.in_ok-out-in-Try.ensures.1 c.in_ok-restore_scopes-in-Try.ensures c.in_ok-lower_clauses-in-Try.ensures c.in_ok-lower_default-in-Try.ensures c.jump_here-in-Try.ensures
 
 pub lower_through-returns : goal.lower_through-returns

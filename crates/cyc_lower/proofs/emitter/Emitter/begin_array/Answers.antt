@@ -6,5 +6,5 @@ use Rattle.cyc_lower.proofs.emitter.Emitter.begin_array.Goals as goal
 pub returns : goal.returns
 returns c =
     on_ok_weaker c.ask_for_array.result
-    (made_begun (view_starts c.args.starts.now) c.args.self.now.code.items c.measure_array.new.self.code.items c.ask_for_array.new.self.code.items c.args.handle c.args.kind c.in_ok-behind.behind c.args.free c.in_ok-behind.ensures.0 c.in_ok-measure_array.ensures)
+    (made_begun (view_starts c.args.starts.now) c.args.self.now.code.items c.measure_array.new.self.code.items c.ask_for_array.new.self.code.items c.args.handle c.args.kind c.in_ok-following.following c.args.free c.in_ok-following.ensures.0 c.in_ok-measure_array.ensures)
     c.ask_for_array.ensures

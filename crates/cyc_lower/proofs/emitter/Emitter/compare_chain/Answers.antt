@@ -2,8 +2,8 @@ use Rattle.std.proofs.Common.{rules, ◌≡◌, None, length, ap, sym, subst, �
 use Rattle.std.proofs.lemmas.Result.{IfOk-weaker}
 use Rattle.cyc_types.specs.TypedTrees.{Expression}
 use Rattle.cyc_types.specs.TypedTreeView.{view_expression}
-use Rattle.cyc_lower.specs.inside.ControlCode.{with_zero, compared_of}
-use Rattle.cyc_lower.specs.inside.Lowering.{pair_code}
+use Rattle.cyc_lower_proof.specs.inside.ControlCode.{with_zero, compared_of}
+use Rattle.cyc_lower_proof.specs.inside.Lowering.{pair_code}
 use Rattle.cyc_lower.specs.inside.Emission.{Gives, pair_condition, view_starts}
 use Rattle.cyc_lower.proofs.emission.Conditions.{not_single, made_alone, made_null, made_pair}
 use Rattle.cyc_lower.proofs.emitter.Emitter.compare_chain.Goals as goal

@@ -1,4 +1,4 @@
-use Rattle.cyc_lower.specs.inside.ValueCode.{load_word}
+use Rattle.cyc_lower_proof.specs.inside.ValueCode.{load_word}
 use Rattle.cyc_lower.proofs.emission.Emitting.{words_begin, words_next, word_code_ends}
 use Rattle.cyc_lower.proofs.emitter.Emitter.load_global.Goals as goal
 

@@ -1,7 +1,7 @@
 use Rattle.std.proofs.Common.{◌≡◌, ℕ, ◌+◌, [], ◌∷◌, ◌++◌, ap, ◌∙◌, arith}
 use Rattle.cyc_meaning.specs.Values.{words_of_kind}
 use Rattle.cyc_plain.specs.declared.instruction.Instruction.{Instruction}
-use Rattle.cyc_lower.specs.inside.ObjectCode.{load_at}
+use Rattle.cyc_lower_proof.specs.inside.ObjectCode.{load_at}
 use Rattle.cyc_lower.proofs.emission.Emitting.{words_begin, words_next, word_code_ends}
 use Rattle.cyc_lower.proofs.emitter.Emitter.load_words.Goals as goal
 

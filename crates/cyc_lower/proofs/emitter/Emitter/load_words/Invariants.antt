@@ -1,5 +1,5 @@
 use Rattle.cyc_meaning.specs.Values.{words_of_kind}
-use Rattle.cyc_lower.specs.inside.ObjectCode.{load_at}
+use Rattle.cyc_lower_proof.specs.inside.ObjectCode.{load_at}
 use Rattle.cyc_lower.proofs.emission.Emitting.{WordsLeft}
 use Rattle.cyc_lower.proofs.emitter.Emitter.load_words.Given as goal
 

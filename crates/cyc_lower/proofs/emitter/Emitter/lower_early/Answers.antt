@@ -1,9 +1,9 @@
 use Rattle.std.proofs.Common.{ℕ, [], ◌∷◌, ◌++◌, ◌∙◌, ap}
 use Rattle.cyc_types.specs.TypedTreeView.{view_expression}
-use Rattle.cyc_lower.specs.inside.ControlCode.{deciding_condition}
+use Rattle.cyc_lower_proof.specs.inside.ControlCode.{deciding_condition}
 use Rattle.cyc_lower.specs.inside.Emission.{view_starts}
 use Rattle.cyc_lower.specs.declared.conditions.Pending.{Pending}
-use Rattle.cyc_lower.specs.declared.operands.Condition.{Condition}
+use Rattle.cyc_lower_proof.specs.declared.condition.Condition.{Condition}
 use Rattle.cyc_lower.proofs.emission.Conditions.{early_begin, early_next, early_end}
 use Rattle.cyc_lower.proofs.emitter.Emitter.lower_early.Goals as goal
 

@@ -2,8 +2,8 @@ use Rattle.std.proofs.Common.{◌≡◌, ◌++◌, List, length, sym, subst}
 use Rattle.cyc_types.specs.declared.typed.LogicalOperator.{LogicalOperator}
 use Rattle.cyc_types.specs.TypedTreeView.{view_expression}
 use Rattle.cyc_lower.specs.declared.conditions.Pending.{Pending}
-use Rattle.cyc_lower.specs.inside.ControlCode.{turned_test}
-use Rattle.cyc_lower.specs.inside.Lowering.{choice_code, choice_of}
+use Rattle.cyc_lower_proof.specs.inside.ControlCode.{turned_test}
+use Rattle.cyc_lower_proof.specs.inside.Lowering.{choice_code, choice_of}
 use Rattle.cyc_lower.specs.inside.Emission.{view_starts, AreBefore}
 use Rattle.cyc_lower.proofs.emission.Conditions.{none_wait}
 use Rattle.cyc_lower.proofs.emitter.Emitter.lower_settled.Goals as goal

@@ -1,8 +1,8 @@
 use Rattle.std.proofs.Common.{arith}
-use Rattle.cyc_lower.proofs.slots.CellBytes.{bytes_within}
+use Rattle.cyc_lower_proof.proofs.slots.CellBytes.{bytes_within}
 use Rattle.cyc_lower.proofs.emitter.Emitter.make_object.Goals as goal
 
--- values that stand in no more slots than a block has words have no more bytes than that in cells
+-- values in at most as many slots as a block has words have at most as many bytes in cells
 pub bytes_of_kinds-requires : goal.bytes_of_kinds-requires
 bytes_of_kinds-requires c = omega (arith, bytes_within c.args.kinds.now 0 0 (omega arith), c.requires.slots, c.if-words.false)
 

@@ -1,4 +1,4 @@
-use Rattle.cyc_lower.specs.inside.ValueCode.{store_word}
+use Rattle.cyc_lower_proof.specs.inside.ValueCode.{store_word}
 use Rattle.cyc_lower.proofs.emission.Emitting.{WordsLeft}
 use Rattle.cyc_lower.proofs.emitter.Emitter.save_words.Given as goal
 

@@ -1,5 +1,5 @@
 use Rattle.std.proofs.Common.{arith}
-use Rattle.cyc_lower.proofs.emission.Alike.{turned-more}
+use Rattle.cyc_lower_proof.proofs.emission.Alike.{turned-more}
 use Rattle.cyc_lower.proofs.emission.Turned.{turned-ends}
 use Rattle.cyc_lower.proofs.emitter.Emitter.settle.Goals as goal
 

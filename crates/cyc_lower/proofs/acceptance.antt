@@ -1,4 +1,0 @@
--- that what the front end accepts can be lowered
-pub mod GlobalConstants
-pub mod LowerableLemmas
-pub mod Accepted

@@ -1,7 +1,0 @@
--- the steps of operators on pointers, and of accesses by them
-pub mod PointerSteps
-pub mod FatSteps
-pub mod ElementWords
-pub mod Elements
-pub mod Narrowing
-pub mod ThinSteps

@@ -1,0 +1,31 @@
+-- The handles of regions that are kept while objects are allocated: their words, and the handles that remain when a value is passed on.
+use Rattle.std.proofs.Common.{◌≡◌, ℕ, ◌≤◌, true, List, ◌∷◌, Some, slice_get, sym, ap, subst, ◌∙◌, arith}
+use Rattle.cyc_store.specs.declared.range.TheConstants.{HEAP}
+use Rattle.cyc_plain.specs.declared.instruction.Operand.{Operand}
+use Rattle.cyc_plain.specs.declared.instruction.Operand.TheVariants as operands
+use Rattle.cyc_plain.specs.inside.State.{Words}
+use Rattle.cyc_plain.specs.inside.Step.{operand_word}
+use Rattle.cyc_meaning.specs.State.{Owner, InRegion, Unique, heap_number, BesideHandle, Entry, Needs}
+use Rattle.cyc_memory_relation.specs.inside.Tables.{Tables}
+use Rattle.cyc_lower_proof.proofs.relation.contents.HeldValues.{Holds, held, height, kept, IsHandleOf, HasHandle}
+
+-- the kept handles are among the held values
+pub kept_holds : (t : Tables) (slots : Words) (base : ℕ) (k : List Entry) → Holds t slots base (held k) → Holds t slots base (kept k)
+kept_holds t slots base (Needs (BesideHandle region) ∷ k) (is, holds) = kept_holds t slots base k holds
+kept_holds t slots base k holds = holds
+
+pub kept_low : (base : ℕ) (k : List Entry) → height base (kept k) ≤ height base (held k)
+kept_low base (Needs (BesideHandle region) ∷ k) = omega (arith, kept_low base k)
+kept_low base k = omega arith
+
+-- the word of the handle of the region of an allocation
+pub has_handle : (t : Tables) (slots : Words) (base : ℕ) (owner : Owner) (handle : Operand) (k : List Entry) → slice_get t.handles heap_number ≡ Some (Some HEAP)
+    → IsHandleOf owner handle (height base (held k)) k → Holds t slots base (held k) → HasHandle t owner (operand_word slots handle)
+has_handle t slots base (InRegion region) (operands.Word n) k heap (region_is, word_is) holds =
+    subst (λ r. slice_get t.handles r ≡ Some (Some n)) (sym region_is) (heap ∙ ap (λ w. Some (Some w)) (sym word_is))
+has_handle t slots base (InRegion region) (operands.Slot n) (Needs (BesideHandle beside) ∷ k) heap (region_is, slot_is) (is, holds) =
+    let same : height base (held k) ≡ n = omega (arith, slot_is) in
+    subst (λ r. slice_get t.handles r ≡ Some (Some (slots n))) (sym region_is) (is ∙ ap (λ m. Some (Some (slots m))) same)
+has_handle t slots base (InRegion region) (operands.Slot n) k heap owned holds = absurd owned
+has_handle t slots base (Unique true) (operands.Word n) k heap word_is holds = word_is
+has_handle t slots base owner handle k heap owned holds = absurd owned

@@ -1,0 +1,13 @@
+-- the steps that evaluate places, and that read and write them
+pub mod PlaceWords
+pub mod KindWords
+pub mod StoredWords
+pub mod Sources
+pub mod CellLoads
+pub mod CellReads
+pub mod CellWrites
+pub mod WideCells
+pub mod WideLoads
+pub mod AddressSteps
+pub mod SwapSteps
+pub mod PlaceSteps

@@ -1,0 +1,17 @@
+-- the rest of the promise: the plain program is well-formed, consists of words, and is small
+pub mod RangeLemmas
+pub mod ValueRoom
+pub mod ValueRanges
+pub mod ExpressionRanges
+pub mod ConditionRanges
+pub mod StatementRanges
+pub mod Targets
+pub mod WellFormed
+pub mod PieceWords
+pub mod ExpressionWords
+pub mod WordLemmas
+pub mod PieceSizes
+pub mod ExpressionSizes
+pub mod Sizes
+pub mod NeedBounds
+pub mod Lowerings

@@ -1,0 +1,11 @@
+-- the steps that begin an expression, and that pass a value on
+pub mod Assignments
+pub mod Beginnings
+pub mod Conversions
+pub mod Decided
+pub mod Evaluations
+pub mod GlobalSteps
+pub mod Landings
+pub mod Operators
+pub mod ValueWords
+pub mod Values
