@@ -1,4 +1,4 @@
--- Which calls may be opened and which slots are for twins, and that the numbers of the code fit.
+-- The chosen calls and duplicates satisfy their conditions, and the numbers of the code fit machine words.
 use Rattle.std.proofs.Common.{◌≡◌, ℕ, zero, suc, ◌+◌, ◌^◌, ◌<◌, ◌≤◌, Bool, true, false, List, [], ◌∷◌, ◌++◌, length, Option, Some, None, refl, sym, ap, subst, ◌∙◌, arith, inl, inr}
 use Rattle.std.specs.Prelude.{◌⊎◌, ◌==◌, nat_lt, nat_le, if◌then◌else◌, not, ◌&&◌, filter, slice_get, sum_by}
 use Rattle.std.specs.List.{AllByRecursion}
@@ -25,20 +25,20 @@ use Rattle.cyc_plain.specs.inside.Requests.{request_size}
 use Rattle.cyc_plain.specs.inside.Straight.{At}
 use Rattle.cyc_plain.specs.inside.WellFormed.{IsOperand, IsCallInRange, IsInRange, IsPlain}
 use Rattle.cyc_plain.proofs.Placed.{routine_in}
-use Rattle.cyc_inline.specs.declared.limits.TheConstants.{MOST_LEADS}
+use Rattle.cyc_inline.specs.declared.limits.TheConstants.{MOST_HOISTED}
 use Rattle.cyc_inline.specs.declared.choice.Choice.{Choice}
 use Rattle.cyc_inline.specs.declared.choice.Need.{Need}
 use Rattle.cyc_inline.specs.declared.site.Call.{Call}
-use Rattle.cyc_inline.specs.inside.Opened.{is_division, may_have_twin, twin, may_be_led, IsTwin, IsLead, is_end}
+use Rattle.cyc_inline.specs.inside.Opened.{is_division, may_have_duplicate, duplicate, may_follow_hoisted, IsDuplicate, IsHoisted, is_end}
 use Rattle.cyc_inline.specs.inside.Sites.{chosen_call, place_in, site_size}
-use Rattle.cyc_inline.specs.inside.Emission.{IsFitOperand, IsFit, IsFitEnd, IsFitInside, IsFitSite, IsLeaf, AreLeafs, IsOpenable, IsNeed, IsChosenBy, AreChosen, call_size, twin_by, twin_in, is_further, fits_in, may_lead, leads_if, front_by, IsFront}
+use Rattle.cyc_inline.specs.inside.Emission.{IsFitOperand, IsFit, IsFitEnd, IsFitInside, IsFitSite, IsLeaf, AreLeafs, IsOpenable, IsNeed, IsChosenBy, AreChosen, call_size, duplicate_by, duplicate_in, is_further, fits_in, may_hoisted, all_hoisted_if, front_by, IsFront}
 
--- ---- a call that is chosen
+-- ---- a chosen call
 
 abbrev instruction_of : Call → Instruction
 instruction_of call = instructions.Call call.callee call.arguments call.count call.result
 
--- it is a call, and so many of the callee's instructions stand in line, which are some
+-- A chosen instruction is a call, with `line` instructions of the callee in line, more than 0.
 pub call_is : (i : Instruction) (line : ℕ) (call : Call) → chosen_call i line ≡ Some call → (i ≡ instruction_of call) × (call.line ≡ line) × (0 < line)
 call_is (instructions.Call callee arguments count result) line call is = go (line == 0) refl is
   where
@@ -56,7 +56,7 @@ call_is (instructions.Call callee arguments count result) line call is = go (lin
         some_line (suc n) is = omega arith
 call_is i line call is = absurd (let e : None ≡ Some call = is in cc)
 
--- what is in range is so of the instruction that the program has
+-- Each instruction of a plain program is well-formed.
 pub in_code : (program : Program) (number index : ℕ) (i : Instruction) → IsPlain program → number < length program.functions → At (routine_at program number).code index i
     → IsInRange program (routine_at program number) i
 in_code program number index i plain is_function at =
@@ -68,7 +68,7 @@ call_in_range program r i line call in_range is =
     let (same, is_line, some) = call_is i line call is in
     subst (IsInRange program r) same in_range
 
--- ---- how many instructions there are
+-- ---- sizes in instructions
 
 request_some : (request : Request) → 1 ≤ request_size request
 request_some request = omega arith
@@ -92,28 +92,28 @@ few_instructions program number plain is_function =
     let small = plain.small in
     omega (arith, code_few (routine_at program number).code, get_or-le-sum_by size program.functions number no_routine is_function, small)
 
--- ---- what stands in front of an instruction
+-- ---- the instructions before an instruction
 
--- what has a twin may have others in front of it
-twin_led : (i : Instruction) → may_have_twin i ≡ true → may_be_led i ≡ true
-twin_led (instructions.Binary operator destination left right) may = refl
-twin_led (instructions.LoadGlobal destination global) may = refl
-twin_led (instructions.Load destination address offset) may = refl
-twin_led i may = absurd (false≢true may)
+-- An instruction that may be duplicated may also be preceded by hoisted ones.
+duplicate_preceded : (i : Instruction) → may_have_duplicate i ≡ true → may_follow_hoisted i ≡ true
+duplicate_preceded (instructions.Binary operator destination left right) may = refl
+duplicate_preceded (instructions.LoadGlobal destination global) may = refl
+duplicate_preceded (instructions.Load destination address offset) may = refl
+duplicate_preceded i may = absurd (false≢true may)
 
-twin_slots : (program : Program) (number : ℕ) (choice : Choice) (index : ℕ) (i : Instruction) (slot : ℕ) → twin_by program number choice index i ≡ Some slot
-    → IsTwin (routine_at program number).slots choice.slots i (twin slot i)
-twin_slots program number choice index i slot is =
-    go (may_have_twin i) (nat_le r.slots wanted) (nat_lt wanted choice.slots) refl refl refl is
+duplicate_slots : (program : Program) (number : ℕ) (choice : Choice) (index : ℕ) (i : Instruction) (slot : ℕ) → duplicate_by program number choice index i ≡ Some slot
+    → IsDuplicate (routine_at program number).slots choice.slots i (duplicate slot i)
+duplicate_slots program number choice index i slot is =
+    go (may_have_duplicate i) (nat_le r.slots wanted) (nat_lt wanted choice.slots) refl refl refl is
   where
     r : Routine
     r = routine_at program number
 
     wanted : ℕ
-    wanted = place_in choice.twins.items index
+    wanted = place_in choice.duplicates.items index
 
-    go : (may least below : Bool) → may_have_twin i ≡ may → nat_le r.slots wanted ≡ least → nat_lt wanted choice.slots ≡ below
-        → (if may then (if least then (if below then Some wanted else None) else None) else None) ≡ Some slot → IsTwin r.slots choice.slots i (twin slot i)
+    go : (may least below : Bool) → may_have_duplicate i ≡ may → nat_le r.slots wanted ≡ least → nat_lt wanted choice.slots ≡ below
+        → (if may then (if least then (if below then Some wanted else None) else None) else None) ≡ Some slot → IsDuplicate r.slots choice.slots i (duplicate slot i)
     go true true true may least below is =
         let same : wanted ≡ slot = cc in
         record {
@@ -133,12 +133,12 @@ further_least given slots slot is = leb-true given slot (and_left (nat_le given 
 pub further_below : (given slots slot : ℕ) → is_further given slots slot ≡ true → slot < slots
 further_below given slots slot is = nat_lt-true slot slots (and_right (nat_le given slot) (nat_lt slot slots) is)
 
--- what may be a lead is one
-pub is_lead : (globals given slots : ℕ) (x : Instruction) → may_lead globals given slots x ≡ true → IsLead given slots x
-is_lead globals given slots (instructions.Move destination source) may =
+-- An instruction that passes the test `may_hoisted` is a hoisted one.
+pub is_hoisted : (globals given slots : ℕ) (x : Instruction) → may_hoisted globals given slots x ≡ true → IsHoisted given slots x
+is_hoisted globals given slots (instructions.Move destination source) may =
     let further = and_left (is_further given slots destination) (fits_in slots source) may in
     record { slot = destination; further = further_least given slots destination further; room = further_below given slots destination further; is = refl }
-is_lead globals given slots (instructions.Binary operator destination left right) may =
+is_hoisted globals given slots (instructions.Binary operator destination left right) may =
     let more = is_further given slots destination && (fits_in slots left && fits_in slots right) in
     let further = and_left (is_further given slots destination) (fits_in slots left && fits_in slots right) (and_right (not (is_division operator)) more may) in
     let none = false_from_not (is_division operator) (and_left (not (is_division operator)) more may) in
@@ -148,17 +148,17 @@ is_lead globals given slots (instructions.Binary operator destination left right
       room = further_below given slots destination further;
       is = ap (λ (t : Bool). if t then None else Some destination) none;
     }
-is_lead globals given slots (instructions.LoadGlobal destination global) may =
+is_hoisted globals given slots (instructions.LoadGlobal destination global) may =
     let further = and_left (is_further given slots destination) (nat_lt global globals) may in
     record { slot = destination; further = further_least given slots destination further; room = further_below given slots destination further; is = refl }
-is_lead globals given slots x may = absurd (false≢true may)
+is_hoisted globals given slots x may = absurd (false≢true may)
 
 module _ (program : Program) (r : Routine) (slots : ℕ) (i : Instruction) where
   abbrev may : Instruction → Bool
-  may = may_lead (length program.globals) r.slots slots
+  may = may_hoisted (length program.globals) r.slots slots
 
   abbrev Precedes : Instruction → Type 0
-  Precedes x = (may_lead (length program.globals) r.slots slots x ≡ true) ⊎ IsTwin r.slots slots i x
+  Precedes x = (may_hoisted (length program.globals) r.slots slots x ≡ true) ⊎ IsDuplicate r.slots slots i x
 
   passed : (x : Instruction) (xs : List Instruction) (t : Bool) → may x ≡ t → AllByRecursion Precedes xs → AllByRecursion Precedes (if t then x ∷ xs else xs)
   passed x xs true is rest = (inl is, rest)
@@ -172,42 +172,42 @@ module _ (program : Program) (r : Routine) (slots : ℕ) (i : Instruction) where
   chosen_pass true wanted = filtered wanted
   chosen_pass false wanted = tt
 
-  leads_pass : (o : Option (Vec Instruction Global)) → AllByRecursion Precedes (leads_if (length program.globals) r.slots slots i o)
-  leads_pass (Some wanted) = chosen_pass (may_be_led i && nat_le (length wanted.items) MOST_LEADS) wanted.items
-  leads_pass None = tt
+  all_hoisted_pass : (o : Option (Vec Instruction Global)) → AllByRecursion Precedes (all_hoisted_if (length program.globals) r.slots slots i o)
+  all_hoisted_pass (Some wanted) = chosen_pass (may_follow_hoisted i && nat_le (length wanted.items) MOST_HOISTED) wanted.items
+  all_hoisted_pass None = tt
 
-  chosen_led : (led few : Bool) (wanted : List Instruction) → may_be_led i ≡ led → 0 < length (if led && few then filter may wanted else []) → may_be_led i ≡ true
-  chosen_led true few wanted is some = is
-  chosen_led false few wanted is some = absurd (omega (arith, some))
+  chosen_preceded : (preceded few : Bool) (wanted : List Instruction) → may_follow_hoisted i ≡ preceded → 0 < length (if preceded && few then filter may wanted else []) → may_follow_hoisted i ≡ true
+  chosen_preceded true few wanted is some = is
+  chosen_preceded false few wanted is some = absurd (omega (arith, some))
 
-  leads_led : (o : Option (Vec Instruction Global)) → 0 < length (leads_if (length program.globals) r.slots slots i o) → may_be_led i ≡ true
-  leads_led (Some wanted) some = chosen_led (may_be_led i) (nat_le (length wanted.items) MOST_LEADS) wanted.items refl some
-  leads_led None some = absurd (omega (arith, some))
+  all_hoisted_preceded : (o : Option (Vec Instruction Global)) → 0 < length (all_hoisted_if (length program.globals) r.slots slots i o) → may_follow_hoisted i ≡ true
+  all_hoisted_preceded (Some wanted) some = chosen_preceded (may_follow_hoisted i) (nat_le (length wanted.items) MOST_HOISTED) wanted.items refl some
+  all_hoisted_preceded None some = absurd (omega (arith, some))
 
-  module _ (further : Option ℕ) (is_twin : (slot : ℕ) → further ≡ Some slot → IsTwin r.slots slots i (twin slot i)) where
-    twin_passes : (o : Option ℕ) → further ≡ o → AllByRecursion Precedes (twin_in i o)
-    twin_passes (Some slot) is = (inr (is_twin slot is), tt)
-    twin_passes None is = tt
+  module _ (further : Option ℕ) (is_duplicate : (slot : ℕ) → further ≡ Some slot → IsDuplicate r.slots slots i (duplicate slot i)) where
+    duplicate_passes : (o : Option ℕ) → further ≡ o → AllByRecursion Precedes (duplicate_in i o)
+    duplicate_passes (Some slot) is = (inr (is_duplicate slot is), tt)
+    duplicate_passes None is = tt
 
-    twin_is_led : (o : Option ℕ) → further ≡ o → 0 < length (twin_in i o) → may_be_led i ≡ true
-    twin_is_led (Some slot) is some = twin_led i (is_twin slot is).may
-    twin_is_led None is some = absurd (omega (arith, some))
+    duplicate_is_preceded : (o : Option ℕ) → further ≡ o → 0 < length (duplicate_in i o) → may_follow_hoisted i ≡ true
+    duplicate_is_preceded (Some slot) is some = duplicate_preceded i (is_duplicate slot is).may
+    duplicate_is_preceded None is some = absurd (omega (arith, some))
 
-    either_led : (xs : List Instruction) → (0 < length xs → may_be_led i ≡ true) → 0 < length (xs ++ twin_in i further) → may_be_led i ≡ true
-    either_led [] first some = twin_is_led further refl some
-    either_led (x ∷ xs) first some = first (omega arith)
+    either_preceded : (xs : List Instruction) → (0 < length xs → may_follow_hoisted i ≡ true) → 0 < length (xs ++ duplicate_in i further) → may_follow_hoisted i ≡ true
+    either_preceded [] first some = duplicate_is_preceded further refl some
+    either_preceded (x ∷ xs) first some = first (omega arith)
 
-    pub front_is : (o : Option (Vec Instruction Global)) → IsFront program r slots i (leads_if (length program.globals) r.slots slots i o ++ twin_in i further)
+    pub front_is : (o : Option (Vec Instruction Global)) → IsFront program r slots i (all_hoisted_if (length program.globals) r.slots slots i o ++ duplicate_in i further)
     front_is o = record {
-      each = all_append Precedes (leads_if (length program.globals) r.slots slots i o) (twin_in i further) (leads_pass o) (twin_passes further refl);
-      some = either_led (leads_if (length program.globals) r.slots slots i o) (leads_led o);
+      each = all_append Precedes (all_hoisted_if (length program.globals) r.slots slots i o) (duplicate_in i further) (all_hoisted_pass o) (duplicate_passes further refl);
+      some = either_preceded (all_hoisted_if (length program.globals) r.slots slots i o) (all_hoisted_preceded o);
     }
 
 pub front_stands : (program : Program) (number : ℕ) (choice : Choice) (index : ℕ) (i : Instruction) → IsFront program (routine_at program number) choice.slots i (front_by program number choice index i)
 front_stands program number choice index i =
-    front_is program (routine_at program number) choice.slots i (twin_by program number choice index i) (twin_slots program number choice index i) (slice_get choice.leads.items index)
+    front_is program (routine_at program number) choice.slots i (duplicate_by program number choice index i) (duplicate_slots program number choice index i) (slice_get choice.all_hoisted.items index)
 
--- ---- numbers that fit
+-- ---- numbers that fit a machine word
 
 module _ (program : Program) (r : Routine) (shift : ℕ) (fits : shift + r.slots < 2 ^ 64) where
   fit_slot : (slot : ℕ) → slot < r.slots → shift + slot < 2 ^ 64
@@ -244,15 +244,15 @@ module _ (program : Program) (r : Routine) (shift : ℕ) (fits : shift + r.slots
   fit_end (instructions.Finish value) is = omega (arith, is, fits)
   fit_end i is = tt
 
--- the code of a call that may be opened fits
+-- The numbers of a call that may be inlined fit machine words.
 pub fit_site : (program : Program) (r : Routine) (slots : ℕ) (call : Call) → IsPlain program → slots < 2 ^ 64 → IsOpenable program r slots call
     → IsCallInRange program r call.callee call.arguments call.count call.result
-    → (s t : Routine) (behind rest : ℕ) (code : List Instruction) → s ≡ r → t ≡ routine_at program call.callee → code ≡ t.code
-    → IsFitSite (record { call = call; shift = s.slots; results = t.results; behind = behind; rest = rest }) code
-fit_site program r slots call plain few openable is s t behind rest code same_r same_callee same_code =
-    subst (λ (x : Routine). IsFitSite (record { call = call; shift = x.slots; results = t.results; behind = behind; rest = rest }) code) (sym same_r)
-    (subst (λ (is : List Instruction). IsFitSite (record { call = call; shift = r.slots; results = t.results; behind = behind; rest = rest }) is) (sym same_code)
-    (subst (λ (x : Routine). IsFitSite (record { call = call; shift = r.slots; results = x.results; behind = behind; rest = rest }) x.code) (sym same_callee) fits))
+    → (s t : Routine) (following rest : ℕ) (code : List Instruction) → s ≡ r → t ≡ routine_at program call.callee → code ≡ t.code
+    → IsFitSite (record { call = call; shift = s.slots; results = t.results; following = following; rest = rest }) code
+fit_site program r slots call plain few openable is s t following rest code same_r same_callee same_code =
+    subst (λ (x : Routine). IsFitSite (record { call = call; shift = x.slots; results = t.results; following = following; rest = rest }) code) (sym same_r)
+    (subst (λ (is : List Instruction). IsFitSite (record { call = call; shift = r.slots; results = t.results; following = following; rest = rest }) is) (sym same_code)
+    (subst (λ (x : Routine). IsFitSite (record { call = call; shift = r.slots; results = x.results; following = following; rest = rest }) x.code) (sym same_callee) fits))
   where
     callee : Routine
     callee = routine_at program call.callee
@@ -260,7 +260,7 @@ fit_site program r slots call plain few openable is s t behind rest code same_r 
     room : r.slots + callee.slots < 2 ^ 64
     room = (let more = openable.room in omega (arith, few, more))
 
-    fits : IsFitSite (record { call = call; shift = r.slots; results = callee.results; behind = behind; rest = rest }) callee.code
+    fits : IsFitSite (record { call = call; shift = r.slots; results = callee.results; following = following; rest = rest }) callee.code
     fits =
         let routine = routine_in program call.callee plain.well_formed is.function_in_range in
         let parameters = routine.parameters in
@@ -268,7 +268,7 @@ fit_site program r slots call plain few openable is s t behind rest code same_r 
         let arguments = is.arguments_in_range in
         let results = is.result_in_range in
         record {
-          each = recursion_from_All (IsFitInside (record { call = call; shift = r.slots; results = callee.results; behind = behind; rest = rest })) callee.code (λ k d below.
+          each = recursion_from_All (IsFitInside (record { call = call; shift = r.slots; results = callee.results; following = following; rest = rest })) callee.code (λ k d below.
               let i = routine.instructions k d below in (fit program callee r.slots room _ i, fit_end program callee r.slots room _ i));
           results = routine.results;
           result = omega (arith, results, room);
@@ -276,13 +276,13 @@ fit_site program r slots call plain few openable is s t behind rest code same_r 
           shift = omega (arith, parameters, takes, room);
         }
 
--- and so many instructions stand for it
+-- The computed size of an inlined call is the size of its code.
 pub same_size : (program : Program) (call : Call) (in_line : Bool) (t : Routine) (code : List Instruction) → t ≡ routine_at program call.callee → code ≡ t.code
     → site_size call t.results in_line code ≡ call_size program in_line call
 same_size program call in_line t code same is =
     ap (λ (l : List Instruction). site_size call t.results in_line l) is ∙ ap (λ (x : Routine). site_size call x.results in_line x.code) same
 
--- ---- the choice
+-- ---- the choice of calls
 
 none_chosen : (i : Instruction) (call : Call) → chosen_call i 0 ≡ Some call → ⊥
 none_chosen i call is = (let (same, line, some) = call_is i 0 call is in omega (arith, some))
@@ -294,7 +294,7 @@ no_calls program r chosen slots none same = record {
   frame = inl same;
 }
 
--- what a table says that has one entry more was said before, or is the last entry
+-- An entry of a table extended by one is an old entry or the new last one.
 pub last_line : (lines : List ℕ) (line : ℕ) (k : ℕ) → 0 < place_in (lines ++ line ∷ []) k
     → (place_in (lines ++ line ∷ []) k ≡ place_in lines k) ⊎ ((k ≡ length lines) × (place_in (lines ++ line ∷ []) k ≡ line))
 last_line [] line zero is = inr (refl, refl)
@@ -329,7 +329,7 @@ length_more old new need index long by =
     let longer : length new.chosen.items ≡ length (old.chosen.items ++ by.line ∷ []) = ap (λ (lines : List ℕ). length lines) by.chosen in
     omega (arith, longer, length-append old.chosen.items (by.line ∷ []), long)
 
--- one instruction more is chosen, or is not
+-- The choice stays sound if one instruction is added, chosen or not.
 module _ (program : Program) (r : Routine) (old new : Choice) (need : Option Need) (index : ℕ) (i : Instruction) (at : At r.code index i)
     (long : length old.chosen.items ≡ index) (are : AreChosen program r old.chosen.items old.slots) (by : IsChosenBy old new need)
     (needed : (it : Need) → need ≡ Some it → IsNeed program r i it) (small : r.frame_count ≤ MOST_FRAME_WORDS) where

@@ -1,4 +1,4 @@
--- What the places of an inlined program cost: each is made of one of the program given, and so none is counted twice.
+-- The costs of the places of an inlined program: each place has one origin in the given program, so no cost is counted twice.
 use Rattle.std.proofs.Common.{◌≡◌, ◌≢◌, ℕ, zero, suc, ◌+◌, ◌<◌, ◌≤◌, Bool, true, false, List, [], ◌∷◌, ◌++◌, length, map, get_or, Option, Some, None, slice_get, refl, sym, ap, subst, ◌∙◌, arith}
 use Rattle.std.specs.Prelude.{◌==◌, ◌&&◌, sum_by, Contains, if◌then◌else◌}
 use Rattle.std.specs.List.{AllByRecursion, range_with_len}
@@ -9,13 +9,13 @@ use Rattle.cyc_words.proofs.Lists.{all_append}
 use Rattle.cyc_words.proofs.Sums.{sum_by-plus}
 use Rattle.cyc_plain.specs.declared.instruction.Instruction.{Instruction}
 use Rattle.cyc_plain.specs.inside.Program.{Routine, Program, CodePlace, routine_at, places_from, places_of}
-use Rattle.cyc_plain.specs.inside.Straight.{At, places_behind}
-use Rattle.cyc_plain.proofs.Straight.{behind-distinct}
+use Rattle.cyc_plain.specs.inside.Straight.{At, places_after}
+use Rattle.cyc_plain.proofs.Straight.{following-distinct}
 use Rattle.cyc_plain.proofs.Steps.{place_known}
 use Rattle.cyc_inline.specs.declared.origin.Origin.{Origin}
 use Rattle.cyc_inline.specs.inside.Opened.{origin_at, origins_of}
 
--- The places whose origin is this one, by a test of what is equal.
+-- The places with this origin, by a decidable equality on origins.
 module _ {P Q : Type 0} (same : P → P → Bool) (is : (p r : P) → same p r ≡ true → p ≡ r) (origin : Q → P) where
   abbrev pub made_of : List Q → P → List Q
   made_of [] p = []
@@ -26,7 +26,7 @@ module _ {P Q : Type 0} (same : P → P → Bool) (is : (p r : P) → same p r �
   own_sum price q qs p true e = sum_by-cons price q (made_of qs p)
   own_sum price q qs p false e = omega arith
 
-  -- a price that is paid at one place of a list without two alike is paid once
+  -- A cost charged at one element of a list without duplicates is charged once.
   none_there : (x : ℕ) (r : P) (ps : List P) → AllByRecursion (λ p. r ≢ p) ps → sum_by (λ (p : P). if same p r then x else 0) ps ≡ 0
   none_there x r [] apart = refl
   none_there x r (p ∷ ps) (first, rest) =
@@ -59,7 +59,7 @@ module _ {P Q : Type 0} (same : P → P → Bool) (is : (p r : P) → same p r �
   nothing [] price = refl
   nothing (p ∷ ps) price = let a = sum_by-cons (λ (x : P). sum_by price (made_of [] x)) p ps in let r = nothing ps price in let z : sum_by price (made_of [] p) ≡ 0 = refl in omega (arith, a, r, z)
 
-  -- All that is made of places that are no two alike costs no more than all there is.
+  -- The places made from distinct origins cost no more than all places together.
   pub parts_cheap : (price : Q → ℕ) (ps : List P) (qs : List Q) → IsDistinct ps → sum_by (λ (p : P). sum_by price (made_of qs p)) ps ≤ sum_by price qs
   parts_cheap price ps [] distinct = let n = nothing ps price in omega (arith, n)
   parts_cheap price ps (q ∷ qs) distinct =
@@ -70,7 +70,7 @@ module _ {P Q : Type 0} (same : P → P → Bool) (is : (p r : P) → same p r �
       let all = sum_by-cons price q qs in
       omega (arith, split, one, rest, all)
 
-  -- what is made of a place is among what is made of it
+  -- A place is among the places made of its origin.
   pub made_has : (qs : List Q) (q : Q) (p : P) → same p (origin q) ≡ true → Contains qs q → Contains (made_of qs p) q
   made_has [] q p made (k, below, at) = absurd (omega (arith, below))
   made_has (x ∷ qs) q p made (zero, below, at) = (
@@ -105,12 +105,12 @@ same_is p q same =
 is_same : (p q : CodePlace) → p ≡ q → same_place p q ≡ true
 is_same p q e = and_from (p.function == q.function) (p.index == q.index) (eq-eqb p.function q.function (ap (λ (x : CodePlace). x.function) e)) (eq-eqb p.index q.index (ap (λ (x : CodePlace). x.index) e))
 
--- the places of one function, and of those from it on
-one_function : (function index count : ℕ) → map (place_at function) (range_with_len index count) ≡ places_behind function index count
+-- The places of one function, and of the functions from one on.
+one_function : (function index count : ℕ) → map (place_at function) (range_with_len index count) ≡ places_after function index count
 one_function function index zero = refl
 one_function function index (suc count) = ap (λ (places : List CodePlace). place_at function index ∷ places) (one_function function (index + 1) count)
 
-own_function : (least function index count : ℕ) → least ≤ function → AllByRecursion (λ (p : CodePlace). least ≤ p.function) (places_behind function index count)
+own_function : (least function index count : ℕ) → least ≤ function → AllByRecursion (λ (p : CodePlace). least ≤ p.function) (places_after function index count)
 own_function least function index zero later = tt
 own_function least function index (suc count) later = (later, own_function least function (index + 1) count later)
 
@@ -128,10 +128,10 @@ none_later first index (p ∷ places) (later, all) = (
   none_later first index places all,
 )
 
-joined_distinct : (first index count : ℕ) (places : List CodePlace) → AllByRecursion (λ (p : CodePlace). suc first ≤ p.function) places → IsDistinct places → IsDistinct (places_behind first index count ++ places)
+joined_distinct : (first index count : ℕ) (places : List CodePlace) → AllByRecursion (λ (p : CodePlace). suc first ≤ p.function) places → IsDistinct places → IsDistinct (places_after first index count ++ places)
 joined_distinct first index zero places later distinct = distinct
 joined_distinct first index (suc count) places later distinct = (
-  all_append (λ (q : CodePlace). place_at first index ≢ q) (places_behind first (index + 1) count) places (behind-distinct first index (suc count)).0 (none_later first index places later),
+  all_append (λ (q : CodePlace). place_at first index ≢ q) (places_after first (index + 1) count) places (following-distinct first index (suc count)).0 (none_later first index places later),
   joined_distinct first (index + 1) count places later distinct,
 )
 
@@ -141,7 +141,7 @@ places_distinct first (r ∷ routines) =
     subst (λ (l : List CodePlace). IsDistinct (l ++ places_from (suc first) routines)) (sym (one_function first 0 (length r.code)))
     (joined_distinct first 0 (length r.code) (places_from (suc first) routines) (later_functions (suc first) (suc first) routines (omega arith)) (places_distinct (suc first) routines))
 
--- ---- the places that are made of one
+-- ---- the places with one origin
 
 module _ (inlined : Program) (origins : List (List Origin)) where
   abbrev place_of_origin : Option Origin → CodePlace

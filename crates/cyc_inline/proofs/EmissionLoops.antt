@@ -1,4 +1,4 @@
--- What is emitted in a loop, turn by turn: what is made so far, with what the rest becomes, is all of it.
+-- Emission in a loop, iteration by iteration: the code emitted so far followed by the remaining code is the whole.
 use Rattle.std.proofs.Common.{◌≡◌, ℕ, zero, suc, ◌+◌, ◌-◌, ◌<◌, Bool, List, [], ◌∷◌, ◌++◌, drop, length, replicate, refl, sym, ap, ◌∙◌, arith}
 use Rattle.std.specs.Prelude.{Result, Ok, Err, OnOk}
 use Rattle.std.specs.declared.alloc.AllocError.{AllocError}
@@ -13,7 +13,7 @@ use Rattle.cyc_inline.specs.inside.Opened.{passing}
 use Rattle.cyc_inline.specs.inside.Sites.{chosen_call, place_in}
 use Rattle.cyc_inline.specs.inside.Emission.{part, part_origins, part_count, opened_code, opened_origins, opened_places, opened_end}
 
--- one word more is moved
+-- Moving one more word extends the emitted moves.
 pub passed_next : (destination source count word : ℕ) (all old new : List Instruction) → word < count
     → new ≡ old ++ instructions.Move (destination + word) (operands.Slot (source + word)) ∷ []
     → old ++ passing (destination + word) (source + word) (count - word) ≡ all
@@ -30,7 +30,7 @@ passed_next destination source count word all old new below is before =
     ∙ ap (λ (n : ℕ). one ++ passing (destination + (word + 1)) n (count - (word + 1))) from)
     before
 
--- one instruction more has its place
+-- Placing one more instruction extends the table of places.
 pub placed_next : (program : Program) (chosen : List ℕ) (front_at : ℕ → Instruction → List Instruction) (in_line : Bool) (code : List Instruction) (index here count : ℕ) (i : Instruction) (all old new : List ℕ) → At code index i
     → new ≡ old ++ here ∷ [] → count ≡ part_count program in_line (chosen_call i (place_in chosen index)) (length (front_at index i))
     → old ++ opened_places program chosen front_at in_line index here (drop index code) ≡ all
@@ -44,7 +44,7 @@ placed_next program chosen front_at in_line code index here count i all old new 
     ∙ ap (λ (n : ℕ). here ∷ opened_places program chosen front_at in_line (index + 1) (here + n) (drop (index + 1) code)) (sym many))
     before
 
--- and the end stays where it is
+-- The end of the code stays where it is when one more instruction is placed.
 pub ended_next : (program : Program) (chosen : List ℕ) (front_at : ℕ → Instruction → List Instruction) (in_line : Bool) (code : List Instruction) (index here count all : ℕ) (i : Instruction) → At code index i
     → count ≡ part_count program in_line (chosen_call i (place_in chosen index)) (length (front_at index i)) → opened_end program chosen front_at in_line index here (drop index code) ≡ all
     → opened_end program chosen front_at in_line (index + 1) (here + count) (drop (index + 1) code) ≡ all
@@ -55,7 +55,7 @@ ended_next program chosen front_at in_line code index here count all i at many b
     ∙ ap (λ (n : ℕ). opened_end program chosen front_at in_line (index + 1) (here + n) (drop (index + 1) code)) (sym many))
     ∙ before
 
--- what one instruction more becomes
+-- Emitting the replacement of one more instruction extends the code.
 pub opened_next : (program : Program) (number : ℕ) (chosen : List ℕ) (front_at : ℕ → Instruction → List Instruction) (place rest : ℕ → ℕ) (in_line : Bool) (code : List Instruction) (index : ℕ) (i : Instruction) (all old new : List Instruction)
     → At code index i → new ≡ old ++ part program number place rest in_line index i (chosen_call i (place_in chosen index)) (front_at index i)
     → old ++ opened_code program number chosen front_at place rest in_line index (drop index code) ≡ all
@@ -69,7 +69,7 @@ opened_next program number chosen front_at place rest in_line code index i all o
     ∙ ap (λ (n : ℕ). here ++ opened_code program number chosen front_at place rest in_line n (drop (index + 1) code)) next)
     before
 
--- and what that is made of
+-- Emitting the replacement of one more instruction extends the origins.
 pub opened_origins_next : (program : Program) (number : ℕ) (chosen : List ℕ) (front_at : ℕ → Instruction → List Instruction) (in_line : Bool) (code : List Instruction) (index : ℕ) (i : Instruction) (all old new : List Origin)
     → At code index i → new ≡ old ++ part_origins program number in_line index (chosen_call i (place_in chosen index)) (length (front_at index i))
     → old ++ opened_origins program number chosen front_at in_line index (drop index code) ≡ all
@@ -83,18 +83,18 @@ opened_origins_next program number chosen front_at in_line code index i all old 
     ∙ ap (λ (n : ℕ). here ++ opened_origins program number chosen front_at in_line n (drop (index + 1) code)) next)
     before
 
--- ---- what stands in front of an instruction, and it itself
+-- ---- an instruction and those before it
 
 replicate_last : (origin : Origin) (count : ℕ) → replicate count origin ++ origin ∷ [] ≡ replicate (suc count) origin
 replicate_last origin zero = refl
 replicate_last origin (suc count) = ap (λ (os : List Origin). origin ∷ os) (replicate_last origin count)
 
-pub front_origins : (origin : Origin) (leads twin : List Instruction)
-    → replicate (length leads) origin ++ (replicate (length twin) origin ++ origin ∷ []) ≡ replicate (suc (length (leads ++ twin))) origin
-front_origins origin [] twin = replicate_last origin (length twin)
-front_origins origin (x ∷ leads) twin = ap (λ (os : List Origin). origin ∷ os) (front_origins origin leads twin)
+pub front_origins : (origin : Origin) (all_hoisted duplicate : List Instruction)
+    → replicate (length all_hoisted) origin ++ (replicate (length duplicate) origin ++ origin ∷ []) ≡ replicate (suc (length (all_hoisted ++ duplicate))) origin
+front_origins origin [] duplicate = replicate_last origin (length duplicate)
+front_origins origin (x ∷ all_hoisted) duplicate = ap (λ (os : List Origin). origin ∷ os) (front_origins origin all_hoisted duplicate)
 
--- what follows from what holds if all went well
+-- Weakens the condition on a successful result.
 pub then_ok : {T : Type 0} {P Q : Type 0} (result : Result T AllocError) → OnOk result P → (P → Q) → OnOk result Q
 then_ok (Ok value) holds next = next holds
 then_ok (Err e) holds next = tt

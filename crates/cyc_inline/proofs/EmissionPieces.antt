@@ -1,4 +1,4 @@
--- Lists made of one piece for each instruction of a code, and where each piece stands.
+-- Lists with one piece for each instruction of a code, and the position of each piece.
 use Rattle.std.proofs.Common.{◌≡◌, ℕ, zero, suc, ◌+◌, ◌<◌, ◌≤◌, List, [], ◌∷◌, ◌++◌, length, replicate, Some, None, slice_get, refl, sym, ap, subst, ◌∙◌, arith, length-append}
 use Rattle.std.specs.List.{AllByRecursion}
 use Rattle.cyc_words.proofs.Lists.{all_append}
@@ -8,9 +8,9 @@ use Rattle.cyc_plain.specs.inside.Straight.{At, HasAt}
 use Rattle.cyc_inline.specs.declared.origin.Origin.{Origin}
 use Rattle.cyc_inline.specs.inside.Opened.{AreMadeOf}
 
--- ---- parts of a list
+-- ---- sublists at an index
 
--- a list stands in another, from an index on
+-- A list occurs in another, from an index on.
 abbrev pub StandsAt : {A : Type 0} → (all part : List A) → (at : ℕ) → Type 0
 StandsAt {A} all part at = (k : ℕ) (x : A) → slice_get part k ≡ Some x → slice_get all (at + k) ≡ Some x
 
@@ -25,16 +25,16 @@ stands_at_back all front back at stands k x is =
     let same : at + length front + k ≡ at + (length front + k) = omega arith in
     ap (slice_get all) same ∙ stands (length front + k) x (slice_get_back front back k ∙ is)
 
--- what stands in a list stands in a longer one
-stands_at_behind : {A : Type 0} (front all part : List A) (at : ℕ) → StandsAt all part at → StandsAt (front ++ all) part (length front + at)
-stands_at_behind front all part at stands k x is =
+-- A sublist also occurs in a list with a longer front, at a shifted index.
+stands_at_after : {A : Type 0} (front all part : List A) (at : ℕ) → StandsAt all part at → StandsAt (front ++ all) part (length front + at)
+stands_at_after front all part at stands k x is =
     let same : length front + at + k ≡ length front + (at + k) = omega arith in
     ap (slice_get (front ++ all)) same ∙ slice_get_back front all (at + k) ∙ stands k x is
 
 stands_before : {A : Type 0} (all back part : List A) (at : ℕ) → StandsAt all part at → StandsAt (all ++ back) part at
 stands_before all back part at stands k x is = slice_get_front all back (at + k) x (stands k x is)
 
--- a part of a part
+-- A sublist of a sublist is a sublist.
 pub stands_within : {A : Type 0} (all part smaller : List A) (at inner : ℕ) → StandsAt all part at → StandsAt part smaller inner → StandsAt all smaller (at + inner)
 stands_within all part smaller at inner outer stands k x is =
     let same : at + inner + k ≡ at + (inner + k) = omega arith in
@@ -52,14 +52,14 @@ has_at code (i ∷ is) at stands =
 pub made_of : (origins : List Origin) (from count : ℕ) (origin : Origin) → StandsAt origins (replicate count origin) from → AreMadeOf origins from count origin
 made_of origins from count origin stands k below = stands k origin (slice_get_replicate count origin k below)
 
--- ---- pieces
+-- ---- one piece for each instruction
 
--- one piece for each instruction, of which the first has this index
+-- The concatenated pieces of the instructions, the first of which has index `first`.
 abbrev pub pieces : {A : Type 0} → (piece : ℕ → Instruction → List A) → (first : ℕ) → List Instruction → List A
 pieces piece first [] = []
 pieces piece first (i ∷ code) = piece first i ++ pieces piece (suc first) code
 
--- how long the pieces of so many instructions are
+-- The total length of the pieces of the first `k` instructions.
 abbrev pub offset : (count : ℕ → Instruction → ℕ) → (first : ℕ) → List Instruction → (k : ℕ) → ℕ
 offset count first [] k = 0
 offset count first (i ∷ code) zero = 0
@@ -84,7 +84,7 @@ offset_next count first (j ∷ code) (suc k) i at =
     omega (arith, all, offset_next count (suc first) code k i at, there)
 
 module _ {A : Type 0} (piece : ℕ → Instruction → List A) (count : ℕ → Instruction → ℕ) (long : (k : ℕ) (i : Instruction) → length (piece k i) ≡ count k i) where
-  -- each piece stands behind those of the instructions before
+  -- The code emitted for an instruction follows the code emitted for all earlier ones.
   pub piece_stands : (first : ℕ) (code : List Instruction) (k : ℕ) (i : Instruction) → At code k i → StandsAt (pieces piece first code) (piece (first + k) i) (offset count first code k)
   piece_stands first [] k i at = absurd (let e : None ≡ Some i = at in cc)
   piece_stands first (j ∷ code) zero i at =
@@ -94,7 +94,7 @@ module _ {A : Type 0} (piece : ℕ → Instruction → List A) (count : ℕ → 
       (stands_before (piece first j) (pieces piece (suc first) code) (piece first j) 0 (stands_whole (piece first j)))
   piece_stands first (j ∷ code) (suc k) i at =
       let same : suc first + k ≡ first + suc k = omega arith in
-      let there = stands_at_behind (piece first j) (pieces piece (suc first) code) (piece (suc first + k) i) (offset count (suc first) code k) (piece_stands (suc first) code k i at) in
+      let there = stands_at_after (piece first j) (pieces piece (suc first) code) (piece (suc first + k) i) (offset count (suc first) code k) (piece_stands (suc first) code k i at) in
       subst (λ (n : ℕ). StandsAt (piece first j ++ pieces piece (suc first) code) (piece n i) (count first j + offset count (suc first) code k)) same
       (subst (λ (n : ℕ). StandsAt (piece first j ++ pieces piece (suc first) code) (piece (suc first + k) i) (n + offset count (suc first) code k)) (long first j) there)
 
@@ -102,7 +102,7 @@ module _ {A : Type 0} (piece : ℕ → Instruction → List A) (count : ℕ → 
   pieces_long first [] = refl
   pieces_long first (i ∷ code) = omega (arith, length-append (piece first i) (pieces piece (suc first) code), long first i, pieces_long (suc first) code)
 
--- what holds of each piece's items holds of all
+-- A property of each piece's items holds of all items.
 pub all_pieces : {A : Type 0} (P : A → Type 0) (piece : ℕ → Instruction → List A) (first : ℕ) (code : List Instruction)
     → ((k : ℕ) (i : Instruction) → At code k i → AllByRecursion P (piece (first + k) i)) → AllByRecursion P (pieces piece first code)
 all_pieces P piece first [] each = tt
@@ -112,14 +112,14 @@ all_pieces {A} P piece first (i ∷ code) each =
     (all_pieces P piece (suc first) code (λ k j at.
     let e : first + suc k ≡ suc first + k = omega arith in subst (λ (n : ℕ). AllByRecursion P (piece n j)) e (each (suc k) j at)))
 
--- ---- how far they stand
+-- ---- bounds of offsets
 
 pub offset_most : (count : ℕ → Instruction → ℕ) (first : ℕ) (code : List Instruction) (k : ℕ) → offset count first code k ≤ offset count first code (length code)
 offset_most count first [] k = omega arith
 offset_most count first (i ∷ code) zero = omega arith
 offset_most count first (i ∷ code) (suc k) = omega (arith, offset_most count (suc first) code k)
 
--- no piece is empty
+-- The offset of each instruction is below the total length, since no piece is empty.
 pub offset_below : (count : ℕ → Instruction → ℕ) → ((k : ℕ) (i : Instruction) → 1 ≤ count k i) → (first : ℕ) (code : List Instruction) (k : ℕ) → k < length code
     → offset count first code k < offset count first code (length code)
 offset_below count some first [] k below = absurd (omega (arith, below))

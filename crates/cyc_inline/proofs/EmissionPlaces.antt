@@ -1,4 +1,4 @@
--- Where the instructions of a function stand whose calls are opened, and so what its code is.
+-- The places of the instructions of a function with inlined calls, and hence its code.
 use Rattle.std.proofs.Common.{◌≡◌, ℕ, zero, suc, ◌+◌, ◌<◌, ◌^◌, ◌≤◌, Bool, true, false, List, [], ◌∷◌, ◌++◌, length, replicate, Option, Some, None, refl, sym, ap, subst, ◌∙◌, arith, inl, inr, length-append}
 use Rattle.std.specs.Prelude.{◌⊎◌, if◌then◌else◌}
 use Rattle.std.specs.List.{AllByRecursion}
@@ -16,16 +16,16 @@ use Rattle.cyc_inline.specs.declared.caller.Places.{Places}
 use Rattle.cyc_inline.specs.declared.choice.Choice.{Choice}
 use Rattle.cyc_inline.specs.declared.origin.Origin.{Origin}
 use Rattle.cyc_inline.specs.declared.site.Call.{Call}
-use Rattle.cyc_inline.specs.inside.Opened.{moved, may_be_led, IsTwin, MayPrecede, origin_at, AreMadeOf, IsSite, IsLed, StandsFor}
+use Rattle.cyc_inline.specs.inside.Opened.{moved, may_follow_hoisted, IsDuplicate, MayPrecede, origin_at, AreMadeOf, IsSite, IsPreceded, StandsFor}
 use Rattle.cyc_inline.specs.inside.Sites.{chosen_call, place_in}
-use Rattle.cyc_inline.specs.inside.Emission.{own_part, own_count, part, part_origins, part_count, site_of, opened_code, opened_origins, opened_places, opened_end, AreChosen, may_lead, front_by, IsFront, AreParts}
-use Rattle.cyc_inline.proofs.ChoosingCalls.{in_code, call_is, call_in_range, is_lead, front_stands}
+use Rattle.cyc_inline.specs.inside.Emission.{own_part, own_count, part, part_origins, part_count, site_of, opened_code, opened_origins, opened_places, opened_end, AreChosen, may_hoisted, front_by, IsFront, AreParts}
+use Rattle.cyc_inline.proofs.ChoosingCalls.{in_code, call_is, call_in_range, is_hoisted, front_stands}
 use Rattle.cyc_inline.proofs.EmissionPieces.{StandsAt, stands_whole, stands_at_front, stands_at_back, stands_within, has_at, made_of, pieces, offset, offset_next, piece_stands, pieces_long}
 use Rattle.cyc_inline.proofs.EmissionSites.{is_site, site_long, site_origins_long}
 
--- ---- the table of places
+-- ---- the tables of places
 
--- how many instructions stand for one, or of how many the rest is
+-- The size of an instruction's replacement, in line or out of line.
 abbrev pub count_at : Program → List ℕ → (front_at : ℕ → Instruction → List Instruction) → (in_line : Bool) → (index : ℕ) → Instruction → ℕ
 count_at program chosen front_at in_line index i = part_count program in_line (chosen_call i (place_in chosen index)) (length (front_at index i))
 
@@ -44,7 +44,7 @@ end_is program chosen front_at in_line first here [] = omega arith
 end_is program chosen front_at in_line first here (i ∷ code) =
     omega (arith, end_is program chosen front_at in_line (suc first) (here + count_at program chosen front_at in_line first i) code)
 
--- no place is behind the end
+-- The end of the code is not before its start.
 end_least : (program : Program) (chosen : List ℕ) (front_at : ℕ → Instruction → List Instruction) (in_line : Bool) (first here : ℕ) (code : List Instruction) → here ≤ opened_end program chosen front_at in_line first here code
 end_least program chosen front_at in_line first here [] = omega arith
 end_least program chosen front_at in_line first here (i ∷ code) =
@@ -57,7 +57,7 @@ place_most program chosen front_at in_line first here [] (suc k) = omega arith
 place_most program chosen front_at in_line first here (i ∷ code) zero = end_least program chosen front_at in_line first here (i ∷ code)
 place_most program chosen front_at in_line first here (i ∷ code) (suc k) = place_most program chosen front_at in_line (suc first) (here + count_at program chosen front_at in_line first i) code k
 
--- the tables, as the code makes them
+-- The emitted tables satisfy `AreParts`.
 pub parts_are : (program : Program) (number : ℕ) (choice : Choice) (places rests : List ℕ) (table rest : Places) → IsPlain program → number < length program.functions
     → AreChosen program (routine_at program number) choice.chosen.items choice.slots → choice.slots < 2 ^ 64
     → places ≡ table.places.items → table.places.items ≡ opened_places program choice.chosen.items (front_by program number choice) true 0 0 (routine_at program number).code
@@ -78,7 +78,7 @@ parts_are program number choice places rests table rest plain is_function calls 
       omega (arith, most, same, is_last, within));
 }
 
--- an instruction is followed by what stands for the next
+-- The replacement of the next instruction follows that of the current one.
 pub place_next : (program : Program) (chosen : List ℕ) (front_at : ℕ → Instruction → List Instruction) (in_line : Bool) (here : ℕ) (code : List Instruction) (places : List ℕ) (k : ℕ) (i : Instruction)
     → places ≡ opened_places program chosen front_at in_line 0 here code → At code k i → place_in places (k + 1) ≡ place_in places k + count_at program chosen front_at in_line k i
 place_next program chosen front_at in_line start code places k i are at =
@@ -129,9 +129,9 @@ module _ (program : Program) (number : ℕ) (chosen : List ℕ) (front_at : ℕ 
   pub origins_long : (index : ℕ) (i : Instruction) → length (origins_at index i) ≡ count_at program chosen front_at in_line index i
   origins_long index i = part_origins_long index (chosen_call i (place_in chosen index)) (length (front_at index i))
 
--- ---- the function
+-- ---- the function of these parts
 
--- A function is made of these parts.
+-- The function consists of the given parts.
 pub record IsOf (program : Program) (number : ℕ) (chosen : List ℕ) (front_at : ℕ → Instruction → List Instruction) (places rests : List ℕ) (s : Routine) (origins : List Origin) : Type 0 where
   pub parts : AreParts program number chosen front_at places rests s.slots
   pub name : s.name ≡ (routine_at program number).name
@@ -156,11 +156,11 @@ module _ (program : Program) (number : ℕ) (chosen : List ℕ) (front_at : ℕ 
   abbrev rest : ℕ → ℕ
   rest = place_in rests
 
-  -- where what stands for an instruction begins, or the rest of it
+  -- The place where an instruction's replacement begins, in line or out of line.
   abbrev pub begins : (in_line : Bool) → (k : ℕ) → ℕ
   begins in_line k = if in_line then place k else rest k
 
-  -- and where all of it does
+  -- The place where the whole part begins, in line or out of line.
   abbrev pub begin : (in_line : Bool) → ℕ
   begin in_line = if in_line then 0 else opened_end program chosen front_at true 0 0 r.code
 
@@ -237,15 +237,15 @@ module _ (program : Program) (number : ℕ) (chosen : List ℕ) (front_at : ℕ 
   next_is : (k : ℕ) (i : Instruction) → At r.code k i → place (k + 1) ≡ place k + count_at program chosen front_at true k i
   next_is k i at = place_next program chosen front_at true 0 r.code places k i is.parts.standing at
 
-  -- what may have nothing in front of it has nothing
-  pub has_no_front : (k : ℕ) (i : Instruction) → may_be_led i ≡ false → front_at k i ≡ []
+  -- An instruction that may not be preceded has nothing before it.
+  pub has_no_front : (k : ℕ) (i : Instruction) → may_follow_hoisted i ≡ false → front_at k i ≡ []
   has_no_front k i may_not = go (front_at k i) (is.parts.fronts k i)
     where
       go : (front : List Instruction) → IsFront program r s.slots i front → front ≡ []
       go [] stands = refl
       go (x ∷ front) stands = absurd (false≢true (sym may_not ∙ stands.some (omega arith)))
 
-  -- an instruction that stands for itself, and what stands in front of it
+  -- An instruction that is its own replacement, with the instructions before it.
   record IsOwn (k : ℕ) (i : Instruction) (front : List Instruction) : Type 0 where
     pub code : StandsAt s.code (own_part place i front) (place k)
     pub made : AreMadeOf origins (place k) (suc (length front)) (origin_at number k)
@@ -270,16 +270,16 @@ module _ (program : Program) (number : ℕ) (chosen : List ℕ) (front_at : ℕ 
       let (here, nothing) = has_at s.code (moved 0 place i ∷ []) (place k) own.code in
       (here, own.made, own.next)
 
-  -- what stands in front of an instruction may stand there
-  may_precede : (i : Instruction) (front : List Instruction) → AllByRecursion (λ (x : Instruction). (may_lead (length program.globals) r.slots s.slots x ≡ true) ⊎ IsTwin r.slots s.slots i x) front
+  -- The instructions put before an instruction satisfy `MayPrecede`.
+  may_precede : (i : Instruction) (front : List Instruction) → AllByRecursion (λ (x : Instruction). (may_hoisted (length program.globals) r.slots s.slots x ≡ true) ⊎ IsDuplicate r.slots s.slots i x) front
       → AllByRecursion (MayPrecede r.slots s.slots i) front
   may_precede i [] each = tt
-  may_precede i (x ∷ front) (inl lead, each) = (inl (is_lead (length program.globals) r.slots s.slots x lead), may_precede i front each)
+  may_precede i (x ∷ front) (inl hoisted, each) = (inl (is_hoisted (length program.globals) r.slots s.slots x hoisted), may_precede i front each)
   may_precede i (x ∷ front) (inr it, each) = (inr it, may_precede i front each)
 
-  led : (k : ℕ) (i x : Instruction) (front : List Instruction) → At r.code k i → chosen_call i (place_in chosen k) ≡ None → front_at k i ≡ x ∷ front → IsFront program r s.slots i (x ∷ front)
-      → IsLed r s origins number place k i
-  led k i x front at none has stands =
+  preceded : (k : ℕ) (i x : Instruction) (front : List Instruction) → At r.code k i → chosen_call i (place_in chosen k) ≡ None → front_at k i ≡ x ∷ front → IsFront program r s.slots i (x ∷ front)
+      → IsPreceded r s origins number place k i
+  preceded k i x front at none has stands =
       let own = is_own k i (x ∷ front) at none has in
       record {
         front = x ∷ front;
@@ -304,11 +304,11 @@ module _ (program : Program) (number : ℕ) (chosen : List ℕ) (front_at : ℕ 
   IsSiteOf k (instructions.Call callee arguments count result) = IsSite program s origins r.slots number k (place k) (place (k + 1)) callee arguments count result
   IsSiteOf k i = Unit {0}
 
-  itself_or_led : (k : ℕ) (i : Instruction) (front : List Instruction) → At r.code k i → chosen_call i (place_in chosen k) ≡ None → front_at k i ≡ front → IsFront program r s.slots i front
+  itself_or_preceded : (k : ℕ) (i : Instruction) (front : List Instruction) → At r.code k i → chosen_call i (place_in chosen k) ≡ None → front_at k i ≡ front → IsFront program r s.slots i front
       → (At s.code (place k) (moved 0 place i) × AreMadeOf origins (place k) 1 (origin_at number k) × (leaves i ≡ false → place (k + 1) ≡ place k + 1))
-      ⊎ IsLed r s origins number place k i
-  itself_or_led k i (x ∷ front) at none has stands = inr (led k i x front at none has stands)
-  itself_or_led k i [] at none alone stands = (let (here, made, next) = itself k i at none alone in inl (here, made, λ stays. next))
+      ⊎ IsPreceded r s origins number place k i
+  itself_or_preceded k i (x ∷ front) at none has stands = inr (preceded k i x front at none has stands)
+  itself_or_preceded k i [] at none alone stands = (let (here, made, next) = itself k i at none alone in inl (here, made, λ stays. next))
 
   pub stands : (k : ℕ) (i : Instruction) → At r.code k i → StandsFor program r s origins number place k i
   stands k (instructions.Call callee arguments count result) at = go (chosen_call (instructions.Call callee arguments count result) (place_in chosen k)) refl
@@ -319,4 +319,4 @@ module _ (program : Program) (number : ℕ) (chosen : List ℕ) (front_at : ℕ 
           let (same, line, some) = call_is (instructions.Call callee arguments count result) (place_in chosen k) call opened in
           inr (subst (IsSiteOf k) (sym same) (opened_call k (instructions.Call callee arguments count result) call at opened))
       go None none = inl (itself k (instructions.Call callee arguments count result) at none (has_no_front k (instructions.Call callee arguments count result) refl))
-  stands k i at = itself_or_led k i (front_at k i) at refl refl (is.parts.fronts k i)
+  stands k i at = itself_or_preceded k i (front_at k i) at refl refl (is.parts.fronts k i)

@@ -1,4 +1,4 @@
--- A program some of whose functions have others in their place, made function by function.
+-- A program some of whose functions are replaced, built function by function.
 use Rattle.std.proofs.Common.{◌≡◌, ℕ, zero, suc, ◌+◌, ◌<◌, ◌≤◌, List, [], ◌∷◌, ◌++◌, length, Option, Some, None, map, max, slice_get, refl, sym, ap, subst, ◌∙◌, arith, inl, inr}
 use Rattle.std.specs.Prelude.{◌⊎◌, sum_by, slice_index_or}
 use Rattle.std.proofs.lemmas.Bool.{cases_lt}
@@ -11,7 +11,7 @@ use Rattle.cyc_plain.specs.inside.Program.{Routine, Program, no_routine, routine
 use Rattle.cyc_plain.specs.inside.WellFormed.{IsPlain}
 use Rattle.cyc_inline.specs.declared.making.Made.{Made}
 use Rattle.cyc_inline.specs.declared.replacing.Opened.{Opened}
-use Rattle.cyc_inline.specs.inside.Changes.{first_of, others, change_at, function_of, note_of, replaced, noted, routine_made, changed, own_origins, origins_made, all_origins, IsMadeFor, left_of, IsChange, AreBegun, note, notes_of, IsTold, AreTold}
+use Rattle.cyc_inline.specs.inside.Changes.{first_of, others, change_at, function_of, note_of, replaced, noted, routine_made, changed, own_origins, origins_made, all_origins, IsMadeFor, left_of, IsChange, AreBegun, note, notes_of, IsReported, AreReported}
 use Rattle.cyc_inline.specs.inside.Emission.{IsMade, AreOwn, AreFirstMade}
 use Rattle.cyc_inline.specs.inside.Inlined.{IsInlined}
 use Rattle.cyc_inline.specs.inside.Opened.{origin_at, origins_of}
@@ -26,7 +26,7 @@ pub others_at : {X : Type 0} (xs : List (Option X)) (k : ℕ) → slice_index_or
 others_at [] k = refl
 others_at (x ∷ xs) k = refl
 
--- ---- which functions there are then
+-- ---- the functions after replacement
 
 changed_none : (rs : List Routine) → changed rs [] ≡ rs
 changed_none [] = refl
@@ -56,7 +56,7 @@ origins_at number (r ∷ rs) cs (suc k) below =
     let same : suc number + k ≡ number + suc k = omega arith in
     origins_at (suc number) rs (others cs) k (omega (arith, below)) ∙ (λ i. origins_made (same i) (length (slice_index_or rs k no_routine).code) (others_at cs k i))
 
--- ---- a function without another in its place stands for itself
+-- ---- a function without a replacement is unchanged
 
 length_own : (number index count : ℕ) → length (own_origins number index count) ≡ count
 length_own number index zero = refl
@@ -97,7 +97,7 @@ are_first program changes plain many are = record {
       (stands_made program k (change_at changes k) plain below (are k (omega (arith, many, below))))));
 }
 
--- ---- function by function
+-- ---- one function at a time
 
 sum_changed : (rs : List Routine) (cs : List (Option Made)) (c : Option Made) → length cs < length rs
     → sum_by size (changed rs (cs ++ c ∷ [])) + size (slice_index_or rs (length cs) no_routine)
@@ -110,7 +110,7 @@ sum_changed (r ∷ rs) (d ∷ cs) c below =
     let rest = sum_changed rs cs c (omega (arith, below)) in
     omega (arith, head, other, rest)
 
--- none yet
+-- The invariant holds for no functions.
 pub begun_first : (program : Program) (room spare : ℕ) → sum_by size program.functions ≤ MOST_SIZE
     → (spare ≡ 0) ⊎ ((sum_by size program.functions + spare ≤ room) × (sum_by size program.functions + spare ≤ MOST_SIZE)) → AreBegun program room [] spare
 begun_first program room spare small either = record {
@@ -124,7 +124,7 @@ begun_first program room spare small either = record {
       | inr (first, second) ↦ (omega (arith, first), second)
     ]
 
--- one more
+-- The invariant is kept when one function is added.
 pub begun_next : (program : Program) (room : ℕ) (changes : List (Option Made)) (spare : ℕ) (change : Option Made) → AreBegun program room changes spare
     → length changes < length program.functions → IsChange program (length changes) spare change → AreBegun program room (changes ++ change ∷ []) (left_of change spare)
 begun_next program room changes spare change are below is = record {
@@ -179,20 +179,20 @@ has_origins : (program : Program) (number : ℕ) (change : Option Made) → IsMa
 has_origins program number (Some made) is = is.opened.as_many
 has_origins program number None is = tt
 
-told_first : (f : Function) (change : Option Made) → HasOrigins change → IsTold (routine_of f) (routine_made (routine_of f) change) (note (note_of f change))
-told_first f (Some made) has = (refl, has)
-told_first f None has = refl
+reported_first : (f : Function) (change : Option Made) → HasOrigins change → IsReported (routine_of f) (routine_made (routine_of f) change) (note (note_of f change))
+reported_first f (Some made) has = (refl, has)
+reported_first f None has = refl
 
-told_at : (fs : List Function) (cs : List (Option Made)) → ((j : ℕ) → j < length fs → HasOrigins (change_at cs j)) → (k : ℕ) → k < length fs
-    → IsTold (slice_index_or (map routine_of fs) k no_routine) (slice_index_or (changed (map routine_of fs) cs) k no_routine) (slice_index_or (notes_of (noted fs cs)) k None)
-told_at [] cs has k below = absurd (omega (arith, below))
-told_at (f ∷ fs) cs has zero below = told_first f (first_of cs) (subst HasOrigins (sym (first_at cs)) (has 0 (omega arith)))
-told_at (f ∷ fs) cs has (suc k) below =
-    told_at fs (others cs) (λ j lower. subst HasOrigins (sym (others_at cs j)) (has (suc j) (omega (arith, lower)))) k (omega (arith, below))
+reported_at : (fs : List Function) (cs : List (Option Made)) → ((j : ℕ) → j < length fs → HasOrigins (change_at cs j)) → (k : ℕ) → k < length fs
+    → IsReported (slice_index_or (map routine_of fs) k no_routine) (slice_index_or (changed (map routine_of fs) cs) k no_routine) (slice_index_or (notes_of (noted fs cs)) k None)
+reported_at [] cs has k below = absurd (omega (arith, below))
+reported_at (f ∷ fs) cs has zero below = reported_first f (first_of cs) (subst HasOrigins (sym (first_at cs)) (has 0 (omega arith)))
+reported_at (f ∷ fs) cs has (suc k) below =
+    reported_at fs (others cs) (λ j lower. subst HasOrigins (sym (others_at cs j)) (has (suc j) (omega (arith, lower)))) k (omega (arith, below))
 
 module _ (program : Program) (room : ℕ) (given functions : List Function) (changes : List (Option Made)) (opened : List (Option Opened)) (globals : List ℕ) (main : ℕ) (plain : IsPlain program)
     (parts : program_of given globals main ≡ program) (many : length changes ≡ length program.functions) (begun : AreBegun program room changes 0)
-    (are : functions ≡ replaced given changes) (told : opened ≡ noted given changes) where
+    (are : functions ≡ replaced given changes) (reported : opened ≡ noted given changes) where
   abbrev routines : List Routine
   routines = changed program.functions changes
 
@@ -217,19 +217,19 @@ module _ (program : Program) (room : ℕ) (given functions : List Function) (cha
   pub whole_inlined : IsInlined program (program_of functions globals main)
   whole_inlined = subst (IsInlined program) (sym same) (are_inlined program routines (all_origins 0 program.functions changes) plain made small)
 
-  -- it has as many words as there is room for, or no more than before
+  -- The replaced program has at most `room` words, or at most as many as before.
   pub whole_small : sum_by size (map routine_of functions) ≤ max (sum_by size program.functions) room
   whole_small = (let (first, second) = begun.most in let equal = ap (λ (rs : List Routine). sum_by size rs) functions_are in omega (arith, first, equal))
 
   long : length given ≡ length program.functions
   long = sym (length-map given routine_of) ∙ ap (λ (rs : List Routine). length rs) given_are
 
-  pub whole_told : AreTold program (program_of functions globals main) (notes_of opened)
-  whole_told = record {
-    as_many = ap (λ (os : List (Option Opened)). length (notes_of os)) told ∙ length_noted given changes ∙ long;
+  pub whole_reported : AreReported program (program_of functions globals main) (notes_of opened)
+  whole_reported = record {
+    as_many = ap (λ (os : List (Option Opened)). length (notes_of os)) reported ∙ length_noted given changes ∙ long;
     each = λ k below.
-        subst (λ (os : List (Option Opened)). IsTold (routine_at program k) (slice_index_or (map routine_of functions) k no_routine) (slice_index_or (notes_of os) k None)) (sym told)
-        (subst (λ (rs : List Routine). IsTold (routine_at program k) (slice_index_or rs k no_routine) (slice_index_or (notes_of (noted given changes)) k None)) (sym functions_are)
-        (subst (λ (rs : List Routine). IsTold (slice_index_or rs k no_routine) (slice_index_or (changed rs changes) k no_routine) (slice_index_or (notes_of (noted given changes)) k None)) given_are
-        (told_at given changes (λ j lower. has_origins program j (change_at changes j) (begun.each j (omega (arith, lower, long, many)))) k (omega (arith, below, long)))));
+        subst (λ (os : List (Option Opened)). IsReported (routine_at program k) (slice_index_or (map routine_of functions) k no_routine) (slice_index_or (notes_of os) k None)) (sym reported)
+        (subst (λ (rs : List Routine). IsReported (routine_at program k) (slice_index_or rs k no_routine) (slice_index_or (notes_of (noted given changes)) k None)) (sym functions_are)
+        (subst (λ (rs : List Routine). IsReported (slice_index_or rs k no_routine) (slice_index_or (changed rs changes) k no_routine) (slice_index_or (notes_of (noted given changes)) k None)) given_are
+        (reported_at given changes (λ j lower. has_origins program j (change_at changes j) (begun.each j (omega (arith, lower, long, many)))) k (omega (arith, below, long)))));
   }

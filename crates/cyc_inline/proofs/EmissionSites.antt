@@ -1,4 +1,4 @@
--- The code of a call that is opened is what `IsSite` says, wherever it stands.
+-- The code of an inlined call satisfies `IsSite` at any position.
 use Rattle.std.proofs.Common.{◌≡◌, ℕ, zero, suc, ◌+◌, ◌<◌, ◌≤◌, Bool, true, false, List, [], ◌∷◌, ◌++◌, length, replicate, Option, Some, None, slice_get, refl, sym, ap, subst, ◌∙◌, arith, inl, inr, append_assoc, length-append}
 use Rattle.std.specs.Prelude.{◌==◌, nat_lt, if◌then◌else◌}
 use Rattle.std.proofs.lemmas.Bool.{cases_lt, eqb-true, le-leb, false≢true}
@@ -10,34 +10,34 @@ use Rattle.cyc_plain.specs.declared.instruction.Instruction.TheVariants as instr
 use Rattle.cyc_plain.specs.inside.Program.{Routine, Program, routine_at}
 use Rattle.cyc_plain.specs.inside.Straight.{At}
 use Rattle.cyc_plain.specs.inside.WellFormed.{IsRoutine, leaves}
-use Rattle.cyc_plain.proofs.Placed.{has_code, goes_behind}
+use Rattle.cyc_plain.proofs.Placed.{has_code, goes_after}
 use Rattle.cyc_inline.specs.declared.origin.Origin.{Origin}
 use Rattle.cyc_inline.specs.declared.site.Call.{Call}
 use Rattle.cyc_inline.specs.declared.site.Site.{Site}
 use Rattle.cyc_inline.specs.inside.Opened.{moved, passing, is_end, origin_at, AreMadeOf, GoesTo, StandsInside, IsSite}
-use Rattle.cyc_inline.specs.inside.Sites.{place_in, stands_in, way_behind, way_count, inside_part, inside_count, count_in, inside_code, inside_origins, inside_size, inside_places, places_inside, site_code, site_origins, site_size}
+use Rattle.cyc_inline.specs.inside.Sites.{place_in, stands_in, way_following, way_count, inside_part, inside_count, count_in, inside_code, inside_origins, inside_size, inside_places, places_inside, site_code, site_origins, site_size}
 use Rattle.cyc_inline.specs.inside.Emission.{IsLeaf, IsOpenable, call_size, site_of}
 use Rattle.cyc_inline.proofs.EmissionPieces.{StandsAt, stands_at_front, stands_at_back, stands_within, has_at, made_of, pieces, offset, offset_next, piece_stands, pieces_long}
 use Rattle.cyc_inline.proofs.Passing.{passing_length}
 
 -- ---- an instruction of the callee
 
-way_long : (is_last : Bool) (behind : ℕ) → length (way_behind is_last behind) ≡ way_count is_last
-way_long true behind = refl
-way_long false behind = refl
+way_long : (is_last : Bool) (following : ℕ) → length (way_following is_last following) ≡ way_count is_last
+way_long true following = refl
+way_long false following = refl
 
 part_long : (site : Site) (place : ℕ → ℕ) (index : ℕ) (i : Instruction) (end : Option ℕ)
     → length (inside_part site place index i end) ≡ inside_count site.results site.call.line index end
 part_long site place index i (Some value) =
     omega (
       arith,
-      length-append (passing site.call.result (site.shift + value) site.results) (way_behind (index + 1 == site.call.line) site.behind),
+      length-append (passing site.call.result (site.shift + value) site.results) (way_following (index + 1 == site.call.line) site.following),
       passing_length site.call.result (site.shift + value) site.results,
-      way_long (index + 1 == site.call.line) site.behind,
+      way_long (index + 1 == site.call.line) site.following,
     )
 part_long site place index i None = refl
 
--- what it becomes in line, or as one of the rest
+-- The replacement of a callee's instruction, in line or out of line.
 abbrev pub piece_inside : Site → (place : ℕ → ℕ) → (in_line : Bool) → (index : ℕ) → Instruction → List Instruction
 piece_inside site place in_line index i = if stands_in in_line site.call.line index then inside_part site place index i (is_end i) else []
 
@@ -84,7 +84,7 @@ rest_place results line first here there (i ∷ code) (suc k) within past =
     let rest = rest_place results line (suc first) (here + count_inside results line true first i) (there + count_inside results line false first i) code k (omega (arith, within)) (omega (arith, past)) in
     omega (arith, rest)
 
--- none of the rest stands in line
+-- No instruction after the in-line part stands in line.
 none_past : (results line first : ℕ) (code : List Instruction) (k : ℕ) → line ≤ first → offset (count_inside results line true) first code k ≡ 0
 none_past results line first [] k past = refl
 none_past results line first (i ∷ code) zero past = refl
@@ -128,10 +128,10 @@ inside_origins_long callee results line in_line code =
     ∙ pieces_long (origins_inside callee results line in_line) (count_inside results line in_line) (origins_long callee results line in_line) 0 code
     ∙ sym (size_is results line in_line 0 code)
 
--- ---- the callee's code stands
+-- ---- the callee's code in the caller
 
 module _ (program : Program) (code : List Instruction) (origins : List Origin) (site : Site) (t : Routine) (first : ℕ) (routine : IsRoutine program t)
-    (leaf : IsLeaf t site.call.line) (behind : site.behind ≡ first + inside_size site.results site.call.line true 0 t.code) (results : site.results ≡ t.results) where
+    (leaf : IsLeaf t site.call.line) (following : site.following ≡ first + inside_size site.results site.call.line true 0 t.code) (results : site.results ≡ t.results) where
   abbrev line : ℕ
   line = site.call.line
 
@@ -141,11 +141,11 @@ module _ (program : Program) (code : List Instruction) (origins : List Origin) (
   abbrev counts : (in_line : Bool) → ℕ → Instruction → ℕ
   counts in_line = count_inside site.results site.call.line in_line
 
-  -- where the code in line begins, and the rest
+  -- The place where the in-line part begins, or the out-of-line part.
   abbrev begin : (in_line : Bool) → ℕ
   begin in_line = if in_line then first else site.rest
 
-  -- an instruction stands in line, or is of the rest
+  -- An instruction of the callee is in line or out of line, at the place that the table gives.
   record IsThere (k : ℕ) : Type 0 where
     pub in_line : Bool
     pub stands : stands_in in_line site.call.line k ≡ true
@@ -193,7 +193,7 @@ module _ (program : Program) (code : List Instruction) (origins : List Origin) (
         (stands_within origins (pieces piece 0 t.code) (piece k i) (begin is.in_line) (offset (counts is.in_line) 0 t.code k) whole
         (subst (λ (n : ℕ). StandsAt (pieces piece 0 t.code) (piece n i) (offset (counts is.in_line) 0 t.code k)) same inner))))
 
-    -- how far the next is
+    -- The offset of the next instruction in the part that contains this one.
     further : (in_line : Bool) (k : ℕ) (i : Instruction) → At t.code k i → stands_in in_line site.call.line k ≡ true
         → offset (counts in_line) 0 t.code (k + 1) ≡ offset (counts in_line) 0 t.code k + inside_count site.results site.call.line k (is_end i)
     further in_line k i at is =
@@ -201,29 +201,29 @@ module _ (program : Program) (code : List Instruction) (origins : List Origin) (
         offset_next (counts in_line) 0 t.code k i at
         ∙ ap (λ (n : ℕ). offset (counts in_line) 0 t.code k + n) (same ∙ count_there site.results site.call.line in_line k i is)
 
-    -- behind an instruction stands the next, unless it leads nowhere there
+    -- The next instruction follows an instruction unless control never falls through.
     next_place : (k : ℕ) (i : Instruction) → At t.code k i → leaves i ≡ false → k + 1 < length t.code → place (k + 1) ≡ place k + inside_count site.results site.call.line k (is_end i)
     next_place k i at stays more = elim (cases_lt (k + 1) site.call.line) [
       | inl before ↦
           (let here = line_place site.results site.call.line 0 first site.rest t.code k (below_from_slice_get t.code k i at) (omega (arith, before)) in
-          let behind = line_place site.results site.call.line 0 first site.rest t.code (k + 1) more (omega (arith, before)) in
-          omega (arith, here, behind, further true k i at (lt-nat_lt k site.call.line (omega (arith, before)))))
+          let following = line_place site.results site.call.line 0 first site.rest t.code (k + 1) more (omega (arith, before)) in
+          omega (arith, here, following, further true k i at (lt-nat_lt k site.call.line (omega (arith, before)))))
       | inr past ↦ elim (cases_lt k site.call.line) [
         | inl last ↦ absurd (false≢true (sym stays ∙ leaf.last k i at (omega (arith, past, last))))
         | inr rest ↦
             (let here = rest_place site.results site.call.line 0 first site.rest t.code k (below_from_slice_get t.code k i at) (omega (arith, rest)) in
-            let behind = rest_place site.results site.call.line 0 first site.rest t.code (k + 1) more (omega (arith, rest)) in
-            omega (arith, here, behind, further false k i at (le-leb site.call.line k rest)))
+            let following = rest_place site.results site.call.line 0 first site.rest t.code (k + 1) more (omega (arith, rest)) in
+            omega (arith, here, following, further false k i at (le-leb site.call.line k rest)))
       ]
     ]
 
-    -- and behind the last one in line the caller goes on
-    last_place : (k : ℕ) (i : Instruction) → At t.code k i → k + 1 ≡ site.call.line → site.behind ≡ place k + inside_count site.results site.call.line k (is_end i)
+    -- The caller continues after the last instruction in line.
+    last_place : (k : ℕ) (i : Instruction) → At t.code k i → k + 1 ≡ site.call.line → site.following ≡ place k + inside_count site.results site.call.line k (is_end i)
     last_place k i at last =
         let here = line_place site.results site.call.line 0 first site.rest t.code k (below_from_slice_get t.code k i at) (omega (arith, last)) in
         let all = size_is site.results site.call.line true 0 t.code in
         let end = line_end site.results site.call.line 0 t.code (k + 1) (omega (arith, last)) in
-        omega (arith, behind, here, all, end, further true k i at (lt-nat_lt k site.call.line (omega (arith, last))))
+        omega (arith, following, here, all, end, further true k i at (lt-nat_lt k site.call.line (omega (arith, last))))
 
     fewer : (from count more : ℕ) (origin : Origin) → AreMadeOf origins from (count + more) origin → AreMadeOf origins from count origin
     fewer from count more origin are k below = are k (omega (arith, below))
@@ -232,27 +232,27 @@ module _ (program : Program) (code : List Instruction) (origins : List Origin) (
     later from count more origin are k below =
         let same : from + count + k ≡ from + (count + k) = omega arith in ap (slice_get origins) same ∙ are (count + k) (omega (arith, below))
 
-    -- a return goes on behind the call
-    goes : (k value : ℕ) (is_last : Bool) → (is_last ≡ true → site.behind ≡ place k + (site.results + way_count is_last))
-        → StandsAt code (passing site.call.result (site.shift + value) site.results ++ way_behind is_last site.behind) (place k)
+    -- A return continues after the call.
+    goes : (k value : ℕ) (is_last : Bool) → (is_last ≡ true → site.following ≡ place k + (site.results + way_count is_last))
+        → StandsAt code (passing site.call.result (site.shift + value) site.results ++ way_following is_last site.following) (place k)
         → AreMadeOf origins (place k) (site.results + way_count is_last) (origin_at site.call.callee k)
-        → GoesTo code origins (place k + site.results) site.behind (origin_at site.call.callee k)
+        → GoesTo code origins (place k + site.results) site.following (origin_at site.call.callee k)
     goes k value true end stand are = (let e = end refl in inl (omega (arith, e)))
     goes k value false end stand are =
         let moves = passing site.call.result (site.shift + value) site.results in
-        let jump = stands_at_back code moves (instructions.Jump site.behind ∷ []) (place k) stand in
+        let jump = stands_at_back code moves (instructions.Jump site.following ∷ []) (place k) stand in
         let there : place k + length moves ≡ place k + site.results = ap (λ (n : ℕ). place k + n) (passing_length site.call.result (site.shift + value) site.results) in
-        let (at, none) = has_at code (instructions.Jump site.behind ∷ []) (place k + length moves) jump in
-        inr (subst (λ (n : ℕ). At code n (instructions.Jump site.behind)) there at, later (place k) site.results 1 (origin_at site.call.callee k) are)
+        let (at, none) = has_at code (instructions.Jump site.following ∷ []) (place k + length moves) jump in
+        inr (subst (λ (n : ℕ). At code n (instructions.Jump site.following)) there at, later (place k) site.results 1 (origin_at site.call.callee k) are)
 
     abbrev Inside : ℕ → Instruction → Option ℕ → Type 0
-    Inside k i end = StandsInside code origins site.shift site.call.result site.results site.behind site.call.callee place k i end
+    Inside k i end = StandsInside code origins site.shift site.call.result site.results site.following site.call.callee place k i end
 
     inside : (k : ℕ) (i : Instruction) (end : Option ℕ) → is_end i ≡ end → At t.code k i → StandsAt code (inside_part site place k i end) (place k)
         → AreMadeOf origins (place k) (inside_count site.results site.call.line k end) (origin_at site.call.callee k) → Inside k i end
     inside k i (Some value) is at stand are =
         let moves = passing site.call.result (site.shift + value) site.results in (
-          has_at code moves (place k) (stands_at_front code moves (way_behind (k + 1 == site.call.line) site.behind) (place k) stand),
+          has_at code moves (place k) (stands_at_front code moves (way_following (k + 1 == site.call.line) site.following) (place k) stand),
           fewer (place k) site.results (way_count (k + 1 == site.call.line)) (origin_at site.call.callee k) are,
           goes k value (k + 1 == site.call.line) (λ last.
               last_place k i at (eqb-true (k + 1) site.call.line last) ∙ ap (λ (o : Option ℕ). place k + inside_count site.results site.call.line k o) is) stand are,
@@ -262,7 +262,7 @@ module _ (program : Program) (code : List Instruction) (origins : List Origin) (
           there,
           are,
           λ stays.
-              let next = next_place k i at stays (goes_behind program t k i routine at stays) in
+              let next = next_place k i at stays (goes_after program t k i routine at stays) in
               let one : inside_count site.results site.call.line k (is_end i) ≡ 1 = ap (inside_count site.results site.call.line k) is in
               inl (omega (arith, next, one)),
         )
@@ -270,19 +270,19 @@ module _ (program : Program) (code : List Instruction) (origins : List Origin) (
     pub body : (k : ℕ) (i : Instruction) → At t.code k i → Inside k i (is_end i)
     body k i at = inside k i (is_end i) refl at (piece_at k i at) (made_at k i at)
 
--- ---- the call
+-- ---- the inlined call
 
--- The code of a call that is opened stands here, and the rest there, and so the callee's code stands in its place.
-module _ (program : Program) (r s : Routine) (origins : List Origin) (number index here behind rest : ℕ) (call : Call) (openable : IsOpenable program r s.slots call)
-    (routine : IsRoutine program (routine_at program call.callee)) (next : behind ≡ here + call_size program true call)
-    (stands : (in_line : Bool) → StandsAt s.code (site_code (site_of program r call behind rest) in_line here (routine_at program call.callee).code) (if in_line then here else rest))
+-- The in-line and out-of-line code of an inlined call stand at their places, so the callee's code stands in the caller.
+module _ (program : Program) (r s : Routine) (origins : List Origin) (number index here following rest : ℕ) (call : Call) (openable : IsOpenable program r s.slots call)
+    (routine : IsRoutine program (routine_at program call.callee)) (next : following ≡ here + call_size program true call)
+    (stands : (in_line : Bool) → StandsAt s.code (site_code (site_of program r call following rest) in_line here (routine_at program call.callee).code) (if in_line then here else rest))
     (made : (in_line : Bool)
     → StandsAt origins (site_origins call (routine_at program call.callee).results in_line (origin_at number index) (routine_at program call.callee).code) (if in_line then here else rest)) where
   abbrev callee : Routine
   callee = routine_at program call.callee
 
   abbrev site : Site
-  site = site_of program r call behind rest
+  site = site_of program r call following rest
 
   abbrev first : ℕ
   first = here + call.count + 1
@@ -327,7 +327,7 @@ module _ (program : Program) (r s : Routine) (origins : List Origin) (number ind
       subst (λ (n : ℕ). StandsAt origins origins_in_place n) same (stands_at_back origins first_origins origins_in_place here origins_in_parts)
   body_made false = made false
 
-  pub is_site : IsSite program s origins r.slots number index here behind call.callee call.arguments call.count call.result
+  pub is_site : IsSite program s origins r.slots number index here following call.callee call.arguments call.count call.result
   is_site = record {
     place = places_inside site here callee.code;
     room = openable.room;
@@ -338,17 +338,17 @@ module _ (program : Program) (r s : Routine) (origins : List Origin) (number ind
         line_place callee.results call.line 0 (here + call.count + 1) rest callee.code 0 (has_code program callee routine) (let some = openable.some in omega (arith, some))
         ∙ none_before callee.code;
     leaf = openable.leaf.all;
-    body = body program s.code origins site callee (here + call.count + 1) routine openable.leaf behind_is refl body_stands body_made;
+    body = body program s.code origins site callee (here + call.count + 1) routine openable.leaf following_is refl body_stands body_made;
   }
     where
       none_before : (code : List Instruction) → here + call.count + 1 + offset (count_inside callee.results call.line true) 0 code 0 ≡ here + call.count + 1
       none_before [] = omega arith
       none_before (i ∷ code) = omega arith
 
-      behind_is : behind ≡ here + call.count + 1 + inside_size callee.results call.line true 0 callee.code
-      behind_is = omega (arith, next)
+      following_is : following ≡ here + call.count + 1 + inside_size callee.results call.line true 0 callee.code
+      following_is = omega (arith, next)
 
--- so many instructions it has
+-- The length of the code of an inlined call.
 pub site_long : (site : Site) (in_line : Bool) (here : ℕ) (code : List Instruction) → length (site_code site in_line here code) ≡ site_size site.call site.results in_line code
 site_long site true here code =
     let place = places_inside site here code in

@@ -1,4 +1,4 @@
--- A program in which a return is the code of functions that nothing leads to is a plain program, as small, and each of its runs is one of the program given.
+-- A program whose unreachable functions keep only a return is a plain program, no larger, and each of its runs is one of the given program.
 use Rattle.std.proofs.Common.{◌≡◌, ℕ, zero, suc, ◌+◌, ◌*◌, ◌<◌, ◌≤◌, Bool, true, false, List, [], ◌∷◌, length, map, Option, Some, None, slice_get, refl, sym, ap, subst, ◌∙◌, arith, inl}
 use Rattle.std.specs.Prelude.{All, Contains, if◌then◌else◌, flat_map, sum_by}
 use Rattle.std.specs.List.{range_with_len}
@@ -25,7 +25,7 @@ use Rattle.cyc_inline.specs.inside.Emptied.{is_reached, AreReached, returns, fir
 use Rattle.cyc_inline.specs.inside.Inlined.{IsLike, IsInlined}
 use Rattle.cyc_inline.proofs.EmptiedSteps.{flag_first, flags_other, length_kept, kept_at, slots_same, IsLive, limited_live, instruction_same, step_same}
 
--- ---- what is left of a function
+-- ---- the part of an emptied function after its first return
 
 leaves_at_return : (i : Instruction) → returns i ≡ true → leaves i ≡ true
 leaves_at_return (instructions.Return value) returned = refl
@@ -159,7 +159,7 @@ module _ (program : Program) (reached : List Bool) (plain : IsPlain program) (ar
   as_many : length below.functions ≡ length program.functions
   as_many = length_kept program.functions reached
 
-  -- ---- it is plain
+  -- ---- the emptied program is plain
 
   like : (k : ℕ) → k < length program.functions → IsLike (routine_at program k) (routine_at (emptied program reached) k)
   like k known = subst (IsLike (routine_at program k)) (sym (kept_at program.functions reached k known)) (like_kept (routine_at program k) (routine_at program k) (is_reached reached k) (like_itself (routine_at program k)))
@@ -255,7 +255,7 @@ module _ (program : Program) (reached : List Bool) (plain : IsPlain program) (ar
       endings = λ s t ending matches ended. ap status_of matches.0 ∙ ended;
     }
 
-    -- what may be chosen for a step below may be for one above
+    -- A choice allowed for a step of the emptied program is allowed for the source step.
     lies : (c : Configuration) (base : ℕ) (o : Option ℕ) → MayLie (emptied program reached) base o (Running c) → MayLie program base o (Running c)
     lies c base None may = may
     lies c base (Some function) may = record {
@@ -298,7 +298,7 @@ module _ (program : Program) (reached : List Bool) (plain : IsPlain program) (ar
         simulates (machine program pages calls) (machine (emptied program reached) pages calls) matching matched (lawful (emptied program reached) pages calls) [] (start program base store input) never
         (start (emptied program reached) base store input) refl (refl, (are.main, tt))
 
-  -- ---- what is inlined stays so
+  -- ---- emptying keeps the promise of inlining
 
   pub still_inlined : (given : Program) → IsInlined given program → IsInlined given (emptied program reached)
   still_inlined given by = record {

@@ -1,4 +1,5 @@
--- A program in which a return is the code of functions that nothing leads to does the same as before, step by step, since no call under way is of such a function.
+-- A program whose unreachable functions keep only a return takes the same steps as before, since no active call is of an unreachable
+-- function.
 use Rattle.std.proofs.Common.{◌≡◌, ℕ, zero, suc, ◌%◌, ◌<◌, Bool, true, List, [], ◌∷◌, length, Option, Some, None, slice_get, refl, sym, ap, ◌∙◌, arith, inl, inr}
 use Rattle.std.specs.Prelude.{◌==◌, if◌then◌else◌, slice_index_or}
 use Rattle.std.specs.List.{AllByRecursion}
@@ -66,7 +67,7 @@ module _ (program : Program) (reached : List Bool) (are : AreReached program rea
         (get_or_past below.functions k no_routine (let l = length_kept program.functions reached in omega (arith, past, l)) ∙ sym (get_or_past program.functions k no_routine past))
   ]
 
-  -- ---- each call under way is of a function that is reached
+  -- ---- each active call is of a reached function
 
   abbrev pub IsWaited : Frame → Type 0
   IsWaited f = is_reached reached f.caller.function ≡ true
@@ -186,7 +187,7 @@ module _ (program : Program) (reached : List Bool) (are : AreReached program rea
     limited_live pages calls =
         limited_either IsLive pages (limit_at program (Running c) calls) (Running c) (step program choice (Running c)) (λ within. executed_live (instruction_at program (place_of (Running c))) refl) tt
 
-  -- ---- what the two programs do
+  -- ---- the steps of the two programs
 
   slot_same : (a : Activation) (address : ℕ) → is_reached reached a.function ≡ true → slot_at (emptied program reached) a address ≡ slot_at program a address
   slot_same a address known = ap (λ (r : Routine). numbered (is_pinned r.code) a.base address) (routine_same a.function known)

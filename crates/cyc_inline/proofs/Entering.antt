@@ -1,4 +1,4 @@
--- The step of a call that was opened: its arguments are moved, there is room for it, and then it is under way.
+-- The step that enters an inlined call: arguments are moved, stack room is checked, and the call becomes active.
 use Rattle.std.proofs.Common.{◌≡◌, ℕ, suc, ◌+◌, ◌-◌, ◌<◌, Bool, true, ◌&&◌, List, [], ◌∷◌, ◌++◌, length, Option, Some, refl, sym, ap, subst, ◌∙◌, arith, inl, inr, length-append}
 use Rattle.std.specs.Prelude.{nat_le, Contains}
 use Rattle.std.specs.List.{AllByRecursion}
@@ -15,18 +15,18 @@ use Rattle.cyc_plain.specs.inside.Memory.{IsBelow}
 use Rattle.cyc_plain.specs.inside.Program.{Program, CodePlace, routine_at}
 use Rattle.cyc_plain.specs.inside.State.{Words, copied, Activation, Frame, Configuration, State, Running, Ended, place_of, HoldsWords}
 use Rattle.cyc_plain.specs.inside.Step.{Choice, IsAllowed, MayLie, callee_of, advanced, instruction_at, is_within, limited, limited_step, Step, machine}
-use Rattle.cyc_plain.specs.inside.Straight.{At, HasAt, places_behind}
+use Rattle.cyc_plain.specs.inside.Straight.{At, HasAt, places_after}
 use Rattle.cyc_plain.specs.inside.WellFormed.{IsCallInRange, IsPlain}
 use Rattle.cyc_plain.proofs.RunLaws.{called_at}
 use Rattle.cyc_plain.proofs.SlotLaws.{copied-inside, copied-above}
-use Rattle.cyc_plain.proofs.Straight.{has_front, has_back, behind-distinct}
+use Rattle.cyc_plain.proofs.Straight.{has_front, has_back, following-distinct}
 use Rattle.cyc_inline.specs.declared.origin.Origin.{Origin}
 use Rattle.cyc_inline.specs.inside.Opened.{passing, origins_of, IsSite, AreOpened}
 use Rattle.cyc_inline.proofs.Costs.{place_at, own, own_has}
 use Rattle.cyc_inline.proofs.Moves.{passed, passed_other, passed_inside}
 use Rattle.cyc_inline.proofs.Waiting.{each_opened, place_in, slots_of, AreCalls, AreWaiting, as_deep, beside}
 use Rattle.cyc_inline.proofs.Matched.{step_is, IsInside, Alike, alike_if, stands, Matches, matching, kept, words_kept}
-use Rattle.cyc_inline.proofs.Passing.{passing_length, passed_words, behind_last, behind_inside, has_each, passes}
+use Rattle.cyc_inline.proofs.Passing.{passing_length, passed_words, following_last, after_inside, has_each, passes}
 
 module _ (program inlined : Program) (origins : List (List Origin)) (are : AreOpened program inlined origins) (plain : IsPlain program) (fine : IsPlain inlined) (pages calls : ℕ)
     (c : Configuration) (b : Activation) (gs : List Frame)
@@ -48,7 +48,7 @@ module _ (program inlined : Program) (origins : List (List Origin)) (are : AreOp
   abbrev entry : List Instruction
   entry = passing shift arguments count ++ instructions.Enter callee ∷ []
 
-  -- behind the moves
+  -- The state after the moves of the arguments.
   abbrev passer : Activation
   passer = record b { slots = passed shift arguments count b.slots; next = b.next + count }
 
@@ -66,7 +66,7 @@ module _ (program inlined : Program) (origins : List (List Origin)) (are : AreOp
       ∙ (has_back (routine_at inlined b.function).code b.next (passing shift arguments count) (instructions.Enter callee ∷ []) has).0
 
   abbrev places : List CodePlace
-  places = places_behind b.function b.next count ++ place_at b.function (b.next + count) ∷ []
+  places = places_after b.function b.next count ++ place_at b.function (b.next + count) ∷ []
 
   own_at : (k : ℕ) → k < suc count → Contains (own inlined origins (place_at c.active.function c.active.next)) (place_at b.function (b.next + k))
   own_at k below =
@@ -77,18 +77,18 @@ module _ (program inlined : Program) (origins : List (List Origin)) (are : AreOp
 
   inside : AllByRecursion (Contains (own inlined origins (place_at c.active.function c.active.next))) places
   inside =
-      subst (AllByRecursion (Contains (own inlined origins (place_at c.active.function c.active.next)))) (sym (behind_last b.function b.next count))
-      (behind_inside (own inlined origins (place_at c.active.function c.active.next)) b.function b.next (suc count) own_at)
+      subst (AllByRecursion (Contains (own inlined origins (place_at c.active.function c.active.next)))) (sym (following_last b.function b.next count))
+      (after_inside (own inlined origins (place_at c.active.function c.active.next)) b.function b.next (suc count) own_at)
 
   distinct : IsDistinct places
-  distinct = subst IsDistinct (sym (behind_last b.function b.next count)) (behind-distinct b.function b.next (suc count))
+  distinct = subst IsDistinct (sym (following_last b.function b.next count)) (following-distinct b.function b.next (suc count))
 
-  -- ---- the call above
+  -- ---- the source call
 
   words : HoldsWords (Running e)
   words = (passed_words shift arguments count b.slots matches.words.0, matches.words.1, matches.words.2, matches.words.3, matches.words.4)
 
-  -- what it finds in its slots is what the caller's further ones hold below
+  -- The slots of the source call are the extra slots of the caller in the inlined program.
   abbrev found : Words
   found = λ (k : ℕ). passer.slots (shift + k)
 
@@ -101,7 +101,7 @@ module _ (program inlined : Program) (origins : List (List Origin)) (are : AreOp
     frames = record { caller = (advanced c).active; result = result } ∷ c.frames;
   }
 
-  -- its slots may lie there
+  -- The slots of the source call may be allocated at the chosen address.
   allowed_above : (choice : Choice) → IsAllowed inlined (Running e) choice → IsAllowed program (Running c) (chosen choice)
   allowed_above choice allowed =
       let lies : IsBelow inlined callee choice.base b.base = subst (λ (o : Option ℕ). MayLie inlined choice.base o (Running e)) (ap callee_of enter_at) allowed.lies in
@@ -112,7 +112,7 @@ module _ (program inlined : Program) (origins : List (List Origin)) (are : AreOp
         high = (let high = lies.high in let slots = (each_opened program inlined origins are callee).like.slots in let there = same.slotted.base in omega (arith, high, slots, there));
       })
 
-  -- every slot of it is one of the caller's below
+  -- Each slot of the source call equals one of the caller's extra slots.
   slots_same : (k : ℕ) → passer.slots (shift + k) ≡ copied c.active.slots arguments count found 0 k
   slots_same k = elim (cases_lt k count) [
     | inl argument ↦
@@ -143,7 +143,7 @@ module _ (program inlined : Program) (origins : List (List Origin)) (are : AreOp
       index = c.active.next;
       arguments = arguments;
       count = count;
-      behind = refl;
+      following = refl;
       calls = at;
       site = site;
       slots = λ k below. slots_same k;
@@ -169,7 +169,7 @@ module _ (program inlined : Program) (origins : List (List Origin)) (are : AreOp
         step = step;
         matches = kept program inlined origins are plain fine pages calls (Running c) (Running d) next u matches step alike
             (words_kept program inlined origins are plain fine pages calls (Running e) u words (choice, allowed, is));
-        lighter = λ none. let long = length-append (places_behind b.function b.next count) (place_at b.function (b.next + count) ∷ []) in absurd (omega (arith, none, long));
+        lighter = λ none. let long = length-append (places_after b.function b.next count) (place_at b.function (b.next + count) ∷ []) in absurd (omega (arith, none, long));
       }
     where
       below_is : u ≡ limited pages (calls - 1) (Running e) (Running (advanced e))
@@ -183,7 +183,7 @@ module _ (program inlined : Program) (origins : List (List Origin)) (are : AreOp
           (Running (entered choice)) (Ended Full c.output c.input) (Running (advanced e)) (Ended Full c.output c.input)
           (within_same choice) (inr (lodged choice)) refl))
 
-  -- nothing is seen on the way
+  -- The moves have no observable effect.
   way : (slots : Words) (next : ℕ) → IsOnTheWay (machine program pages calls) (machine inlined pages calls) (Running c) (Running (beside program inlined origins are c (record b { slots = slots; next = next }) gs))
   way slots next =
       way_before (machine program pages calls) (machine inlined pages calls) (matching program inlined origins are plain fine pages calls) (Running c)

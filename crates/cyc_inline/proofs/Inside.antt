@@ -1,4 +1,4 @@
--- The steps of an inlined call, but for its return.
+-- The steps inside an inlined call, except its return.
 use Rattle.std.proofs.Common.{◌≡◌, ℕ, zero, suc, ◌+◌, ◌≤◌, true, false, List, [], ◌∷◌, length, Some, refl, sym, ap, subst, ◌∙◌, arith, inl, inr}
 use Rattle.std.specs.Prelude.{◌⊎◌, nat_le, Contains}
 use Rattle.std.proofs.lemmas.Bool.{and_from, and_parts, le-leb, leb-true}
@@ -15,7 +15,7 @@ use Rattle.cyc_plain.specs.inside.Straight.{At}
 use Rattle.cyc_plain.specs.inside.WellFormed.{IsInRange, IsPlain, leaves}
 use Rattle.cyc_plain.proofs.RunLaws.{zeros, zeros_at, calls_nothing, limit_free, limited-within, stuck_within, lawful}
 use Rattle.cyc_plain.proofs.Steps.{step_performs}
-use Rattle.cyc_plain.proofs.Straight.{behind-distinct}
+use Rattle.cyc_plain.proofs.Straight.{following-distinct}
 use Rattle.cyc_inline.specs.declared.origin.Origin.{Origin}
 use Rattle.cyc_inline.specs.inside.Opened.{moved, origin_at, origins_of, AreMadeOf, GoesTo, AreOpened}
 use Rattle.cyc_inline.proofs.Costs.{place_at, own, own_has}
@@ -30,7 +30,7 @@ ordinary_calls (instructions.Ask request) ordinary = ordinary
 ordinary_calls (instructions.Enter function) ordinary = ordinary
 ordinary_calls i ordinary = refl
 
--- nothing is chosen in it
+-- An ordinary instruction makes the same step under every choice.
 ordinary_moved : (program : Program) (d : Configuration) (shift : ℕ) (place : ℕ → ℕ) (choice other : Choice) (i : Instruction) → is_ordinary i ≡ true
     → performed program choice d (moved shift place i) ≡ performed program other d (moved shift place i)
 ordinary_moved program d shift place choice other (instructions.Call function arguments count result) ordinary = absurd (let e : false ≡ true = ordinary in cc)
@@ -42,7 +42,7 @@ pub ordinary_limit : (shift : ℕ) (place : ℕ → ℕ) (calls : ℕ) (i : Inst
 ordinary_limit shift place calls (instructions.Enter function) ordinary = absurd (let e : false ≡ true = ordinary in cc)
 ordinary_limit shift place calls i ordinary = refl
 
--- an instruction that calls nothing makes this step
+-- The step of an instruction that calls no function.
 pub step_so : (program : Program) (pages calls : ℕ) (c : Configuration) (i : Instruction) (s : State) → instruction_at program (place_of (Running c)) ≡ Some i → calls_nothing i ≡ true
     → performed program zeros c i ≡ s → is_within pages calls s ≡ true → Step program pages calls (Running c) s
 step_so program pages calls c i s at free does within = (
@@ -54,7 +54,7 @@ step_so program pages calls c i s at free does within = (
       ∙ limited-within pages calls (Running c) s within))),
 )
 
--- fewer calls are within the same limits
+-- A state with fewer calls than another is within the limits that the other is within.
 pub fewer_within : (pages calls : ℕ) (c d : Configuration) → stores.demand d.store ≡ stores.demand c.store → length d.frames ≤ length c.frames → is_within pages calls (Running c) ≡ true → is_within pages calls (Running d) ≡ true
 fewer_within pages calls c d as_much fewer within =
     let (paged, some) = and_parts (nat_le (stores.demand c.store) pages) (nat_le (suc (length c.frames)) calls) within in
@@ -63,7 +63,7 @@ fewer_within pages calls c d as_much fewer within =
     (le-leb (suc (length d.frames)) calls (let l = leb-true (suc (length c.frames)) calls some in omega (arith, l, fewer)))
 
 module _ (program inlined : Program) (origins : List (List Origin)) (are : AreOpened program inlined origins) where
-  -- wherever it stands
+  -- An inlined call is active whatever the next place is.
   abbrev pub lodged_at : (c : Configuration) (b : Activation) (gs : List Frame) (next : ℕ) → IsLodged program inlined origins are c b gs → IsLodged program inlined origins are c (record b { next = next }) gs
   lodged_at c b gs next l = record {
     waits = l.waits;
@@ -74,14 +74,14 @@ module _ (program inlined : Program) (origins : List (List Origin)) (are : AreOp
     index = l.index;
     arguments = l.arguments;
     count = l.count;
-    behind = l.behind;
+    following = l.following;
     calls = l.calls;
     site = l.site;
     slots = l.slots;
     handlers = l.handlers;
   }
 
-  -- below there is one call less
+  -- The inlined program has one active call less.
   pub lodged_within : (pages calls : ℕ) (c : Configuration) (b : Activation) (gs : List Frame) → IsLodged program inlined origins are c b gs → is_within pages calls (Running c) ≡ true
       → is_within pages calls (Running (beside program inlined origins are c b gs)) ≡ true
   lodged_within pages calls c b gs l within =
@@ -115,7 +115,7 @@ module _ (program inlined : Program) (origins : List (List Origin)) (are : AreOp
     abbrev own_places : List CodePlace
     own_places = own inlined origins (place_at c.active.function c.active.next)
 
-    -- ---- an instruction that is moved
+    -- ---- a moved instruction
 
     module _ (there : At (routine_at inlined lodged.waits.caller.function).code (lodged.site.place c.active.next) (moved (slots_of program inlined origins are lodged.waits.caller.function) lodged.site.place i))
         (made : AreMadeOf (origins_of origins lodged.waits.caller.function) (lodged.site.place c.active.next) 1 (origin_at c.active.function c.active.next)) where
@@ -154,7 +154,7 @@ module _ (program inlined : Program) (origins : List (List Origin)) (are : AreOp
           above : Step program pages calls (Running c) (Running e)
           above = step_so program pages calls c i (Running e) at (ordinary_calls i ordinary) does within
 
-          -- both are at the same place again
+          -- After these steps both programs are again at corresponding places.
           arrives : (u : State) (other : ℕ) → u ≡ Running (beside program inlined origins are e (record g.active { next = other }) g.frames) → other ≡ place e.active.next → HoldsWords u
               → (s : State) × Step program pages calls (Running c) s × Matches program inlined origins are plain fine pages calls s u
           arrives u other is to words = (
@@ -176,22 +176,22 @@ module _ (program inlined : Program) (origins : List (List Origin)) (are : AreOp
               by_one (machine program pages calls) (machine inlined pages calls) (matching program inlined origins are plain fine pages calls) (Running c) (Running d) matches refl owned
               (λ u step. arrives u g.active.next (comes_to u step) to (words_kept program inlined origins are plain fine pages calls (Running d) u matches.words step))
 
-          -- a jump stands between
-          module _ (behind : e.active.next ≡ c.active.next + 1) (beyond : g.active.next ≡ b.next + 1)
+          -- A jump stands between the instruction and its successor.
+          module _ (following : e.active.next ≡ c.active.next + 1) (beyond : g.active.next ≡ b.next + 1)
               (jump_at : At (routine_at inlined lodged.waits.caller.function).code (b.next + 1) (instructions.Jump (lodged.site.place (c.active.next + 1))))
               (jump_made : AreMadeOf (origins_of origins lodged.waits.caller.function) (b.next + 1) 1 (origin_at c.active.function c.active.next)) where
             abbrev target : ℕ
             target = place (c.active.next + 1)
 
-            -- where the call below stands behind the instruction
-            stands_behind : place_of (Running below) ≡ place_at b.function (b.next + 1)
-            stands_behind = λ k. place_at ((g.lodges.slotted.function ∙ (g.caller ∙ sym lodged.slotted.function)) k) (beyond k)
+            -- The place of the active call in the inlined program after the instruction.
+            stands_after : place_of (Running below) ≡ place_at b.function (b.next + 1)
+            stands_after = λ k. place_at ((g.lodges.slotted.function ∙ (g.caller ∙ sym lodged.slotted.function)) k) (beyond k)
 
             stands_caller : place_at b.function (b.next + 1) ≡ place_at lodged.waits.caller.function (b.next + 1)
             stands_caller = λ k. place_at (lodged.slotted.function k) (b.next + 1)
 
             jumps : instruction_at inlined (place_of (Running below)) ≡ Some (instructions.Jump target)
-            jumps = ap (instruction_at inlined) (stands_behind ∙ stands_caller) ∙ jump_at
+            jumps = ap (instruction_at inlined) (stands_after ∙ stands_caller) ∙ jump_at
 
             jump_owned : Contains own_places (place_at b.function (b.next + 1))
             jump_owned =
@@ -206,14 +206,14 @@ module _ (program inlined : Program) (origins : List (List Origin)) (are : AreOp
                 → IsMatchedStep (machine program pages calls) (machine inlined pages calls) (matching program inlined origins are plain fine pages calls) (Running c) both v
             goal v words step =
                 let (state, made_above, matched) =
-                arrives v target (step_performs inlined pages calls below (instructions.Jump target) v jumps (λ choice. below_within) step).2 (ap place (sym behind))
+                arrives v target (step_performs inlined pages calls below (instructions.Jump target) v jumps (λ choice. below_within) step).2 (ap place (sym following))
                 (words_kept program inlined origins are plain fine pages calls (Running below) v words step) in
                 record { next = state; step = made_above; matches = matched; lighter = λ none. absurd (omega (arith, none)) }
 
             jumped : IsStep
             jumped = record {
               places = both;
-              distinct = behind-distinct b.function b.next (suc (suc zero));
+              distinct = following-distinct b.function b.next (suc (suc zero));
               inside = (owned, (jump_owned, tt));
               comes = (
                 refl,
@@ -222,7 +222,7 @@ module _ (program inlined : Program) (origins : List (List Origin)) (are : AreOp
                     subst (λ (s : State). (place_of s ≡ place_at b.function (b.next + 1)) × IsOnTheWay (machine program pages calls) (machine inlined pages calls) (Running c) s
                     × ((v : State) → Step inlined pages calls s v → IsMatchedStep (machine program pages calls) (machine inlined pages calls) (matching program inlined origins are plain fine pages calls) (Running c) both v))
                     (sym (comes_to u step)) (
-                      stands_behind,
+                      stands_after,
                       way_after (machine program pages calls) (machine inlined pages calls) (matching program inlined origins are plain fine pages calls) (Running c) (Running e) (Running below) above
                           ((lawful program pages calls).grows (Running c) (Running e) above) refl refl,
                       λ v more. goal v (subst HoldsWords (comes_to u step) (words_kept program inlined origins are plain fine pages calls (Running d) u matches.words step)) more,
@@ -235,15 +235,15 @@ module _ (program inlined : Program) (origins : List (List Origin)) (are : AreOp
             where
               go : (g.active.next ≡ place e.active.next) ⊎ ((e.active.next ≡ c.active.next + 1) × (g.active.next ≡ b.next + 1) × Falls program inlined origins are plain.well_formed c b gs lodged) → IsStep
               go (inl to) = at_once to
-              go (inr (behind, beyond, inl to)) = at_once (beyond ∙ (to ∙ ap place (sym behind)))
-              go (inr (behind, beyond, inr (jump, made_so))) = jumped behind beyond jump made_so
+              go (inr (following, beyond, inl to)) = at_once (beyond ∙ (to ∙ ap place (sym following)))
+              go (inr (following, beyond, inr (jump, made_so))) = jumped following beyond jump made_so
 
         by_state : (s : State) → performed program zeros c i ≡ s → Going program inlined origins are plain.well_formed c b gs lodged s (performed inlined zeros d j) → IsStep
         by_state (Running e) does going = steps_on e does going
         by_state (Ended ending output input) does going = absurd going
         by_state (Stuck output input) does going = absurd (never (Stuck output input) (step_so program pages calls c i (Stuck output input) at (ordinary_calls i ordinary) does (stuck_within pages calls output input)) refl)
 
-        -- behind the instruction the code goes on as from its place
+        -- After the instruction, control continues at the place of its successor.
         falls_here : leaves i ≡ false → Falls program inlined origins are plain.well_formed c b gs lodged
         falls_here stays =
             subst (λ (n : ℕ). GoesTo code others (n + 1) (place (c.active.next + 1)) (origin_at c.active.function c.active.next)) (sym next) (falls stays)

@@ -1,43 +1,43 @@
--- what places cost, of which each is made of one of the program given
+-- the costs of places, each with one origin in the given program
 pub mod Costs
--- words that are moved one by one
+-- words moved one by one
 pub mod Moves
--- slots, calls and memory that agree
+-- agreement of slots, calls and memory
 pub mod Agreeing
 pub mod Waiting
 pub mod Memory
--- what instructions do
+-- the effects of instructions
 pub mod Performing
 pub mod Outside
 pub mod Lodged
--- each step is matched
+-- the simulation relation
 pub mod Matched
 pub mod Steps
 pub mod Passing
 pub mod Entering
 pub mod Inside
-pub mod Twins
+pub mod Duplicates
 pub mod Returning
--- each run of an inlined program is one of the program given
+-- each run of an inlined program is one of the given program
 pub mod Runs
--- which calls may be opened, and that their numbers fit
+-- the chosen calls may be inlined, and their numbers fit
 pub mod ChoosingCalls
--- where the pieces of code stand that are made, and so what the code is
+-- the places of the emitted pieces, and hence the code
 pub mod EmissionPieces
 pub mod EmissionSites
 pub mod EmissionPlaces
--- what the functions that emit do, turn by turn
+-- the emitting loops, iteration by iteration
 pub mod EmissionLoops
--- all that the code names is there, and so a function stands for the one given
+-- everything that the code names exists, so a function correctly replaces the given one
 pub mod RangesMoved
 pub mod RangesCode
 pub mod RangesEnds
 pub mod RangesFunction
 pub mod RangesCopied
--- it is a plain program
+-- the result is a plain program
 pub mod Whole
 pub mod EmissionPrograms
--- where functions that nothing leads to have no code
+-- programs whose unreachable functions have no code
 pub mod EmptiedSteps
 pub mod EmptiedProgram
 pub mod EmptiedFunctions

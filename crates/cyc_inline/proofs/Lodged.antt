@@ -1,4 +1,5 @@
--- An inlined call under way: above it is a call of its own, below its slots are further ones of its caller, and it stands in the caller's code.
+-- An active inlined call: in the source it is a call of its own. In the inlined program its slots are extra slots of its caller, and its
+-- code is in the caller's.
 use Rattle.std.proofs.Common.{◌≡◌, ℕ, suc, ◌+◌, Bool, true, false, List, [], ◌∷◌, length, Option, Some, None, refl, sym, ap, subst, ◌∙◌, arith, inr}
 use Rattle.std.specs.Prelude.{◌&&◌, ◌==◌, ◌*◌, ◌/◌, ◌-◌, if◌then◌else◌}
 use Rattle.cyc_store.specs.State.{StoreState, has_saved, word_at}
@@ -22,21 +23,21 @@ use Rattle.cyc_inline.proofs.Performing.{is_ordinary, IsNext, Bears, performs}
 
 module _ (program inlined : Program) (origins : List (List Origin)) (are : AreOpened program inlined origins) where
   pub record IsLodged (c : Configuration) (b : Activation) (gs : List Frame) : Type 0 where
-    -- its caller waits above and is executed below
+    -- The caller waits in the source program and is active in the inlined one.
     pub waits : Frame
     pub rest : List Frame
     pub frames : c.frames ≡ waits ∷ rest
     pub slotted : AreSlotted program inlined origins are waits.caller b
     pub waiting : AreWaiting program inlined origins are waits.caller.function rest gs
-    -- the call that was opened
+    -- The call that was inlined.
     pub index : ℕ
     pub arguments : ℕ
     pub count : ℕ
-    pub behind : waits.caller.next ≡ index + 1
+    pub following : waits.caller.next ≡ index + 1
     pub calls : At (routine_at program waits.caller.function).code index (instructions.Call c.active.function arguments count waits.result)
     pub site : IsSite program (routine_at inlined waits.caller.function) (origins_of origins waits.caller.function) (slots_of program inlined origins are waits.caller.function) waits.caller.function index
         (place_in program inlined origins are waits.caller.function index) (place_in program inlined origins are waits.caller.function (index + 1)) c.active.function arguments count waits.result
-    -- its slots, and that it has no handler
+    -- The slots of the call agree, and the call has no handler.
     pub slots : Agree (slots_of program inlined origins are c.active.function) c.active.slots (from_slot (slots_of program inlined origins are waits.caller.function) b.slots)
     pub handlers : c.active.handlers ≡ []
 
@@ -76,14 +77,14 @@ module _ (program inlined : Program) (origins : List (List Origin)) (are : AreOp
             ∙ sym (ap (λ (o : Option ℕ). word_or o c.active.slots (word_waiting program c.frames address)) (hidden address)
             ∙ ap (λ (frames : List Frame). word_waiting program frames address) lodged.frames)
 
-    -- ---- the call goes on
+    -- ---- the call continues
 
-    -- behind an instruction of the call, where the code goes on
+    -- The place at which control continues after an instruction of the inlined call.
     abbrev pub Falls : Type 0
     Falls = GoesTo (routine_at inlined lodged.waits.caller.function).code (origins_of origins lodged.waits.caller.function) (b.next + 1) (lodged.site.place (c.active.next + 1)) (origin_at c.active.function c.active.next)
 
-    abbrev pub IsBehind : (to other : ℕ) → Type 0
-    IsBehind = IsNext program inlined (routine_at program c.active.function) (slots_of program inlined origins are lodged.waits.caller.function) lodged.site.place c b gs Falls
+    abbrev pub IsAfter : (to other : ℕ) → Type 0
+    IsAfter = IsNext program inlined (routine_at program c.active.function) (slots_of program inlined origins are lodged.waits.caller.function) lodged.site.place c b gs Falls
 
     pub record IsGoing (e : Configuration) (t : State) : Type 0 where
       pub active : Activation
@@ -92,17 +93,17 @@ module _ (program inlined : Program) (origins : List (List Origin)) (are : AreOp
       pub lodges : IsLodged e active frames
       pub same_site : (to : ℕ) → lodges.site.place to ≡ lodged.site.place to
       pub caller : lodges.waits.caller.function ≡ lodged.waits.caller.function
-      pub next : IsBehind e.active.next active.next
+      pub next : IsAfter e.active.next active.next
       pub as_much : stores.demand e.store ≡ stores.demand c.store
       pub as_deep : length e.frames ≡ length c.frames
 
-    -- a run that does not fail does not end here either
+    -- A run of the source that does not fail does not end inside the inlined call.
     abbrev pub Going : State → State → Type 0
     Going (Running e) t = IsGoing e t
     Going (Ended ending output input) t = ⊥
     Going (Stuck output input) t = Unit {0}
 
-    -- the call below with other slots and elsewhere
+    -- The call of the inlined program with other slots, at another place.
     abbrev moved_on : (slots others : Words) (to other : ℕ) (globals : Words) (store : StoreState) (output input : List ℕ) → Agree leaf.slots slots (from_slot shift others) → Agree shift b.slots others
         → IsLodged (record c { active = record c.active { slots = slots; next = to }; globals = globals; store = store; output = output; input = input }) (record b { slots = others; next = other }) gs
     moved_on slots others to other globals store output input agree kept = record {
@@ -120,14 +121,14 @@ module _ (program inlined : Program) (origins : List (List Origin)) (are : AreOp
       index = lodged.index;
       arguments = lodged.arguments;
       count = lodged.count;
-      behind = lodged.behind;
+      following = lodged.following;
       calls = lodged.calls;
       site = lodged.site;
       slots = agree;
       handlers = lodged.handlers;
     }
 
-    -- ---- what is written
+    -- ---- writes
 
     module _ (address word : ℕ) (falls : Falls) where
       abbrev IsWritten : Configuration → Configuration → Type 0
@@ -155,7 +156,7 @@ module _ (program inlined : Program) (origins : List (List Origin)) (are : AreOp
       by_store (Some old) = stays c.globals (has_saved c.store address word (Some old)) refl
       by_store None = stays c.globals c.store refl
 
-      -- the caller's slot is written, or one of a call that waits for it
+      -- The write reaches a slot of the caller, or of a call that waits for it.
       by_slot : (o : Option ℕ) → slot_at program f.caller address ≡ o
           → IsWritten (record c { frames = put_or o word f lodged.rest (with_waiting program lodged.rest address word) }) (with_slot inlined d o address word)
       by_slot (Some number) at = record {
@@ -171,7 +172,7 @@ module _ (program inlined : Program) (origins : List (List Origin)) (are : AreOp
           index = lodged.index;
           arguments = lodged.arguments;
           count = lodged.count;
-          behind = lodged.behind;
+          following = lodged.following;
           calls = lodged.calls;
           site = lodged.site;
           slots = λ k below.
@@ -198,7 +199,7 @@ module _ (program inlined : Program) (origins : List (List Origin)) (are : AreOp
           index = lodged.index;
           arguments = lodged.arguments;
           count = lodged.count;
-          behind = lodged.behind;
+          following = lodged.following;
           calls = lodged.calls;
           site = lodged.site;
           slots = lodged.slots;
@@ -223,7 +224,7 @@ module _ (program inlined : Program) (origins : List (List Origin)) (are : AreOp
           (sym (slot_same program inlined origins are well f.caller b address lodged.slotted))
           (by_slot (slot_at program f.caller address) refl)))
 
-    -- ---- an instruction
+    -- ---- one instruction
 
     bears : Bears program inlined leaf shift lodged.site.place c b gs Falls Going
     bears = record {

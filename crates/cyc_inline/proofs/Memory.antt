@@ -1,4 +1,4 @@
--- Memory is the same above and below: the same slots of the same calls have an address, since a function that is inlined has none that does.
+-- Memory is the same in both programs: the same slots of the same calls have addresses, since no slot of an inlined function has one.
 use Rattle.std.proofs.Common.{◌≡◌, ℕ, zero, suc, ◌+◌, ◌-◌, ◌*◌, ◌/◌, ◌<◌, Bool, true, false, ◌&&◌, ◌||◌, List, [], ◌∷◌, Option, Some, None, refl, sym, ap, subst, ◌∙◌, inl, inr}
 use Rattle.std.specs.Prelude.{◌==◌, if◌then◌else◌}
 use Rattle.std.specs.List.{AllByRecursion}
@@ -19,9 +19,9 @@ use Rattle.cyc_inline.specs.inside.Opened.{is_of_leaf, AreOpened}
 use Rattle.cyc_inline.proofs.Agreeing.{put_agree}
 use Rattle.cyc_inline.proofs.Waiting.{each_opened, place_in, slots_of, AreSlotted, AreWaiting, beside, Outside}
 
--- ---- what has its address taken
+-- ---- slots whose address is taken
 
--- an instruction of the code names the slot
+-- An instruction of the code takes the address of each pinned slot.
 pinned_there : (code : List Instruction) (slot : ℕ) → is_pinned code slot ≡ true → (p : ℕ) × (i : Instruction) × At code p i × (pins i slot ≡ true)
 pinned_there [] slot pinned = absurd (let e : false ≡ true = pinned in cc)
 pinned_there (i ∷ code) slot pinned = elim (or_cases (pins i slot) (is_pinned code slot) pinned) [
@@ -35,7 +35,7 @@ pinned_by (j ∷ code) zero i slot at names =
     or_left (pins j slot) (is_pinned code slot) (ap (λ (x : Instruction). pins x slot) (let e : Some j ≡ Some i = at in cc) ∙ names)
 pinned_by (j ∷ code) (suc p) i slot at names = or_right (pins j slot) (is_pinned code slot) (pinned_by code p i slot at names)
 
--- none of a leaf has
+-- No instruction of a leaf takes the address of a slot.
 leaf_pins : (i : Instruction) (slot : ℕ) → is_of_leaf i ≡ true → pins i slot ≡ false
 leaf_pins (instructions.AddressOf destination first count) slot leaf = absurd (let e : false ≡ true = leaf in cc)
 leaf_pins i slot leaf = refl
@@ -58,14 +58,14 @@ module _ (program inlined : Program) (origins : List (List Origin)) (are : AreOp
           let o = each_opened program inlined origins are function in
           elim (o.stands p (instructions.AddressOf destination first count) at) [
             | inl itself ↦ pinned_by (routine_at inlined function).code (o.place p) (instructions.AddressOf destination first count) slot itself.0 names
-            | inr twinned ↦ absurd (let e : false ≡ true = twinned.may in cc)
+            | inr duplicated ↦ absurd (let e : false ≡ true = duplicated.may in cc)
           ]
       by p i at names = absurd (let e : false ≡ true = names in cc)
 
       below : is_pinned (routine_at program function).code slot ≡ true → is_pinned (routine_at inlined function).code slot ≡ true
       below pinned = let (p, i, at, names) = pinned_there (routine_at program function).code slot pinned in by p i at names
 
-  -- the slot at an address
+  -- An address denotes the same slot in both programs.
   pub slot_same : (a b : Activation) (address : ℕ) → AreSlotted program inlined origins are a b → slot_at inlined b address ≡ slot_at program a address
   slot_same a b address slotted =
       ap (λ (function : ℕ). numbered (is_pinned (routine_at inlined function).code) b.base address) slotted.function
@@ -76,7 +76,7 @@ module _ (program inlined : Program) (origins : List (List Origin)) (are : AreOp
   slot_inside a address number at =
       pinned-inside program well a.function number (numbered-from (is_pinned (routine_at program a.function).code) a.base address number at).1
 
-  -- ---- what it holds
+  -- ---- the word at an address
 
   pub word_same : (a b : Activation) (address : ℕ) (rest other : Option ℕ) → AreSlotted program inlined origins are a b → other ≡ rest
       → word_or (slot_at inlined b address) b.slots other ≡ word_or (slot_at program a address) a.slots rest
@@ -97,7 +97,7 @@ module _ (program inlined : Program) (origins : List (List Origin)) (are : AreOp
   pub global_same : (address : ℕ) → global_at inlined address ≡ global_at program address
   global_same address = ap (λ (globals : List ℕ). global_at (record program { globals = globals }) address) are.globals
 
-  -- ---- what is written
+  -- ---- writes to memory
 
   pub put_slotted : (a b : Activation) (number word : ℕ) → AreSlotted program inlined origins are a b
       → AreSlotted program inlined origins are (record a { slots = put a.slots number word }) (record b { slots = put b.slots number word })
@@ -109,7 +109,7 @@ module _ (program inlined : Program) (origins : List (List Origin)) (are : AreOp
     slots = put_agree (slots_of program inlined origins are a.function) number word a.slots b.slots slotted.slots;
   }
 
-  -- where they stand is of no account
+  -- The correspondence does not depend on the next places.
   pub put_next : {a b : Activation} {n m : ℕ} → AreSlotted program inlined origins are a b → AreSlotted program inlined origins are (record a { next = n }) (record b { next = m })
   put_next slotted = record { function = slotted.function; base = slotted.base; handlers = slotted.handlers; records = slotted.records; slots = slotted.slots }
 
@@ -126,7 +126,7 @@ module _ (program inlined : Program) (origins : List (List Origin)) (are : AreOp
       go others (Some number) = (record { slotted = put_slotted f.caller g.caller number word calls.slotted; next = calls.next }, result, rest)
       go others None = (calls, result, others)
 
-  -- ---- loads and stores where no inlined call is under way
+  -- ---- loads and stores outside inlined calls
 
   module _ (c : Configuration) (b : Activation) (gs : List Frame) (slotted : AreSlotted program inlined origins are c.active b) (waiting : AreWaiting program inlined origins are c.active.function c.frames gs) where
     pub memory_outside : (address : ℕ) → memory_at inlined (beside program inlined origins are c b gs) address ≡ memory_at program c address

@@ -1,15 +1,15 @@
--- Words that are moved one by one to slots apart from where they come from are moved as at once.
+-- Moving words one by one to disjoint slots has the same effect as copying them at once.
 use Rattle.std.proofs.Common.{◌≡◌, ℕ, zero, suc, ◌+◌, ◌<◌, ◌≤◌, inl, inr, refl, ap, ◌∙◌, arith}
 use Rattle.std.specs.Prelude.{◌⊎◌}
 use Rattle.cyc_plain.specs.inside.State.{Words, put}
 use Rattle.cyc_plain.proofs.SlotLaws.{put-same, put-other}
 
--- the slots behind them
+-- The slots after the moves.
 abbrev pub passed : (destination source count : ℕ) → Words → Words
 passed destination source zero slots = slots
 passed destination source (suc count) slots = passed (destination + 1) (source + 1) count (put slots destination (slots source))
 
--- where the two lie apart, what others hold stays, and each has its word
+-- If source and destination are disjoint, the other slots are unchanged, and each destination has its word.
 pub passed_other : (destination source count : ℕ) (slots : Words) (k : ℕ) → (k < destination) ⊎ (destination + count ≤ k) → passed destination source count slots k ≡ slots k
 passed_other destination source zero slots k apart = refl
 passed_other destination source (suc count) slots k apart =
@@ -40,8 +40,8 @@ passed_inside destination source (suc count) slots (suc k) apart below =
   where
     further : (destination + suc count ≤ source) ⊎ (source + suc count ≤ destination) → (destination + 1 + count ≤ source + 1) ⊎ (source + 1 + count ≤ destination + 1)
     further (inl before) = inl (omega (arith, before))
-    further (inr behind) = inr (omega (arith, behind))
+    further (inr following) = inr (omega (arith, following))
 
     elsewhere : (destination + suc count ≤ source) ⊎ (source + suc count ≤ destination) → source + 1 + k ≡ destination → ⊥
     elsewhere (inl before) e = omega (arith, before, e)
-    elsewhere (inr behind) e = omega (arith, behind, e, below)
+    elsewhere (inr following) e = omega (arith, following, e, below)

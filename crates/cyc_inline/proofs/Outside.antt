@@ -1,4 +1,4 @@
--- Where no inlined call is under way, an instruction that was not opened does the same above and below.
+-- Outside inlined calls, an instruction that was not inlined has the same effect in both programs.
 use Rattle.std.proofs.Common.{◌≡◌, ℕ, suc, ◌+◌, ◌*◌, ◌≤◌, false, List, [], ◌∷◌, map, Option, Some, None, refl, sym, ap, subst, ◌∙◌, arith, inl, inr}
 use Rattle.std.specs.Prelude.{◌==◌, if◌then◌else◌}
 use Rattle.std.specs.List.{AllByRecursion}
@@ -16,7 +16,7 @@ use Rattle.cyc_plain.specs.declared.limits.TheConstants.{RECORD_WORDS}
 use Rattle.cyc_plain.specs.inside.Requests.{destination_of}
 use Rattle.cyc_plain.specs.inside.Program.{Routine, Program, routine_at}
 use Rattle.cyc_plain.specs.inside.State.{Words, put, copied, Handler, Open, Caught, Activation, Frame, Configuration, State, Running, Ended, Stuck}
-use Rattle.cyc_plain.specs.inside.Step.{Choice, operand_word, call_in, told, asks, is_intact, opens, tries, closes, returns, finishes, advanced, calls, performed}
+use Rattle.cyc_plain.specs.inside.Step.{Choice, operand_word, call_in, reported, asks, is_intact, opens, tries, closes, returns, finishes, advanced, calls, performed}
 use Rattle.cyc_plain.specs.inside.WellFormed.{IsOperand, IsInRange, IsRequestInRange, leaves, IsWellFormed}
 use Rattle.cyc_inline.specs.declared.origin.Origin.{Origin}
 use Rattle.cyc_inline.specs.inside.Opened.{shifted_operand, moved, AreOpened}
@@ -39,11 +39,11 @@ module _ (program inlined : Program) (origins : List (List Origin)) (are : AreOp
   abbrev Match : State → State → Type 0
   Match = Outside program inlined origins are
 
-  -- both stand behind the instruction
+  -- Both programs continue with the next instruction.
   abbrev Falls : Type 0
   Falls = b.next + 1 ≡ place (c.active.next + 1)
 
-  -- the active call goes on
+  -- The active calls correspond after the step.
   on : (slots others : Words) (to other : ℕ) → Agree r.slots slots others → other ≡ place to
       → AreCalls program inlined origins are (record c.active { slots = slots; next = to }) (record b { slots = others; next = other })
   on slots others to other agree next = record {
@@ -53,7 +53,7 @@ module _ (program inlined : Program) (origins : List (List Origin)) (are : AreOp
 
   there : (to other : ℕ) → IsNext program inlined r 0 place c b gs Falls to other → other ≡ place to
   there to other (inl at) = at
-  there to other (inr (behind, next, falls)) = next ∙ falls ∙ ap place (sym behind)
+  there to other (inr (following, next, falls)) = next ∙ falls ∙ ap place (sym following)
 
   pub bears : Bears program inlined r 0 place c b gs Falls Match
   bears = record {
@@ -150,21 +150,21 @@ module _ (program inlined : Program) (origins : List (List Origin)) (are : AreOp
       ∙ ap (services.Allocate (operand_word c.active.slots handle)) (operand_same words range.second_in_range)
   call_same (requests.Free address) range = ap services.Free (operand_same address range.first_in_range)
 
-  told_agree : (a : Answer) (destination : ℕ) → Agree r.slots (told a destination c.active.slots) (told a destination b.slots)
-  told_agree (services.Refused why) destination = slotted.slots
-  told_agree services.Done destination = slotted.slots
-  told_agree (services.Opened handle) destination = put_agree r.slots destination handle c.active.slots b.slots slotted.slots
-  told_agree (services.OpenedLexical handle mark) destination =
+  reported_agree : (a : Answer) (destination : ℕ) → Agree r.slots (reported a destination c.active.slots) (reported a destination b.slots)
+  reported_agree (services.Refused why) destination = slotted.slots
+  reported_agree services.Done destination = slotted.slots
+  reported_agree (services.Opened handle) destination = put_agree r.slots destination handle c.active.slots b.slots slotted.slots
+  reported_agree (services.OpenedLexical handle mark) destination =
       put_agree r.slots (suc destination) mark (put c.active.slots destination handle) (put b.slots destination handle) (put_agree r.slots destination handle c.active.slots b.slots slotted.slots)
-  told_agree (services.Allocated address) destination = put_agree r.slots destination address c.active.slots b.slots slotted.slots
+  reported_agree (services.Allocated address) destination = put_agree r.slots destination address c.active.slots b.slots slotted.slots
 
   asked_same : (choice : Choice) (destination : ℕ) (call : Call) (o : Option Refusal) → Falls → Match (asks choice.serving c destination call o) (asks choice.serving d destination call o)
   asked_same choice destination call None falls = record {
-    active = record b { slots = told (answer c.store call choice.serving) destination b.slots; next = b.next + 1 };
+    active = record b { slots = reported (answer c.store call choice.serving) destination b.slots; next = b.next + 1 };
     frames = gs;
     is = refl;
-    calls = on (told (answer c.store call choice.serving) destination c.active.slots) (told (answer c.store call choice.serving) destination b.slots) (c.active.next + 1) (b.next + 1)
-        (told_agree (answer c.store call choice.serving) destination) falls;
+    calls = on (reported (answer c.store call choice.serving) destination c.active.slots) (reported (answer c.store call choice.serving) destination b.slots) (c.active.next + 1) (b.next + 1)
+        (reported_agree (answer c.store call choice.serving) destination) falls;
     waiting = waiting;
   }
   asked_same choice destination call (Some services.BadMark) falls = refl
@@ -202,7 +202,7 @@ module _ (program inlined : Program) (origins : List (List Origin)) (are : AreOp
     waiting = waiting;
   }
 
-  -- the handlers left over
+  -- The handlers that remain.
   left : (to other : ℕ) (handlers : List Handler) → AllByRecursion (HasRecord program inlined origins are c.active.function) handlers → other ≡ place to
       → Match (Running (record c { active = record c.active { next = to; handlers = handlers } })) (Running (record d { active = record b { next = other; handlers = map (moved_handler place) handlers } }))
   left to other handlers records next = record {
@@ -244,11 +244,11 @@ module _ (program inlined : Program) (origins : List (List Origin)) (are : AreOp
   finished value [] inside = returns_same value inside
   finished value (h ∷ handlers) inside = refl
 
-  -- by the handlers below
+  -- A match is transported along the equality of the handlers.
   by_handlers : (s : State) (t : List Handler → State) → Match s (t (map (moved_handler place) c.active.handlers)) → Match s (t b.handlers)
   by_handlers s t matches = subst (λ (handlers : List Handler). Match s (t handlers)) (sym slotted.handlers) matches
 
-  -- ---- an instruction
+  -- ---- one instruction
 
   pub performs_outside : (choice : Choice) (i : Instruction) → IsInRange program (routine_at program c.active.function) i → b.next ≡ place_in program inlined origins are c.active.function c.active.next
       → (leaves i ≡ false → b.next + 1 ≡ place_in program inlined origins are c.active.function (c.active.next + 1))

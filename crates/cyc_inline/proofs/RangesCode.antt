@@ -1,4 +1,4 @@
--- What holds of each instruction that is emitted: all that it names is there, its numbers are words, and it pins no other slot.
+-- A property of each emitted instruction: everything that it names exists, its numbers are words, and it pins no extra slot.
 use Rattle.std.proofs.Common.{◌≡◌, ℕ, zero, suc, ◌+◌, ◌<◌, ◌≤◌, Bool, true, false, List, [], ◌∷◌, length, Option, Some, None, refl, sym, ap, subst, ◌∙◌, arith, inl, inr, length-append}
 use Rattle.std.specs.Prelude.{All, ◌⊎◌, ◌==◌, ◌||◌, nat_le, if◌then◌else◌}
 use Rattle.std.specs.List.{AllByRecursion}
@@ -13,20 +13,20 @@ use Rattle.cyc_plain.specs.inside.Memory.{pins, is_pinned}
 use Rattle.cyc_plain.specs.inside.Program.{Routine, Program, routine_at}
 use Rattle.cyc_plain.specs.inside.Straight.{At}
 use Rattle.cyc_plain.specs.inside.WellFormed.{HasSlots, IsCallInRange, IsInRange, IsRoutine, HasWord, is_return, leaves}
-use Rattle.cyc_plain.proofs.Placed.{routine_in, goes_behind}
+use Rattle.cyc_plain.proofs.Placed.{routine_in, goes_after}
 use Rattle.cyc_inline.specs.declared.origin.Origin.{Origin}
 use Rattle.cyc_inline.specs.declared.site.Call.{Call}
 use Rattle.cyc_inline.specs.declared.site.Site.{Site}
-use Rattle.cyc_inline.specs.inside.Opened.{moved, IsTwin, passing, is_end, is_of_leaf}
-use Rattle.cyc_inline.specs.inside.Sites.{chosen_call, place_in, stands_in, way_behind, way_count, inside_part, inside_count, inside_code, places_inside, site_code}
-use Rattle.cyc_inline.specs.inside.Emission.{IsOpenable, may_lead, own_part, part, part_count, call_size, site_of, opened_code, opened_end}
+use Rattle.cyc_inline.specs.inside.Opened.{moved, IsDuplicate, passing, is_end, is_of_leaf}
+use Rattle.cyc_inline.specs.inside.Sites.{chosen_call, place_in, stands_in, way_following, way_count, inside_part, inside_count, inside_code, places_inside, site_code}
+use Rattle.cyc_inline.specs.inside.Emission.{IsOpenable, may_hoisted, own_part, part, part_count, call_size, site_of, opened_code, opened_end}
 use Rattle.cyc_inline.proofs.ChoosingCalls.{in_code, call_is, call_in_range}
 use Rattle.cyc_inline.proofs.EmissionPieces.{offset, all_pieces, offset_most, offset_below}
 use Rattle.cyc_inline.proofs.EmissionSites.{count_inside, size_is, line_place, rest_place, piece_inside, inside_code_is as inside_is}
 use Rattle.cyc_inline.proofs.EmissionPlaces.{count_at, end_is, place_next, piece_at, code_is, IsOf, begins_at, long_in}
-use Rattle.cyc_inline.proofs.RangesMoved.{moved_in, has_word, same_return_moved, same_pins, twin_in, twin_word, same_return_twin, same_pins_twin, lead_in, lead_word, no_return_lead, lead_pins_none, leaf_pins_none, no_try, no_return}
+use Rattle.cyc_inline.proofs.RangesMoved.{moved_in, has_word, same_return_moved, same_pins, duplicate_in, duplicate_word, same_return_duplicate, same_pins_duplicate, hoisted_in, hoisted_word, no_return_hoisted, hoisted_pins_none, leaf_pins_none, no_try, no_return}
 
--- ---- what holds of each instruction of a part
+-- ---- a property of each instruction of a part
 
 all_passing : (P : Instruction → Type 0) (destination source count : ℕ)
     → ((n : ℕ) → n < count → P (instructions.Move (destination + n) (operands.Slot (source + n)))) → AllByRecursion P (passing destination source count)
@@ -43,23 +43,23 @@ all_passing P destination source (suc count) each =
           (subst (λ (k : ℕ). P (instructions.Move (destination + suc n) (operands.Slot k))) next (each (suc n) (omega (arith, below))))),
     )
 
--- It holds of each instruction that a call becomes.
+-- The property holds for each instruction that replaces a call.
 record HoldsIn (P : Instruction → Type 0) (site : Site) (place : ℕ → ℕ) (t : Routine) : Type 0 where
   pub passed : (n : ℕ) → n < site.call.count → P (instructions.Move (site.shift + n) (operands.Slot (site.call.arguments + n)))
   pub enters : P (instructions.Enter site.call.callee)
   pub inside : (k : ℕ) (i : Instruction) → At t.code k i → is_end i ≡ None → P (moved site.shift place i)
   pub given : (k : ℕ) (i : Instruction) (value n : ℕ) → At t.code k i → is_end i ≡ Some value → n < site.results
       → P (instructions.Move (site.call.result + n) (operands.Slot (site.shift + value + n)))
-  pub goes : P (instructions.Jump site.behind)
+  pub goes : P (instructions.Jump site.following)
 
 module _ (P : Instruction → Type 0) (site : Site) (t : Routine) (place : ℕ → ℕ) (holds : HoldsIn P site place t) where
-  all_way : (is_last : Bool) → AllByRecursion P (way_behind is_last site.behind)
+  all_way : (is_last : Bool) → AllByRecursion P (way_following is_last site.following)
   all_way true = tt
   all_way false = (holds.goes, tt)
 
   all_part : (k : ℕ) (i : Instruction) (end : Option ℕ) → is_end i ≡ end → At t.code k i → AllByRecursion P (inside_part site place k i end)
   all_part k i (Some value) is at =
-      all_append P (passing site.call.result (site.shift + value) site.results) (way_behind (k + 1 == site.call.line) site.behind)
+      all_append P (passing site.call.result (site.shift + value) site.results) (way_following (k + 1 == site.call.line) site.following)
       (all_passing P site.call.result (site.shift + value) site.results (λ n below. holds.given k i value n at is below)) (all_way (k + 1 == site.call.line))
   all_part k i None is at = (holds.inside k i at is, tt)
 
@@ -84,7 +84,7 @@ all_site P site true here t holds =
     (holds.enters, all_inside P site t place holds true)
 all_site P site false here t holds = all_inside P site t (places_inside site here t.code) holds false
 
--- ---- slots that are pinned
+-- ---- pinned slots
 
 pub pinned_at : (code : List Instruction) (k : ℕ) (i : Instruction) (slot : ℕ) → At code k i → pins i slot ≡ true → is_pinned code slot ≡ true
 pinned_at [] k i slot at pinned = absurd (let e : None ≡ Some i = at in cc)
@@ -99,9 +99,9 @@ pinned_at (j ∷ code) (suc k) i slot at pinned = or_right (pins j slot) (is_pin
     or_right true b is = refl
     or_right false b is = is
 
--- ---- the rest of a callee's code
+-- ---- the out-of-line part of a callee's code
 
--- each of its instructions becomes some
+-- The replacement of each out-of-line instruction is not empty.
 pub rest_some : (results line index : ℕ) (i : Instruction) → line ≤ index → 1 ≤ count_inside results line false index i
 rest_some results line index i past =
     let there : nat_le line index ≡ true = le-leb line index past in
@@ -122,7 +122,7 @@ rest_below results line first [] k below past = absurd (omega (arith, below))
 rest_below results line first (i ∷ code) zero below past = omega (arith, rest_some results line first i (omega (arith, past)))
 rest_below results line first (i ∷ code) (suc k) below past = omega (arith, rest_below results line (suc first) code k (omega (arith, below)) (omega (arith, past)))
 
--- ---- a function whose calls are opened
+-- ---- a function with inlined calls
 
 module _ (program : Program) (number : ℕ) (chosen : List ℕ) (front_at : ℕ → Instruction → List Instruction) (places rests : List ℕ) (s : Routine) (origins : List Origin) (is : IsOf program number chosen front_at places rests s origins) where
   abbrev r : Routine
@@ -137,7 +137,7 @@ module _ (program : Program) (number : ℕ) (chosen : List ℕ) (front_at : ℕ 
   routine : IsRoutine program r
   routine = routine_in program number is.parts.plain.well_formed is.parts.is_function
 
-  -- the calls that are opened
+  -- The conditions on an inlined call at an index.
   pub record IsOpenedAt (k : ℕ) (call : Call) : Type 0 where
     pub call_in_range : IsCallInRange program r call.callee call.arguments call.count call.result
     pub openable : IsOpenable program r s.slots call
@@ -178,9 +178,9 @@ module _ (program : Program) (number : ℕ) (chosen : List ℕ) (front_at : ℕ 
   opened_at k i call at opened =
       let (same, line, some) = call_is i (place_in chosen k) call opened in
       let stays : leaves i ≡ false = ap leaves same in
-      let more = goes_behind program r k i routine at stays in
+      let more = goes_after program r k i routine at stays in
       let end = end_is program chosen front_at true 0 0 r.code in
-      let behind = begins_at program number chosen front_at places rests s origins is false (k + 1) (omega (arith, more)) in
+      let following = begins_at program number chosen front_at places rests s origins is false (k + 1) (omega (arith, more)) in
       let most = offset_most (count_at program chosen front_at false) 0 r.code (k + 1) in
       let next : rest (k + 1) ≡ rest k + call_size program false call =
       place_next program chosen front_at false (opened_end program chosen front_at true 0 0 r.code) r.code rests k i is.parts.resting at ∙ ap (λ (o : Option Call). rest k + part_count program false o (length (front_at k i))) opened in
@@ -189,19 +189,19 @@ module _ (program : Program) (number : ℕ) (chosen : List ℕ) (front_at : ℕ 
         openable = is.parts.calls.each k i call at opened;
         further = more;
         next = place_next program chosen front_at true 0 r.code places k i is.parts.standing at ∙ ap (λ (o : Option Call). place k + part_count program true o (length (front_at k i))) opened;
-        fits = omega (arith, next, behind, end, most, code_long);
+        fits = omega (arith, next, following, end, most, code_long);
       }
 
-  -- what holds of each instruction holds of the code
+  -- A property of each replaced instruction holds for the whole code.
   module _ (P : Instruction → Type 0) (own : (k : ℕ) (i : Instruction) → At r.code k i → P (moved 0 place i))
-      (leads : (x : Instruction) → may_lead (length program.globals) r.slots s.slots x ≡ true → P x)
-      (twins : (k : ℕ) (i x : Instruction) → At r.code k i → IsTwin r.slots s.slots i x → P x)
+      (all_hoisted : (x : Instruction) → may_hoisted (length program.globals) r.slots s.slots x ≡ true → P x)
+      (duplicates : (k : ℕ) (i x : Instruction) → At r.code k i → IsDuplicate r.slots s.slots i x → P x)
       (sites : (k : ℕ) (call : Call) → IsOpenedAt k call → HoldsIn P (site_at k call) (inner k call) (routine_at program call.callee)) where
     front_holds : (k : ℕ) (i : Instruction) (front : List Instruction) → At r.code k i
-        → AllByRecursion (λ (x : Instruction). (may_lead (length program.globals) r.slots s.slots x ≡ true) ⊎ IsTwin r.slots s.slots i x) front → AllByRecursion P front
+        → AllByRecursion (λ (x : Instruction). (may_hoisted (length program.globals) r.slots s.slots x ≡ true) ⊎ IsDuplicate r.slots s.slots i x) front → AllByRecursion P front
     front_holds k i [] at each = tt
-    front_holds k i (x ∷ front) at (inl lead, each) = (leads x lead, front_holds k i front at each)
-    front_holds k i (x ∷ front) at (inr it, each) = (twins k i x at it, front_holds k i front at each)
+    front_holds k i (x ∷ front) at (inl hoisted, each) = (all_hoisted x hoisted, front_holds k i front at each)
+    front_holds k i (x ∷ front) at (inr it, each) = (duplicates k i x at it, front_holds k i front at each)
 
     own_holds : (in_line : Bool) (k : ℕ) (i : Instruction) → At r.code k i → AllByRecursion P (if in_line then own_part place i (front_at k i) else [])
     own_holds true k i at = all_append P (front_at k i) (moved 0 place i ∷ []) (front_holds k i (front_at k i) at (is.parts.fronts k i).each) (own k i at, tt)
@@ -224,13 +224,13 @@ module _ (program : Program) (number : ℕ) (chosen : List ℕ) (front_at : ℕ 
         subst (AllByRecursion P) (sym is.code)
         (all_append P (opened_code program number chosen front_at place rest true 0 r.code) (opened_code program number chosen front_at place rest false 0 r.code) (all_in true) (all_in false))
 
-  -- ---- numbers are words, nothing else returns, and no other slot is pinned
+  -- ---- numbers are words, only returns return, and no extra slot is pinned
 
   module _ (words : All HasWord r.code) (each_words : (f : ℕ) → f < length program.functions → All HasWord (routine_at program f).code) where
     pub words_of : All HasWord s.code
     words_of =
         All-from_recursion HasWord s.code
-        (all_code HasWord (λ k i at. has_word 0 place i (All_at HasWord r.code k i words at)) (lead_word (length program.globals) r.slots s.slots) (λ k i x at it. subst HasWord (sym it.is) (twin_word it.slot i (All_at HasWord r.code k i words at))) (λ k call opened. record {
+        (all_code HasWord (λ k i at. has_word 0 place i (All_at HasWord r.code k i words at)) (hoisted_word (length program.globals) r.slots s.slots) (λ k i x at it. subst HasWord (sym it.is) (duplicate_word it.slot i (All_at HasWord r.code k i words at))) (λ k call opened. record {
           passed = λ n below. tt;
           enters = tt;
           inside = λ j i at no_end.
@@ -244,8 +244,8 @@ module _ (program : Program) (number : ℕ) (chosen : List ℕ) (front_at : ℕ 
   returns_no_more none =
       All-from_recursion (λ (i : Instruction). is_return i ≡ false) s.code
       (all_code (λ (i : Instruction). is_return i ≡ false) (λ k i at. same_return_moved 0 place i ∙ All_at (λ (j : Instruction). is_return j ≡ false) r.code k i none at)
-      (no_return_lead (length program.globals) r.slots s.slots)
-      (λ k i x at it. ap is_return it.is ∙ same_return_twin it.slot i ∙ All_at (λ (j : Instruction). is_return j ≡ false) r.code k i none at)
+      (no_return_hoisted (length program.globals) r.slots s.slots)
+      (λ k i x at it. ap is_return it.is ∙ same_return_duplicate it.slot i ∙ All_at (λ (j : Instruction). is_return j ≡ false) r.code k i none at)
       (λ k call opened. record {
         passed = λ n below. refl;
         enters = refl;
@@ -267,8 +267,8 @@ module _ (program : Program) (number : ℕ) (chosen : List ℕ) (front_at : ℕ 
       All_at PinsNoMore s.code p i
       (All-from_recursion PinsNoMore s.code
       (all_code PinsNoMore (λ k j there slot pinned. pinned_at r.code k j slot there (sym (same_pins 0 place j slot) ∙ pinned))
-      (λ x lead slot pinned. absurd (false≢true (sym (lead_pins_none (length program.globals) r.slots s.slots x lead slot) ∙ pinned)))
-      (λ k j x there it slot pinned. pinned_at r.code k j slot there (sym (same_pins_twin it.slot j slot) ∙ (sym (ap (λ (y : Instruction). pins y slot) it.is) ∙ pinned))) (λ k call opened. record {
+      (λ x hoisted slot pinned. absurd (false≢true (sym (hoisted_pins_none (length program.globals) r.slots s.slots x hoisted slot) ∙ pinned)))
+      (λ k j x there it slot pinned. pinned_at r.code k j slot there (sym (same_pins_duplicate it.slot j slot) ∙ (sym (ap (λ (y : Instruction). pins y slot) it.is) ∙ pinned))) (λ k call opened. record {
         passed = λ n below slot pinned. absurd (false≢true pinned);
         enters = λ slot pinned. absurd (false≢true pinned);
         inside = λ j x there no_end slot pinned.
@@ -278,21 +278,21 @@ module _ (program : Program) (number : ℕ) (chosen : List ℕ) (front_at : ℕ 
       })))
       at
 
-  -- ---- all that is named is there
+  -- ---- everything that the code names exists
 
   inner_placed : (k : ℕ) (call : Call) → IsOpenedAt k call → (j : ℕ) → j < length (routine_at program call.callee).code → inner k call j < length s.code
   inner_placed k call opened j below =
       let t = routine_at program call.callee in
       let first = place k + call.count + 1 in
       let next = opened.next in
-      let behind = placed (k + 1) opened.further in
+      let following = placed (k + 1) opened.further in
       let fits = opened.fits in
       elim (cases_lt j call.line) [
         | inl before ↦
             (let here = line_place t.results call.line 0 first (rest k) t.code j below (omega (arith, before)) in
             let most = offset_most (count_inside t.results call.line true) 0 t.code j in
             let all = size_is t.results call.line true 0 t.code in
-            omega (arith, here, most, all, next, behind))
+            omega (arith, here, most, all, next, following))
         | inr past ↦
             (let here = rest_place t.results call.line 0 first (rest k) t.code j below (omega (arith, past)) in
             let most = rest_below t.results call.line 0 t.code j below (omega (arith, past)) in
@@ -323,12 +323,12 @@ module _ (program : Program) (number : ℕ) (chosen : List ℕ) (front_at : ℕ 
         no_return = returns_no_more opens.no_return;
       }
 
-  leads_in : (x : Instruction) → may_lead (length program.globals) r.slots s.slots x ≡ true → IsInRange program s x
-  leads_in x lead = lead_in program s r.slots x lead
+  all_hoisted_in : (x : Instruction) → may_hoisted (length program.globals) r.slots s.slots x ≡ true → IsInRange program s x
+  all_hoisted_in x hoisted = hoisted_in program s r.slots x hoisted
 
-  twins_in : (k : ℕ) (i x : Instruction) → At r.code k i → IsTwin r.slots s.slots i x → IsInRange program s x
-  twins_in k i x at it =
-      subst (IsInRange program s) (sym it.is) (twin_in program r s it.slot i is.parts.calls.least it.room it.may (in_code program number k i is.parts.plain is.parts.is_function at))
+  duplicates_in : (k : ℕ) (i x : Instruction) → At r.code k i → IsDuplicate r.slots s.slots i x → IsInRange program s x
+  duplicates_in k i x at it =
+      subst (IsInRange program s) (sym it.is) (duplicate_in program r s it.slot i is.parts.calls.least it.room it.may (in_code program number k i is.parts.plain is.parts.is_function at))
 
   sites_in : (k : ℕ) (call : Call) → IsOpenedAt k call → HoldsIn (IsInRange program s) (site_at k call) (inner k call) (routine_at program call.callee)
   sites_in k call opened =
@@ -358,4 +358,4 @@ module _ (program : Program) (number : ℕ) (chosen : List ℕ) (front_at : ℕ 
       slot_given t j i value n end below in_range room = absurd (let e : None ≡ Some value = end in cc)
 
   pub in_range_of : All (IsInRange program s) s.code
-  in_range_of = All-from_recursion (IsInRange program s) s.code (all_code (IsInRange program s) own_in leads_in twins_in sites_in)
+  in_range_of = All-from_recursion (IsInRange program s) s.code (all_code (IsInRange program s) own_in all_hoisted_in duplicates_in sites_in)

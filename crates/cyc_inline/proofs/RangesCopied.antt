@@ -1,4 +1,4 @@
--- A function that is copied stands for itself.
+-- An unchanged copy of a function is a correct replacement of it.
 use Rattle.std.proofs.Common.{◌≡◌, ℕ, zero, suc, ◌+◌, ◌<◌, List, length, Some, slice_get, refl, sym, ap, ◌∙◌, arith, inl}
 use Rattle.cyc_words.proofs.Numbers.{zero_plus}
 use Rattle.cyc_words.proofs.Items.{below_from_slice_get}
@@ -16,7 +16,7 @@ use Rattle.cyc_inline.specs.inside.Emission.{AreOwn, IsMade}
 use Rattle.cyc_inline.proofs.RangesCode.{pinned_at}
 use Rattle.cyc_inline.proofs.RangesFunction.{function_words}
 
--- ---- nothing moved
+-- ---- shift 0 moves nothing
 
 operand_stays : (operand : Operand) → shifted_operand 0 operand ≡ operand
 operand_stays (operands.Slot number) = ap operands.Slot (zero_plus number)
@@ -49,7 +49,7 @@ made_of_own number origins count k are below zero one =
     ap (slice_get origins) same ∙ are.each k below
 made_of_own number origins count k are below (suc n) one = absurd (omega (arith, one))
 
--- a function that is copied stands for itself
+-- An unchanged copy of a function is a correct replacement of it.
 pub copied_is_made : (program : Program) (number : ℕ) (origins : List Origin) → IsPlain program → number < length program.functions → AreOwn number (length (routine_at program number).code) origins
     → IsMade program number (routine_at program number) origins
 copied_is_made program number origins plain is_function are = record {

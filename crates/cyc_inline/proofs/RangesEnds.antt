@@ -1,4 +1,4 @@
--- Code that does not run off its end: its last instruction, if it has one, leads nowhere behind it.
+-- Code that does not run off its end: control never falls through its last instruction.
 use Rattle.std.proofs.Common.{◌≡◌, ℕ, zero, suc, ◌+◌, ◌-◌, ◌<◌, ◌≤◌, Bool, true, false, List, [], ◌∷◌, ◌++◌, length, Option, Some, None, slice_get, refl, sym, ap, subst, ◌∙◌, arith, length-append}
 use Rattle.std.specs.Prelude.{IsSomeAnd, ◌==◌, nat_le, if◌then◌else◌}
 use Rattle.std.proofs.lemmas.Bool.{eqb-true, leb-true}
@@ -12,7 +12,7 @@ use Rattle.cyc_plain.specs.inside.Straight.{At}
 use Rattle.cyc_plain.specs.inside.WellFormed.{IsRoutine, leaves}
 use Rattle.cyc_inline.specs.declared.site.Site.{Site}
 use Rattle.cyc_inline.specs.inside.Opened.{moved, passing, is_end}
-use Rattle.cyc_inline.specs.inside.Sites.{way_behind, inside_part, inside_code}
+use Rattle.cyc_inline.specs.inside.Sites.{way_following, inside_part, inside_code}
 use Rattle.cyc_inline.proofs.EmissionPieces.{pieces}
 use Rattle.cyc_inline.proofs.EmissionSites.{piece_inside, piece_long}
 use Rattle.cyc_inline.proofs.RangesCode.{rest_some}
@@ -49,17 +49,17 @@ ends_pieces piece first (i ∷ code) each =
     ends_both (piece first i) (pieces piece (suc first) code) (let e : first + 0 ≡ first = omega arith in subst (λ (n : ℕ). EndsWell (piece n i)) e (each 0 i refl))
     (ends_pieces piece (suc first) code (λ k j at. let e : first + suc k ≡ suc first + k = omega arith in subst (λ (n : ℕ). EndsWell (piece n j)) e (each (suc k) j at)))
 
--- ---- the rest of a callee's code
+-- ---- the out-of-line part of a callee's code
 
--- an instruction that leads nowhere becomes code that does not run off its end
+-- The replacement of an instruction that never falls through does not run off its end.
 part_ends : (site : Site) (place : ℕ → ℕ) (index : ℕ) (i : Instruction) (end : Option ℕ) → site.call.line ≤ index → leaves i ≡ true → EndsWell (inside_part site place index i end)
 part_ends site place index i (Some value) past leaving =
     go (index + 1 == site.call.line) refl
   where
-    go : (is_last : Bool) → (index + 1 == site.call.line) ≡ is_last → EndsWell (passing site.call.result (site.shift + value) site.results ++ way_behind is_last site.behind)
+    go : (is_last : Bool) → (index + 1 == site.call.line) ≡ is_last → EndsWell (passing site.call.result (site.shift + value) site.results ++ way_following is_last site.following)
     go true is = (let last = eqb-true (index + 1) site.call.line is in absurd (omega (arith, last, past)))
     go false is =
-        ends_right (passing site.call.result (site.shift + value) site.results) (instructions.Jump site.behind ∷ []) (omega arith) (one_ends (instructions.Jump site.behind) refl)
+        ends_right (passing site.call.result (site.shift + value) site.results) (instructions.Jump site.following ∷ []) (omega arith) (one_ends (instructions.Jump site.following) refl)
 part_ends site place index i None past leaving = one_ends (moved site.shift place i) (same_leaving site.shift place i ∙ leaving)
 
 module _ (site : Site) (place : ℕ → ℕ) where
@@ -70,7 +70,7 @@ module _ (site : Site) (place : ℕ → ℕ) where
       go true there = part_ends site place first i (is_end i) (leb-true site.call.line first there) leaving
       go false there = none_ends
 
-  -- one instruction before code that does not run off its end
+  -- Adding an instruction before code that does not run off its end keeps this property.
   further : (first : ℕ) (i j : Instruction) (code : List Instruction) → EndsWell (inside_code site place false (suc first) (j ∷ code))
       → (b : Bool) → nat_le site.call.line first ≡ b → EndsWell ((if b then inside_part site place first i (is_end i) else []) ++ inside_code site place false (suc first) (j ∷ code))
   further first i j code well false there = well

@@ -1,4 +1,4 @@
--- A function that is made of its parts is one of the program, and stands for the one given.
+-- A function made of its parts is well-formed and correctly replaces the given one.
 use Rattle.std.proofs.Common.{◌≡◌, ℕ, ◌+◌, ◌-◌, ◌<◌, ◌≤◌, true, false, List, [], ◌∷◌, length, length-append, Option, Some, None, slice_get, refl, sym, ap, subst, ◌∙◌, arith, inl, inr}
 use Rattle.std.specs.Prelude.{All, ◌⊎◌}
 use Rattle.std.proofs.lemmas.Bool.{false≢true}
@@ -23,9 +23,9 @@ use Rattle.cyc_words.proofs.Lists.{slice_get_below}
 use Rattle.cyc_words.proofs.Items.{slice_get_front}
 use Rattle.cyc_inline.specs.declared.site.Call.{Call}
 
--- ---- a function
+-- ---- one function
 
--- what leaves is no call
+-- An instruction that never falls through is no chosen call.
 stands_itself : (i : Instruction) (line : ℕ) → leaves i ≡ true → chosen_call i line ≡ None
 stands_itself (instructions.Call callee arguments count result) line leaving = absurd (false≢true leaving)
 stands_itself i line leaving = refl
@@ -34,7 +34,7 @@ none_before : (count : ℕ → Instruction → ℕ) (code : List Instruction) �
 none_before count [] = refl
 none_before count (i ∷ code) = refl
 
--- the numbers of a plain program's function are words
+-- The numbers of the instructions of a plain program fit machine words.
 pub function_words : (program : Program) (number : ℕ) → IsPlain program → number < length program.functions → All HasWord (routine_at program number).code
 function_words program number plain is_function = plain.words.functions number no_routine is_function
 
@@ -90,7 +90,7 @@ module _ (program : Program) (number : ℕ) (chosen : List ℕ) (front_at : ℕ 
     pinned = pinned program number chosen front_at places rests s origins is;
   }
 
-  -- what stands in line ends with the last instruction itself
+  -- The in-line code ends with the replacement of the last instruction.
   front_ends : EndsWell front
   front_ends k i at last =
       let some = has_code program r routine in
@@ -102,13 +102,13 @@ module _ (program : Program) (number : ℕ) (chosen : List ℕ) (front_at : ℕ 
       (has_no_front program number chosen front_at places rests s origins is n j (leaves_alone j leaving)) in
       let all = begins_at program number chosen front_at places rests s origins is true (length r.code) (omega arith) in
       let long = long_in program number chosen front_at places rests s origins is true in
-      let behind : place (n + 1) ≡ place (length r.code) = ap place end in
-      let same : place n ≡ k = omega (arith, next, behind, all, long, last) in
+      let following : place (n + 1) ≡ place (length r.code) = ap place end in
+      let same : place n ≡ k = omega (arith, next, following, all, long, last) in
       let at_code : At s.code k i = subst (λ (code : List Instruction). At code k i) (sym is.code) (slice_get_front front back k i at) in
       let is_it : moved 0 place j ≡ i = (let e : Some (moved 0 place j) ≡ Some i = sym here ∙ ap (slice_get s.code) same ∙ at_code in cc) in
       sym (ap leaves is_it) ∙ same_leaving 0 place j ∙ leaving
 
-  -- and so does the rest of each call that is opened
+  -- The out-of-line part of each inlined call does not run off its end.
   rest_part_ends : (k : ℕ) (i : Instruction) (call : Option Call) → At r.code k i → chosen_call i (place_in chosen k) ≡ call
       → EndsWell (part program number place rest false k i call (front_at k i))
   rest_part_ends k i (Some call) at chosen_is =
@@ -138,7 +138,7 @@ module _ (program : Program) (number : ℕ) (chosen : List ℕ) (front_at : ℕ 
     last = last_leaves s.code (let below = placed program number chosen front_at places rests s origins is 0 (has_code program r routine) in omega (arith, below)) code_ends;
   }
 
-  -- A function that is made of these parts stands for the one given.
+  -- A function made of these parts correctly replaces the given one.
   pub is_made : IsMade program number s origins
   is_made = record {
     opened = opened;

@@ -1,4 +1,4 @@
--- An instruction with other slots and other places names what is there, if it did before.
+-- Everything that a moved instruction names exists, if everything that the original names does.
 use Rattle.std.proofs.Common.{◌≡◌, ℕ, ◌+◌, ◌^◌, ◌<◌, ◌≤◌, true, false, length, Option, Some, None, refl, sym, ap, ◌∙◌, arith}
 use Rattle.std.specs.Prelude.{not, ◌&&◌, nat_lt}
 use Rattle.std.proofs.lemmas.Bool.{false≢true}
@@ -13,11 +13,11 @@ use Rattle.cyc_plain.specs.inside.Memory.{pins}
 use Rattle.cyc_plain.specs.inside.Requests.{first_operand, second_operand, answer_count, destination_of}
 use Rattle.cyc_plain.specs.inside.Program.{Routine, Program, routine_at}
 use Rattle.cyc_plain.specs.inside.WellFormed.{HasSlots, IsOperand, IsArgument, IsInRange, IsOfWord, HasWord, is_return, leaves}
-use Rattle.cyc_inline.specs.inside.Opened.{shifted_operand, moved, is_division, may_have_twin, twin, may_be_led, is_end, is_of_leaf}
-use Rattle.cyc_inline.specs.inside.Emission.{is_further, fits_in, may_lead}
+use Rattle.cyc_inline.specs.inside.Opened.{shifted_operand, moved, is_division, may_have_duplicate, duplicate, may_follow_hoisted, is_end, is_of_leaf}
+use Rattle.cyc_inline.specs.inside.Emission.{is_further, fits_in, may_hoisted}
 use Rattle.cyc_inline.proofs.ChoosingCalls.{further_below}
 
--- ---- what it names
+-- ---- the named slots, globals, functions and places
 
 module _ (program : Program) (t s : Routine) (shift : ℕ) (place : ℕ → ℕ) (room : shift + t.slots ≤ s.slots)
     (placed : (target : ℕ) → target < length t.code → place target < length s.code) where
@@ -45,7 +45,7 @@ module _ (program : Program) (t s : Routine) (shift : ℕ) (place : ℕ → ℕ)
   argument_still (Some operand) is = operand_still operand is
   argument_still None is = tt
 
-  -- but for a return, and a handler that is opened
+  -- A moved instruction is in range, unless it is a return or opens a handler.
   pub moved_in : (i : Instruction) → IsInRange program t i → ((value : ℕ) → is_end i ≡ Some value → HasSlots s value s.results)
       → ((first handler : ℕ) → i ≡ instructions.Try first handler → IsInRange program s (instructions.Try first (place handler))) → IsInRange program s (moved shift place i)
   moved_in (instructions.Move destination source) (first, second) ends tries = (slot_in destination first, operand_in source second)
@@ -89,13 +89,13 @@ module _ (program : Program) (t s : Routine) (shift : ℕ) (place : ℕ → ℕ)
   moved_in (instructions.Finish value) is ends tries = ends value refl
   moved_in (instructions.Uncaught tag value) is ends tries = operand_still value is
 
--- ---- the rest of it
+-- ---- words and pinned slots of a moved instruction
 
 word_moved : (shift : ℕ) (operand : Operand) → IsOfWord operand → IsOfWord (shifted_operand shift operand)
 word_moved shift (operands.Slot number) is = tt
 word_moved shift (operands.Word word) is = is
 
--- its numbers are words
+-- The numbers of a moved instruction fit machine words.
 pub has_word : (shift : ℕ) (place : ℕ → ℕ) (i : Instruction) → HasWord i → HasWord (moved shift place i)
 has_word shift place (instructions.Move destination source) has = word_moved shift source has
 has_word shift place (instructions.Unary operator destination operand) has = word_moved shift operand has
@@ -118,51 +118,51 @@ pub same_leaving : (shift : ℕ) (place : ℕ → ℕ) (i : Instruction) → lea
 same_leaving shift place (instructions.Jump target) = refl
 same_leaving shift place i = refl
 
--- it pins what it did
+-- A moved instruction pins the slots that the original pins.
 pub same_pins : (shift : ℕ) (place : ℕ → ℕ) (i : Instruction) (slot : ℕ) → pins (moved shift place i) slot ≡ pins i slot
 same_pins shift place (instructions.Jump target) slot = refl
 same_pins shift place i slot = refl
 
--- ---- a twin
+-- ---- a duplicate
 
--- what names slots of a function names slots of one that has more
+-- A slot that exists in a function also exists in one with more slots.
 operand_in_more : (r s : Routine) (operand : Operand) → r.slots ≤ s.slots → IsOperand r operand → IsOperand s operand
 operand_in_more r s (operands.Slot number) least is = omega (arith, is, least)
 operand_in_more r s (operands.Word word) least is = tt
 
-pub twin_in : (program : Program) (r s : Routine) (slot : ℕ) (i : Instruction) → r.slots ≤ s.slots → slot < s.slots → may_have_twin i ≡ true → IsInRange program r i
-    → IsInRange program s (twin slot i)
-twin_in program r s slot (instructions.Binary operator destination left right) least room may (first, second, third) =
+pub duplicate_in : (program : Program) (r s : Routine) (slot : ℕ) (i : Instruction) → r.slots ≤ s.slots → slot < s.slots → may_have_duplicate i ≡ true → IsInRange program r i
+    → IsInRange program s (duplicate slot i)
+duplicate_in program r s slot (instructions.Binary operator destination left right) least room may (first, second, third) =
     (room, operand_in_more r s left least second, operand_in_more r s right least third)
-twin_in program r s slot (instructions.LoadGlobal destination global) least room may (first, second) = (room, second)
-twin_in program r s slot (instructions.Load destination address offset) least room may (first, second) = (room, operand_in_more r s address least second)
-twin_in program r s slot i least room may is = absurd (false≢true may)
+duplicate_in program r s slot (instructions.LoadGlobal destination global) least room may (first, second) = (room, second)
+duplicate_in program r s slot (instructions.Load destination address offset) least room may (first, second) = (room, operand_in_more r s address least second)
+duplicate_in program r s slot i least room may is = absurd (false≢true may)
 
-pub twin_word : (slot : ℕ) (i : Instruction) → HasWord i → HasWord (twin slot i)
-twin_word slot (instructions.Load destination address offset) has = has
-twin_word slot i has = has
+pub duplicate_word : (slot : ℕ) (i : Instruction) → HasWord i → HasWord (duplicate slot i)
+duplicate_word slot (instructions.Load destination address offset) has = has
+duplicate_word slot i has = has
 
-pub same_return_twin : (slot : ℕ) (i : Instruction) → is_return (twin slot i) ≡ is_return i
-same_return_twin slot (instructions.Load destination address offset) = refl
-same_return_twin slot i = refl
+pub same_return_duplicate : (slot : ℕ) (i : Instruction) → is_return (duplicate slot i) ≡ is_return i
+same_return_duplicate slot (instructions.Load destination address offset) = refl
+same_return_duplicate slot i = refl
 
-pub same_pins_twin : (further : ℕ) (i : Instruction) (slot : ℕ) → pins (twin further i) slot ≡ pins i slot
-same_pins_twin further (instructions.Load destination address offset) slot = refl
-same_pins_twin further i slot = refl
+pub same_pins_duplicate : (further : ℕ) (i : Instruction) (slot : ℕ) → pins (duplicate further i) slot ≡ pins i slot
+same_pins_duplicate further (instructions.Load destination address offset) slot = refl
+same_pins_duplicate further i slot = refl
 
--- ---- a lead
+-- ---- a hoisted instruction
 
--- all that it names is there
+-- Each operand of a hoisted instruction names an existing slot.
 operand_fits : (s : Routine) (operand : Operand) → fits_in s.slots operand ≡ true → IsOperand s operand
 operand_fits s (operands.Slot number) fits = nat_lt-true number s.slots fits
 operand_fits s (operands.Word word) fits = tt
 
-pub lead_in : (program : Program) (s : Routine) (given : ℕ) (x : Instruction) → may_lead (length program.globals) given s.slots x ≡ true → IsInRange program s x
-lead_in program s given (instructions.Move destination source) may =
+pub hoisted_in : (program : Program) (s : Routine) (given : ℕ) (x : Instruction) → may_hoisted (length program.globals) given s.slots x ≡ true → IsInRange program s x
+hoisted_in program s given (instructions.Move destination source) may =
     let further = is_further given s.slots destination in
     let fits = fits_in s.slots source in
     (further_below given s.slots destination (and_left further fits may), operand_fits s source (and_right further fits may))
-lead_in program s given (instructions.Binary operator destination left right) may =
+hoisted_in program s given (instructions.Binary operator destination left right) may =
     let further = is_further given s.slots destination in
     let first = fits_in s.slots left in
     let second = fits_in s.slots right in
@@ -172,39 +172,39 @@ lead_in program s given (instructions.Binary operator destination left right) ma
       operand_fits s left (and_left first second both),
       operand_fits s right (and_right first second both),
     )
-lead_in program s given (instructions.LoadGlobal destination global) may =
+hoisted_in program s given (instructions.LoadGlobal destination global) may =
     let further = is_further given s.slots destination in
     let there = nat_lt global (length program.globals) in
     (further_below given s.slots destination (and_left further there may), nat_lt-true global (length program.globals) (and_right further there may))
-lead_in program s given x may = absurd (false≢true may)
+hoisted_in program s given x may = absurd (false≢true may)
 
 word_fits : (slots : ℕ) (operand : Operand) → fits_in slots operand ≡ true → IsOfWord operand
 word_fits slots (operands.Slot number) fits = tt
 word_fits slots (operands.Word word) fits = nat_lt-true word (2 ^ 32) fits
 
-pub lead_word : (globals given slots : ℕ) (x : Instruction) → may_lead globals given slots x ≡ true → HasWord x
-lead_word globals given slots (instructions.Move destination source) may =
+pub hoisted_word : (globals given slots : ℕ) (x : Instruction) → may_hoisted globals given slots x ≡ true → HasWord x
+hoisted_word globals given slots (instructions.Move destination source) may =
     word_fits slots source (and_right (is_further given slots destination) (fits_in slots source) may)
-lead_word globals given slots (instructions.Binary operator destination left right) may =
+hoisted_word globals given slots (instructions.Binary operator destination left right) may =
     let further = is_further given slots destination in
     let first = fits_in slots left in
     let second = fits_in slots right in
     let more : (further && (first && second)) ≡ true = and_right (not (is_division operator)) (further && (first && second)) may in
     let both : (first && second) ≡ true = and_right further (first && second) more in
     (word_fits slots left (and_left first second both), word_fits slots right (and_right first second both))
-lead_word globals given slots (instructions.LoadGlobal destination global) may = tt
-lead_word globals given slots x may = absurd (false≢true may)
+hoisted_word globals given slots (instructions.LoadGlobal destination global) may = tt
+hoisted_word globals given slots x may = absurd (false≢true may)
 
-pub no_return_lead : (globals given slots : ℕ) (x : Instruction) → may_lead globals given slots x ≡ true → is_return x ≡ false
-no_return_lead globals given slots (instructions.Return value) may = absurd (false≢true may)
-no_return_lead globals given slots x may = refl
+pub no_return_hoisted : (globals given slots : ℕ) (x : Instruction) → may_hoisted globals given slots x ≡ true → is_return x ≡ false
+no_return_hoisted globals given slots (instructions.Return value) may = absurd (false≢true may)
+no_return_hoisted globals given slots x may = refl
 
-pub lead_pins_none : (globals given slots : ℕ) (x : Instruction) → may_lead globals given slots x ≡ true → (slot : ℕ) → pins x slot ≡ false
-lead_pins_none globals given slots (instructions.AddressOf destination first count) may slot = absurd (false≢true may)
-lead_pins_none globals given slots x may slot = refl
+pub hoisted_pins_none : (globals given slots : ℕ) (x : Instruction) → may_hoisted globals given slots x ≡ true → (slot : ℕ) → pins x slot ≡ false
+hoisted_pins_none globals given slots (instructions.AddressOf destination first count) may slot = absurd (false≢true may)
+hoisted_pins_none globals given slots x may slot = refl
 
--- what leads nowhere has none
-pub leaves_alone : (i : Instruction) → leaves i ≡ true → may_be_led i ≡ false
+-- An instruction that never falls through is not preceded by hoisted ones.
+pub leaves_alone : (i : Instruction) → leaves i ≡ true → may_follow_hoisted i ≡ false
 leaves_alone (instructions.Move destination source) leaving = absurd (false≢true leaving)
 leaves_alone (instructions.MoveWords destination source count) leaving = absurd (false≢true leaving)
 leaves_alone (instructions.Unary operator destination operand) leaving = absurd (false≢true leaving)
@@ -220,7 +220,7 @@ leaves_alone (instructions.LoadByte destination address offset) leaving = absurd
 leaves_alone (instructions.StoreByte address offset source) leaving = absurd (false≢true leaving)
 leaves_alone i leaving = refl
 
--- ---- a leaf's
+-- ---- an instruction of a leaf
 
 pub leaf_pins_none : (i : Instruction) → is_of_leaf i ≡ true → (slot : ℕ) → pins i slot ≡ false
 leaf_pins_none (instructions.AddressOf destination first count) leaf slot = absurd (false≢true leaf)

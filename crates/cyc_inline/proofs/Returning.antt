@@ -1,4 +1,4 @@
--- The last step of an inlined call: it returns, or throws.
+-- The last step of an inlined call: a return or an exception.
 use Rattle.std.proofs.Common.{◌≡◌, ℕ, suc, ◌+◌, ◌-◌, ◌<◌, ◌≤◌, true, List, [], ◌∷◌, ◌++◌, length, refl, sym, ap, subst, ◌∙◌, arith, inl, inr, append-nil}
 use Rattle.std.specs.Prelude.{Some, Contains}
 use Rattle.std.specs.List.{AllByRecursion}
@@ -13,13 +13,13 @@ use Rattle.cyc_plain.specs.declared.instruction.Operand.{Operand}
 use Rattle.cyc_plain.specs.inside.Program.{Program, CodePlace, routine_at}
 use Rattle.cyc_plain.specs.inside.State.{Words, copied, Activation, Frame, Configuration, State, Running, place_of, HoldsWords}
 use Rattle.cyc_plain.specs.inside.Step.{Choice, operand_word, returns, throws, performed, instruction_at, limited, limited_step, Step, machine}
-use Rattle.cyc_plain.specs.inside.Straight.{At, HasAt, places_behind}
+use Rattle.cyc_plain.specs.inside.Straight.{At, HasAt, places_after}
 use Rattle.cyc_plain.specs.inside.WellFormed.{IsCallInRange, IsInRange, IsOperand, IsPlain}
 use Rattle.cyc_plain.proofs.Placed.{routine_in}
 use Rattle.cyc_plain.proofs.RunLaws.{zeros, zeros_at, calls_nothing}
 use Rattle.cyc_plain.proofs.SlotLaws.{copied-inside, copied-below, copied-above}
 use Rattle.cyc_plain.proofs.Steps.{step_performs, function_known}
-use Rattle.cyc_plain.proofs.Straight.{behind-distinct}
+use Rattle.cyc_plain.proofs.Straight.{following-distinct}
 use Rattle.cyc_inline.specs.declared.origin.Origin.{Origin}
 use Rattle.cyc_inline.specs.inside.Opened.{passing, shifted_operand, origin_at, origins_of, AreMadeOf, GoesTo, AreOpened}
 use Rattle.cyc_inline.proofs.Agreeing.{operand_agree}
@@ -28,7 +28,7 @@ use Rattle.cyc_inline.proofs.Moves.{passed, passed_other, passed_inside}
 use Rattle.cyc_inline.proofs.Waiting.{place_in, slots_of, AreCalls, beside, Outside, thrown_inside}
 use Rattle.cyc_inline.proofs.Lodged.{IsLodged}
 use Rattle.cyc_inline.proofs.Matched.{step_is, made_first, Alike, limited_outside, stands, finds, owns, Matches, matching, kept, words_kept}
-use Rattle.cyc_inline.proofs.Passing.{passing_length, passed_words, behind_last, behind_inside, has_each, passes}
+use Rattle.cyc_inline.proofs.Passing.{passing_length, passed_words, following_last, after_inside, has_each, passes}
 use Rattle.cyc_inline.proofs.Inside.{step_so, fewer_within, lodged_within}
 
 module _ (program inlined : Program) (origins : List (List Origin)) (are : AreOpened program inlined origins) (plain : IsPlain program) (fine : IsPlain inlined) (pages calls : ℕ)
@@ -72,7 +72,7 @@ module _ (program inlined : Program) (origins : List (List Origin)) (are : AreOp
     abbrev returning : List Instruction
     returning = passing f.result (shift + value) results
 
-    -- the slots that get what is returned are the caller's own
+    -- The slots that receive the results are the caller's own.
     apart : f.result + results ≤ shift
     apart =
         let known = function_known program (place_at f.caller.function lodged.index) (instructions.Call c.active.function lodged.arguments lodged.count f.result) lodged.calls in
@@ -81,7 +81,7 @@ module _ (program inlined : Program) (origins : List (List Origin)) (are : AreOp
         All_at (IsInRange program (routine_at program f.caller.function)) (routine_at program f.caller.function).code lodged.index (instructions.Call c.active.function lodged.arguments lodged.count f.result) r.instructions lodged.calls in
         range.result_in_range
 
-    -- above, the caller goes on
+    -- The source state after the return: the caller continues.
     abbrev e : Configuration
     e = record c { active = record f.caller { slots = copied c.active.slots value results f.caller.slots f.result }; frames = lodged.rest }
 
@@ -90,21 +90,21 @@ module _ (program inlined : Program) (origins : List (List Origin)) (are : AreOp
         step_so program pages calls c i (Running e) at free (does ∙ ap (returns c value results) lodged.frames)
         (fewer_within pages calls c e refl (let long = ap length lodged.frames in omega (arith, long)) matches.within)
 
-    -- below, behind the moves
+    -- The state of the inlined program after the moves of the results.
     abbrev passer : ℕ → Activation
     passer to = record b { slots = passed f.result (shift + value) results b.slots; next = to }
 
     abbrev below : ℕ → Configuration
     below to = beside program inlined origins are c (passer to) gs
 
-    -- where the caller goes on below
+    -- The place at which the caller continues in the inlined program.
     abbrev target : ℕ
     target = place_in program inlined origins are f.caller.function (lodged.index + 1)
 
     words : (to : ℕ) → HoldsWords (Running (below to))
     words to = (passed_words f.result (shift + value) results b.slots matches.words.0, matches.words.1, matches.words.2, matches.words.3, matches.words.4)
 
-    -- one by one the words are moved as at once
+    -- Moving the results one by one equals copying them at once.
     slots_same : (k : ℕ) → k < shift → passed f.result (shift + value) results b.slots k ≡ copied c.active.slots value results f.caller.slots f.result k
     slots_same k below = elim (cases_lt k f.result) [
       | inl before ↦
@@ -135,10 +135,10 @@ module _ (program inlined : Program) (origins : List (List Origin)) (are : AreOp
         records = lodged.slotted.records;
         slots = slots_same;
       };
-      next = ap (place_in program inlined origins are f.caller.function) (sym lodged.behind);
+      next = ap (place_in program inlined origins are f.caller.function) (sym lodged.following);
     }
 
-    -- the call is over on both sides
+    -- The call is over in both programs.
     arrives : (places : List CodePlace) (u : State) → u ≡ Running (below target) → IsMatchedStep (machine program pages calls) (machine inlined pages calls) (matching program inlined origins are plain fine pages calls) (Running c) places u
     arrives places u is = record {
       next = Running e;
@@ -149,7 +149,7 @@ module _ (program inlined : Program) (origins : List (List Origin)) (are : AreOp
       lighter = λ none. let long = ap length lodged.frames in omega (arith, long);
     }
 
-    -- ---- its places
+    -- ---- the places of the moves
 
     stands_here : (k : ℕ) → place_at b.function (b.next + k) ≡ place_at f.caller.function (here + k)
     stands_here k = λ n. place_at (lodged.slotted.function n) (next n + k)
@@ -171,24 +171,24 @@ module _ (program inlined : Program) (origins : List (List Origin)) (are : AreOp
     IsStep = IsStepped (machine program pages calls) (machine inlined pages calls) (matching program inlined origins are plain fine pages calls) (Running c) (Running d)
 
     through : (others places : List CodePlace) → Comes (machine inlined pages calls) (IsOnTheWay (machine program pages calls) (machine inlined pages calls) (Running c)) (IsMatchedStep (machine program pages calls) (machine inlined pages calls) (matching program inlined origins are plain fine pages calls) (Running c) places) others (Running (below (b.next + results)))
-        → Comes (machine inlined pages calls) (IsOnTheWay (machine program pages calls) (machine inlined pages calls) (Running c)) (IsMatchedStep (machine program pages calls) (machine inlined pages calls) (matching program inlined origins are plain fine pages calls) (Running c) places) (places_behind b.function b.next results ++ others) (Running d)
+        → Comes (machine inlined pages calls) (IsOnTheWay (machine program pages calls) (machine inlined pages calls) (Running c)) (IsMatchedStep (machine program pages calls) (machine inlined pages calls) (matching program inlined origins are plain fine pages calls) (Running c) places) (places_after b.function b.next results ++ others) (Running d)
     through others places goal =
         passes inlined pages calls (IsOnTheWay (machine program pages calls) (machine inlined pages calls) (Running c))
         (IsMatchedStep (machine program pages calls) (machine inlined pages calls) (matching program inlined origins are plain fine pages calls) (Running c) places)
         others f.result (shift + value) results d has (lodged_within program inlined origins are pages calls c b gs lodged matches.within) way goal
 
-    -- the code goes on behind the moves
+    -- After the moves of the results, control falls through to the place after the call.
     falls : here + results ≡ target → IsStep
     falls to =
-        let places : List CodePlace = places_behind b.function b.next results ++ [] in
+        let places : List CodePlace = places_after b.function b.next results ++ [] in
         record {
           places = places;
-          distinct = subst IsDistinct (sym (append-nil (places_behind b.function b.next results))) (behind-distinct b.function b.next results);
-          inside = subst (AllByRecursion (Contains own_places)) (sym (append-nil (places_behind b.function b.next results))) (behind_inside own_places b.function b.next results own_at);
+          distinct = subst IsDistinct (sym (append-nil (places_after b.function b.next results))) (following-distinct b.function b.next results);
+          inside = subst (AllByRecursion (Contains own_places)) (sym (append-nil (places_after b.function b.next results))) (after_inside own_places b.function b.next results own_at);
           comes = through [] places (arrives places (Running (below (b.next + results))) (ap (λ (n : ℕ). Running (below n)) (ap (λ (n : ℕ). n + results) next ∙ to)));
         }
 
-    -- or a jump leads there
+    -- A jump after the moves leads to the place where the caller continues.
     module _ (jump_at : At (routine_at inlined lodged.waits.caller.function).code (lodged.site.place c.active.next + (routine_at program c.active.function).results) (instructions.Jump (place_in program inlined origins are lodged.waits.caller.function (lodged.index + 1))))
         (jump_made : AreMadeOf (origins_of origins lodged.waits.caller.function) (lodged.site.place c.active.next + (routine_at program c.active.function).results) 1 (origin_at c.active.function c.active.next)) where
       abbrev last : CodePlace
@@ -209,13 +209,13 @@ module _ (program inlined : Program) (origins : List (List Origin)) (are : AreOp
       ]
 
       abbrev all : List CodePlace
-      all = places_behind b.function b.next results ++ last ∷ []
+      all = places_after b.function b.next results ++ last ∷ []
 
       jumped : IsStep
       jumped = record {
         places = all;
-        distinct = subst IsDistinct (sym (behind_last b.function b.next results)) (behind-distinct b.function b.next (suc results));
-        inside = subst (AllByRecursion (Contains own_places)) (sym (behind_last b.function b.next results)) (behind_inside own_places b.function b.next (suc results) own_each);
+        distinct = subst IsDistinct (sym (following_last b.function b.next results)) (following-distinct b.function b.next (suc results));
+        inside = subst (AllByRecursion (Contains own_places)) (sym (following_last b.function b.next results)) (after_inside own_places b.function b.next (suc results) own_each);
         comes = through (last ∷ []) all (
           refl,
           way (passer 0).slots (b.next + results),

@@ -1,4 +1,4 @@
--- Each run of an inlined program is one of the program given.
+-- Each run of an inlined program is one of the given program.
 use Rattle.std.proofs.Common.{◌≡◌, ℕ, ◌+◌, ◌<◌, ◌≤◌, true, false, List, [], Some, refl, sym, ap, subst, ◌∙◌, inl, inr}
 use Rattle.std.specs.Prelude.{◌⊎◌}
 use Rattle.std.specs.List.{AllByRecursion}
@@ -30,7 +30,7 @@ use Rattle.cyc_inline.proofs.Matched.{IsInside, Alike, Matches, matching}
 use Rattle.cyc_inline.proofs.Steps.{either_stands, steps_itself}
 use Rattle.cyc_inline.proofs.Entering.{steps_opened}
 use Rattle.cyc_inline.proofs.Inside.{steps_ordinary}
-use Rattle.cyc_inline.proofs.Twins.{steps_led}
+use Rattle.cyc_inline.proofs.Duplicates.{steps_preceded}
 use Rattle.cyc_inline.proofs.Returning.{steps_returned, steps_thrown}
 
 module _ (program inlined : Program) (origins : List (List Origin)) (are : AreOpened program inlined origins) (plain : IsPlain program) (fine : IsPlain inlined) (pages calls : ℕ) where
@@ -43,7 +43,7 @@ module _ (program inlined : Program) (origins : List (List Origin)) (are : AreOp
   abbrev FailsNever : State → Type 0
   FailsNever s = (next : State) → Step program pages calls s next → status_of next ≡ simulation.Failed → ⊥
 
-  -- the instruction that is executed next
+  -- The next instruction of a configuration, which its function's code contains.
   record IsFound (c : Configuration) : Type 0 where
     pub i : Instruction
     pub at : At (routine_at program c.active.function).code c.active.next i
@@ -59,7 +59,7 @@ module _ (program inlined : Program) (origins : List (List Origin)) (are : AreOp
         range = All_at (IsInRange program (routine_at program c.active.function)) (routine_at program c.active.function).code c.active.next i (routine_in program c.active.function plain.well_formed known).instructions at;
       }
 
-  -- ---- outside
+  -- ---- steps outside inlined calls
 
   outside : (c : Configuration) (t : State) → IsOutside program inlined origins are c t → Matched (Running c) t → FailsNever (Running c) → IsStep (Running c) t
   outside c t o matches never =
@@ -74,10 +74,10 @@ module _ (program inlined : Program) (origins : List (List Origin)) (are : AreOp
                 let call : Instruction = instructions.Call opened.callee opened.arguments opened.count opened.result in
                 steps_opened program inlined origins are plain fine pages calls c o.active o.frames o.calls o.waiting both opened.callee opened.arguments opened.count opened.result
                 (h.at ∙ ap (λ (i : Instruction). Some i) opened.is) (subst (IsInRange program (routine_at program c.active.function)) opened.is h.range) opened.site
-            | inr (inr led) ↦ steps_led program inlined origins are plain fine pages calls c o.active o.frames o.calls o.waiting both never h.i h.at h.range led
+            | inr (inr preceded) ↦ steps_preceded program inlined origins are plain fine pages calls c o.active o.frames o.calls o.waiting both never h.i h.at h.range preceded
           ]
 
-  -- ---- inside
+  -- ---- steps inside an inlined call
 
   module _ (c : Configuration) (b : Activation) (gs : List Frame) (lodged : IsLodged program inlined origins are c b gs) (next : b.next ≡ lodged.site.place c.active.next)
       (matches : Matches program inlined origins are plain fine pages calls (Running c) (Running (beside program inlined origins are c b gs)))
@@ -124,7 +124,7 @@ module _ (program inlined : Program) (origins : List (List Origin)) (are : AreOp
   steps (Ended ending output input) t matches running never = absurd (running_ended ending (sym running))
   steps (Stuck output input) t matches running never = absurd (running_failed (sym running))
 
-  -- both begin alike
+  -- Corresponding initial states are related.
   start_alike : (base : ℕ) (store : StoreState) (input : List ℕ) → Alike program inlined origins are (start program base store input) (start inlined base store input)
   start_alike base store input = inl (record {
     active = record { function = inlined.main; next = 0; base = base; slots = λ (slot : ℕ). 0; handlers = [] };
@@ -150,7 +150,7 @@ module _ (program inlined : Program) (origins : List (List Origin)) (are : AreOp
         within = starts_within program pages calls base store input new some_page some_call;
       })
 
--- A program some of whose calls are inlined does what the program given does.
+-- A program with some calls inlined behaves as the given program.
 pub is_inlined : (program inlined : Program) (origins : List (List Origin)) → IsPlain program → IsPlain inlined → AreOpened program inlined origins → IsInlined program inlined
 is_inlined program inlined origins plain fine are = record {
   plain = fine;

@@ -1,4 +1,4 @@
--- The step of an instruction that stands for itself alone, where no inlined call is under way.
+-- The step of an instruction that is its own only replacement, outside inlined calls.
 use Rattle.std.proofs.Common.{◌≡◌, ℕ, ◌+◌, false, List, Option, Some, None, refl, sym, ap, subst, ◌∙◌, arith, inl, inr}
 use Rattle.std.specs.Prelude.{◌⊎◌}
 use Rattle.cyc_store.specs.Services.{Call}
@@ -12,12 +12,12 @@ use Rattle.cyc_plain.specs.inside.Step.{Choice, IsAllowed, MayLie, MayServe, cal
 use Rattle.cyc_plain.specs.inside.Straight.{At}
 use Rattle.cyc_plain.specs.inside.WellFormed.{IsInRange, IsPlain, leaves}
 use Rattle.cyc_inline.specs.declared.origin.Origin.{Origin}
-use Rattle.cyc_inline.specs.inside.Opened.{moved, origin_at, origins_of, AreMadeOf, IsSite, IsLed, StandsFor, AreOpened}
+use Rattle.cyc_inline.specs.inside.Opened.{moved, origin_at, origins_of, AreMadeOf, IsSite, IsPreceded, StandsFor, AreOpened}
 use Rattle.cyc_inline.proofs.Waiting.{each_opened, place_in, slots_of, AreCalls, AreWaiting, beside}
 use Rattle.cyc_inline.proofs.Outside.{call_same, performs_outside}
 use Rattle.cyc_inline.proofs.Matched.{step_is, made_first, Alike, limited_outside, finds, owns, Matches, matching, kept, words_kept}
 
--- what is called, and how many calls may be under way, does not change where an instruction is moved
+-- Moving an instruction changes neither the function that it calls nor the limit on active calls.
 callee_same_moved : (shift : ℕ) (place : ℕ → ℕ) (i : Instruction) → callee_of (Some (moved shift place i)) ≡ callee_of (Some i)
 callee_same_moved shift place (instructions.Call function arguments count result) = refl
 callee_same_moved shift place (instructions.Enter function) = refl
@@ -28,7 +28,7 @@ limit_same_moved shift place calls (instructions.Enter function) = refl
 limit_same_moved shift place calls i = refl
 
 module _ (program inlined : Program) (origins : List (List Origin)) (are : AreOpened program inlined origins) where
-  -- an instruction that stands for itself, a call that was opened, and an instruction with others in front of it
+  -- The replacement of an instruction: the instruction with or without others before it, or an inlined call.
   pub record IsItself (function index : ℕ) (i : Instruction) : Type 0 where
     pub at : At (routine_at inlined function).code (place_in program inlined origins are function index) (moved 0 (place_in program inlined origins are function) i)
     pub made : AreMadeOf (origins_of origins function) (place_in program inlined origins are function index) 1 (origin_at function index)
@@ -43,23 +43,23 @@ module _ (program inlined : Program) (origins : List (List Origin)) (are : AreOp
     pub site : IsSite program (routine_at inlined function) (origins_of origins function) (slots_of program inlined origins are function) function index
         (place_in program inlined origins are function index) (place_in program inlined origins are function (index + 1)) callee arguments count result
 
-  abbrev pub IsLedHere : (function index : ℕ) → Instruction → Type 0
-  IsLedHere function index i =
-      IsLed (routine_at program function) (routine_at inlined function) (origins_of origins function) function (place_in program inlined origins are function) index i
+  abbrev pub IsPrecededHere : (function index : ℕ) → Instruction → Type 0
+  IsPrecededHere function index i =
+      IsPreceded (routine_at program function) (routine_at inlined function) (origins_of origins function) function (place_in program inlined origins are function) index i
 
   itself_or_not : (function index : ℕ) (i : Instruction) → StandsFor program (routine_at program function) (routine_at inlined function) (origins_of origins function) function (place_in program inlined origins are function) index i
-      → IsItself function index i ⊎ (IsOpenedCall function index i ⊎ IsLedHere function index i)
+      → IsItself function index i ⊎ (IsOpenedCall function index i ⊎ IsPrecededHere function index i)
   itself_or_not function index (instructions.Call callee arguments count result) stands = elim stands [
     | inl itself ↦ inl (record { at = itself.0; made = itself.1; falls = λ stays. itself.2 })
     | inr site ↦ inr (inl (record { callee = callee; arguments = arguments; count = count; result = result; is = refl; site = site }))
   ]
   itself_or_not function index i stands = elim stands [
     | inl itself ↦ inl (record { at = itself.0; made = itself.1; falls = itself.2 })
-    | inr led ↦ inr (inr led)
+    | inr preceded ↦ inr (inr preceded)
   ]
 
   pub either_stands : (function index : ℕ) (i : Instruction) → At (routine_at program function).code index i
-      → IsItself function index i ⊎ (IsOpenedCall function index i ⊎ IsLedHere function index i)
+      → IsItself function index i ⊎ (IsOpenedCall function index i ⊎ IsPrecededHere function index i)
   either_stands function index i at = itself_or_not function index i ((each_opened program inlined origins are function).stands index i at)
 
   module _ (plain : IsPlain program) (fine : IsPlain inlined) (pages calls : ℕ) (c : Configuration) (b : Activation) (gs : List Frame)
@@ -72,11 +72,11 @@ module _ (program inlined : Program) (origins : List (List Origin)) (are : AreOp
     abbrev place : ℕ → ℕ
     place = place_in program inlined origins are c.active.function
 
-    -- both stand at the instruction
+    -- Both programs are about to execute the instruction.
     below_at : instruction_at inlined (place_of (Running d)) ≡ Some (moved 0 place i)
     below_at = finds program inlined origins are c.active b (place c.active.next) (moved 0 place i) same.slotted same.next itself.at
 
-    -- what may be chosen below may be chosen above
+    -- A choice allowed in the inlined program is allowed in the source program.
     lies : (base : ℕ) (o : Option ℕ) → MayLie inlined base o (Running d) → MayLie program base o (Running c)
     lies base None may = may
     lies base (Some function) may = record {

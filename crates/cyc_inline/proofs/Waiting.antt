@@ -1,4 +1,4 @@
--- Calls under way above and below, those that wait for them, and exceptions that come to them.
+-- Active and waiting calls of both programs, and exceptions that reach them.
 use Rattle.std.proofs.Common.{◌≡◌, ℕ, suc, ◌+◌, ◌≤◌, Bool, true, false, List, [], ◌∷◌, length, map, refl, sym, ap, subst, arith, inl, inr}
 use Rattle.std.specs.Prelude.{if◌then◌else◌}
 use Rattle.std.specs.List.{AllByRecursion}
@@ -14,7 +14,7 @@ use Rattle.cyc_inline.specs.declared.origin.Origin.{Origin}
 use Rattle.cyc_inline.specs.inside.Opened.{IsOpened, AreOpened, origins_of}
 use Rattle.cyc_inline.proofs.Agreeing.{Agree, put_agree, intact_agree}
 
--- every function is opened, also where there is none
+-- Every function number has inlined code, even a number without a function.
 nothing_opened : (program : Program) (function : ℕ) (origins : List Origin) → length origins ≡ 0 → IsOpened program function no_routine no_routine origins
 nothing_opened program function origins none = record {
   like = record { name = refl; parameters = refl; results = refl; slots = omega arith; frame = inl refl };
@@ -25,7 +25,7 @@ nothing_opened program function origins none = record {
   pinned = λ p i at slot pins. cc;
 }
 
--- a handler, where the code's places have moved
+-- A handler, with its target moved.
 abbrev pub moved_handler : (place : ℕ → ℕ) → Handler → Handler
 moved_handler place (Open index first contents) = Open (place index) first contents
 moved_handler place Caught = Caught
@@ -37,25 +37,25 @@ module _ (program inlined : Program) (origins : List (List Origin)) (are : AreOp
     | inr past ↦
         let none : no_routine ≡ routine_at program k = sym (get_or_past program.functions k no_routine past) in
         let no_other : no_routine ≡ routine_at inlined k = sym (get_or_past inlined.functions k no_routine (let l = are.as_many in omega (arith, past, l))) in
-        let untold : origins_of origins k ≡ [] = get_or_past origins k [] (let l = are.all_told in omega (arith, past, l)) in
+        let untold : origins_of origins k ≡ [] = get_or_past origins k [] (let l = are.all_reported in omega (arith, past, l)) in
         subst (λ (s : Routine). IsOpened program k (routine_at program k) s (origins_of origins k)) no_other
         (subst (λ (r : Routine). IsOpened program k r no_routine (origins_of origins k)) none
         (nothing_opened program k (origins_of origins k) (ap length untold)))
   ]
 
-  -- where an instruction of a function stands
+  -- The place of a function's instruction in the inlined program.
   abbrev pub place_in : (function : ℕ) → ℕ → ℕ
   place_in function = (each_opened function).place
 
   abbrev pub slots_of : ℕ → ℕ
   slots_of function = (routine_at program function).slots
 
-  -- a handler's record is slots of its function
+  -- A handler's record lies within the slots of its function.
   abbrev pub HasRecord : (function : ℕ) → Handler → Type 0
   HasRecord function (Open index first contents) = first + RECORD_WORDS ≤ slots_of function
   HasRecord function Caught = Unit {0}
 
-  -- a call above, and the one below, wherever they stand
+  -- Corresponding calls of the two programs, at any place.
   pub record AreSlotted (a b : Activation) : Type 0 where
     pub function : b.function ≡ a.function
     pub base : b.base ≡ a.base
@@ -63,12 +63,12 @@ module _ (program inlined : Program) (origins : List (List Origin)) (are : AreOp
     pub records : AllByRecursion (HasRecord a.function) a.handlers
     pub slots : Agree (slots_of a.function) a.slots b.slots
 
-  -- they stand at the same place
+  -- Corresponding calls of the two programs, at corresponding places.
   pub record AreCalls (a b : Activation) : Type 0 where
     pub slotted : AreSlotted a b
     pub next : b.next ≡ place_in a.function a.next
 
-  -- the calls that wait for one of this function, the first of which is `main`
+  -- The waiting calls above a call of this function correspond; the outermost call is of `main`.
   abbrev pub AreWaiting : (function : ℕ) → List Frame → List Frame → Type 0
   AreWaiting function [] [] = function ≡ program.main
   AreWaiting function (f ∷ fs) (g ∷ gs) = AreCalls f.caller g.caller × (g.result ≡ f.result) × AreWaiting f.caller.function fs gs
@@ -81,11 +81,11 @@ module _ (program inlined : Program) (origins : List (List Origin)) (are : AreOp
   as_deep function (f ∷ fs) [] waiting = absurd waiting
   as_deep function (f ∷ fs) (g ∷ gs) (calls, result, rest) = ap suc (as_deep f.caller.function fs gs rest)
 
-  -- what is below, where all but the calls is as above
+  -- The source state with the active call and the frames replaced by those of the inlined program.
   abbrev pub beside : Configuration → Activation → List Frame → Configuration
   beside c b gs = record c { active = b; frames = gs }
 
-  -- where no inlined call is under way
+  -- The states correspond outside inlined calls.
   pub record IsOutside (c : Configuration) (t : State) : Type 0 where
     pub active : Activation
     pub frames : List Frame
@@ -93,7 +93,7 @@ module _ (program inlined : Program) (origins : List (List Origin)) (are : AreOp
     pub calls : AreCalls c.active active
     pub waiting : AreWaiting c.active.function c.frames frames
 
-  -- a run that is over is over alike
+  -- The states correspond outside inlined calls; ended runs are equal.
   abbrev pub Outside : State → State → Type 0
   Outside (Running c) t = IsOutside c t
   Outside (Ended ending output input) t = t ≡ Ended ending output input
@@ -139,7 +139,7 @@ module _ (program inlined : Program) (origins : List (List Origin)) (are : AreOp
         })
         refl
 
-    -- an exception comes to the same handler, or ends both runs
+    -- An exception reaches corresponding handlers, or ends both runs.
     pub thrown : (a b : Activation) (fs gs : List Frame) → AreSlotted a b → AreWaiting a.function fs gs → Outside (throws c tag value a fs) (throws d tag value b gs)
     thrown a b [] [] slotted waiting =
         subst (λ (hs : List Handler). Outside (throws c tag value a []) (lands d tag value b [] (Ended (Uncaught tag (signed value)) d.output d.input) hs)) (sym slotted.handlers)
@@ -151,7 +151,8 @@ module _ (program inlined : Program) (origins : List (List Origin)) (are : AreOp
         (landed a b (f ∷ fs) (g ∷ gs) (throws c tag value f.caller fs) (throws d tag value g.caller gs) slotted (calls, result, rest)
         (thrown f.caller g.caller fs gs calls.slotted rest) a.handlers slotted.records)
 
-    -- Thrown in an inlined call, above: it has no handler, so the exception goes on from its caller, which is the call below.
+    -- An exception raised in an inlined call: the source call has no handler, so the exception passes to its caller, which is the active
+    -- call of the inlined program.
     pub thrown_inside : (leaf b : Activation) (f : Frame) (fs gs : List Frame) → leaf.handlers ≡ [] → AreSlotted f.caller b → AreWaiting f.caller.function fs gs
         → Outside (throws c tag value leaf (f ∷ fs)) (throws d tag value b gs)
     thrown_inside leaf b f fs gs none slotted waiting =

@@ -1,4 +1,4 @@
--- A program of functions that are each made of one of a plain program is plain, and does what that does.
+-- A program whose functions are each made from one of a plain program is plain and behaves as that program.
 use Rattle.std.proofs.Common.{◌≡◌, ℕ, ◌<◌, ◌≤◌, List, length, Some, slice_get, refl, sym, subst, ◌∙◌, arith}
 use Rattle.std.specs.Prelude.{All, sum_by}
 use Rattle.std.proofs.lemmas.Option.{get_or_from_slice_get}
@@ -22,7 +22,7 @@ module _ (program : Program) (routines : List Routine) (origins : List (List Ori
   are_opened : AreOpened program inlined origins
   are_opened = record {
     as_many = made.as_many;
-    all_told = made.as_many_origins;
+    all_reported = made.as_many_origins;
     each = λ k below. (made.each k below).opened;
     globals = refl;
     main = refl;
@@ -31,7 +31,7 @@ module _ (program : Program) (routines : List Routine) (origins : List (List Ori
   like : (k : ℕ) → k < length program.functions → IsLike (routine_at program k) (routine_at inlined k)
   like k below = (made.each k below).opened.like
 
-  -- what a function's instructions name is in this program too
+  -- Everything that an instruction names exists in this program too.
   in_range : (s : Routine) (i : Instruction) → IsInRange program s i → IsInRange inlined s i
   in_range s (instructions.Call function arguments count result) range =
       let same = like function range.function_in_range in
@@ -53,7 +53,7 @@ module _ (program : Program) (routines : List Routine) (origins : List (List Ori
     last = is.last;
   }
 
-  -- a function of the program, as it was made
+  -- Each function of the new program is made from the given program's function with the same number.
   each_made : (k : ℕ) (s : Routine) → slice_get routines k ≡ Some s → IsRoutine program s × All HasWord s.code
   each_made k s at =
       let is : IsMade program k (routine_at inlined k) _ = made.each k (let below = below_from_slice_get routines k s at in let many = made.as_many in omega (arith, below, many)) in
@@ -79,6 +79,6 @@ module _ (program : Program) (routines : List Routine) (origins : List (List Ori
         small = small;
       }
 
-  -- and it is inlined
+  -- The new program satisfies the promise of inlining.
   pub are_inlined : sum_by size routines ≤ MOST_SIZE → IsInlined program (record program { functions = routines })
   are_inlined small = is_inlined program inlined origins plain (is_plain small) are_opened

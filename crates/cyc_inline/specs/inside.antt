@@ -1,6 +1,6 @@
--- what the contract of `inline` rests on
+-- the results that the contract of `inline` rests on
 pub mod Inlined
--- the functions inside the crate
+-- the contracts of the functions inside the crate
 pub mod Opened
 pub mod Sites
 pub mod Emission

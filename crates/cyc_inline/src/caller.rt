@@ -1,51 +1,50 @@
-//! The code of a function, some of whose calls are opened, and some of whose instructions have a twin.
+//! The code of a function some of whose calls are inlined, and some of whose instructions are duplicated.
 ghost use Rattle.std.specs.Prelude.{◌≡◌, ◌+◌, ◌*◌, ◌<◌, ◌≤◌, filter, length, replicate, IfOk, IfSome};
 ghost use Rattle.cyc_plain.specs.inside.Program.{routine_at};
 ghost use Rattle.cyc_plain.specs.inside.Straight.{At};
 ghost use Rattle.cyc_plain.specs.inside.WellFormed.{IsPlain};
 ghost use Rattle.cyc_plain.specs.declared.limits.TheConstants.{MOST_SIZE};
-ghost use Rattle.cyc_inline.specs.declared.limits.TheConstants.{MOST_GROWTH, MOST_LEADS};
-ghost use Rattle.cyc_inline.specs.inside.Emission.{AddsCode, AddsOrigins, AreChosen, IsFit, IsKnown, IsSmallCall, front_by, leads_by};
+ghost use Rattle.cyc_inline.specs.declared.limits.TheConstants.{MOST_GROWTH, MOST_HOISTED};
+ghost use Rattle.cyc_inline.specs.inside.Emission.{AddsCode, AddsOrigins, AreChosen, IsFit, IsKnown, IsSmallCall, front_by, all_hoisted_by};
 ghost use Rattle.cyc_inline.specs.inside.Emission as emission;
 ghost use Rattle.cyc_inline.specs.inside.Sites.{chosen_call, place_in};
 
 use crate::choice::{Choice, call_size, instruction_at};
+use crate::duplicating::{duplicate, may_follow_hoisted, may_hoisted};
 use crate::emission::Emission;
-use crate::limits::MOST_LEADS;
+use crate::limits::MOST_HOISTED;
 use crate::moving::moved;
 use crate::origin::Origin;
 use crate::site::{Call, Site, chosen_call};
 use crate::tables::place_in;
-use crate::twinning::{may_be_led, may_lead, twin};
 use cyc_plain::{Instruction, Plain};
 use std::alloc::{AllocError, Global};
 
-/// A function of a program, the calls in it that are opened, and where what its instructions become stands.
+/// A function of a program, its inlined calls, and the places of the replacements of its instructions.
 #[derive(Clone, Copy)]
 pub(crate) struct Caller<'a> {
     pub(crate) plain: &'a Plain,
     /// The number of the function.
     pub(crate) number: usize,
     pub(crate) choice: &'a Choice,
-    /// Where each of its instructions stands, and what comes behind them.
+    /// The place of each instruction's replacement, and the place after the last.
     pub(crate) places: &'a [usize],
-    /// For each of them where the rest of what it becomes stands, and what comes behind that.
+    /// The place of the out-of-line part of each instruction's replacement, and the place after the last.
     pub(crate) rests: &'a [usize],
 }
 
-/// A table of places, and the last of them, which nothing has yet.
+/// A table of places and the next free place.
 #[derive(Drop)]
 pub(crate) struct Places {
     pub(crate) places: Vec<usize>,
     pub(crate) end: usize,
 }
 
-/// How many instructions stand for one: itself, with those in front of it, or those of a call that is opened, or the rest
-/// of these.
+/// Returns the size of an instruction's replacement, in instructions: in line, or out of line.
 fn part_count(plain: &Plain, in_line: bool, call: Option<Call>, front: usize) -> usize
     requires plain { IsPlain plain.now }
     requires call { IfSome call (λ it. IsSmallCall plain.now it) }
-    requires front { front ≤ MOST_LEADS + 1 }
+    requires front { front ≤ MOST_HOISTED + 1 }
     ensures value { result ≡ emission.part_count plain.now in_line call front }
     ensures small { result ≤ 2 * MOST_GROWTH }
 {
@@ -55,7 +54,7 @@ fn part_count(plain: &Plain, in_line: bool, call: Option<Call>, front: usize) ->
     }
 }
 
-/// Where what each instruction of a function becomes stands, if the first stands here.
+/// Returns the place of each instruction's replacement if the first stands at `here`.
 pub(crate) fn opened_places(
     alloc: Global,
     plain: &Plain,
@@ -68,8 +67,11 @@ pub(crate) fn opened_places(
     requires number { number < length plain.now.functions }
     requires chosen { AreChosen plain.now (routine_at plain.now number) choice.now.chosen.items choice.now.slots }
     requires first { first ≤ MOST_SIZE * (2 * MOST_GROWTH) }
-    ensures places { IfOk result (λ table. table.places.items ≡ emission.opened_places plain.now choice.now.chosen.items (front_by plain.now number choice.now) in_line 0 first (routine_at plain.now number).code) }
-    ensures end { IfOk result (λ table. table.end ≡ emission.opened_end plain.now choice.now.chosen.items (front_by plain.now number choice.now) in_line 0 first (routine_at plain.now number).code) }
+    ensures places { IfOk result (λ table. table.places.items
+        ≡ emission.opened_places plain.now choice.now.chosen.items (front_by plain.now number choice.now) in_line 0 first
+        (routine_at plain.now number).code) }
+    ensures end { IfOk result (λ table. table.end ≡ emission.opened_end plain.now choice.now.chosen.items (front_by plain.now number choice.now)
+        in_line 0 first (routine_at plain.now number).code) }
     ensures few { IfOk result (λ table. table.end ≤ first + MOST_SIZE * (2 * MOST_GROWTH)) }
 {
     let function = plain.function(number);
@@ -87,8 +89,8 @@ pub(crate) fn opened_places(
 }
 
 impl Emission {
-    /// The leads of an instruction, of those that are wanted.
-    fn push_leads(
+    /// Appends those of the wanted instructions that may be hoisted before an instruction.
+    fn push_all_hoisted(
         &mut self,
         globals: usize,
         given_slots: usize,
@@ -96,19 +98,20 @@ impl Emission {
         wanted: &[Instruction],
         origin: Origin,
     ) -> Result<(), AllocError>
-        ensures code { AddsCode result self.old self.new (filter (emission.may_lead globals given_slots slots) wanted.now) }
-        ensures origins { AddsOrigins result self.old self.new (replicate (length (filter (emission.may_lead globals given_slots slots) wanted.now)) origin) }
+        ensures code { AddsCode result self.old self.new (filter (emission.may_hoisted globals given_slots slots) wanted.now) }
+        ensures origins { AddsOrigins result self.old self.new
+            (replicate (length (filter (emission.may_hoisted globals given_slots slots) wanted.now)) origin) }
     {
-        for lead in wanted {
-            if may_lead(globals, given_slots, slots, *lead) {
-                self.push(*lead, origin)?;
+        for hoisted in wanted {
+            if may_hoisted(globals, given_slots, slots, *hoisted) {
+                self.push(*hoisted, origin)?;
             }
         }
         Ok(())
     }
 
-    /// The same, if it may have them and few are wanted.
-    fn push_leads_of(
+    /// Appends the hoisted instructions if the instruction may be preceded by them and few are wanted.
+    fn push_all_hoisted_of(
         &mut self,
         globals: usize,
         given_slots: usize,
@@ -117,16 +120,17 @@ impl Emission {
         wanted: &[Instruction],
         origin: Origin,
     ) -> Result<(), AllocError>
-        ensures code { AddsCode result self.old self.new (emission.leads_of globals given_slots slots instruction wanted.now) }
-        ensures origins { AddsOrigins result self.old self.new (replicate (length (emission.leads_of globals given_slots slots instruction wanted.now)) origin) }
+        ensures code { AddsCode result self.old self.new (emission.all_hoisted_of globals given_slots slots instruction wanted.now) }
+        ensures origins { AddsOrigins result self.old self.new
+            (replicate (length (emission.all_hoisted_of globals given_slots slots instruction wanted.now)) origin) }
     {
-        if !may_be_led(instruction) || wanted.len() > MOST_LEADS {
+        if !may_follow_hoisted(instruction) || wanted.len() > MOST_HOISTED {
             return Ok(());
         }
-        self.push_leads(globals, given_slots, slots, wanted, origin)
+        self.push_all_hoisted(globals, given_slots, slots, wanted, origin)
     }
 
-    /// The same, by the table of what is wanted.
+    /// Appends the hoisted instructions that the table wants before an instruction.
     fn push_wanted(
         &mut self,
         plain: &Plain,
@@ -137,14 +141,14 @@ impl Emission {
         origin: Origin,
     ) -> Result<(), AllocError>
         requires { number < length plain.now.functions }
-        ensures code { AddsCode result self.old self.new (leads_by plain.now number choice.now index instruction) }
-        ensures origins { AddsOrigins result self.old self.new (replicate (length (leads_by plain.now number choice.now index instruction)) origin) }
+        ensures code { AddsCode result self.old self.new (all_hoisted_by plain.now number choice.now index instruction) }
+        ensures origins { AddsOrigins result self.old self.new (replicate (length (all_hoisted_by plain.now number choice.now index instruction)) origin) }
     {
         let globals = plain.globals().len();
         let given_slots = plain.function(number).slots;
-        match choice.leads.get(index) {
+        match choice.all_hoisted.get(index) {
             Some(wanted) => {
-                self.push_leads_of(
+                self.push_all_hoisted_of(
                     globals,
                     given_slots,
                     choice.slots,
@@ -157,23 +161,24 @@ impl Emission {
         }
     }
 
-    /// The twin of an instruction, if it has one.
-    fn push_twin(
+    /// Appends the duplicate of an instruction, if it has one.
+    fn push_duplicate(
         &mut self,
         instruction: Instruction,
         further: Option<usize>,
         origin: Origin,
     ) -> Result<(), AllocError>
-        ensures code { AddsCode result self.old self.new (emission.twin_in instruction further) }
-        ensures origins { AddsOrigins result self.old self.new (replicate (length (emission.twin_in instruction further)) origin) }
+        ensures code { AddsCode result self.old self.new (emission.duplicate_in instruction further) }
+        ensures origins { AddsOrigins result self.old self.new (replicate (length (emission.duplicate_in instruction further)) origin) }
     {
         match further {
-            Some(slot) => self.push(twin(slot, instruction), origin),
+            Some(slot) => self.push(duplicate(slot, instruction), origin),
             None => Ok(()),
         }
     }
 
-    /// What an instruction becomes that is no call which is opened: itself with other places, and what stands in front of it.
+    /// Appends the replacement of an instruction that is no inlined call: the instructions put before it, then the instruction with its
+    /// targets moved.
     fn push_itself(
         &mut self,
         caller: &Caller,
@@ -183,8 +188,11 @@ impl Emission {
     ) -> Result<(), AllocError>
         requires known { IsKnown caller.now }
         requires fits { IsFit 0 instruction }
-        ensures code { AddsCode result self.old self.new (emission.own_part (place_in caller.now.places.now) instruction (front_by caller.now.plain.now caller.now.number caller.now.choice.now index instruction)) }
-        ensures origins { AddsOrigins result self.old self.new (replicate (emission.own_count (length (front_by caller.now.plain.now caller.now.number caller.now.choice.now index instruction))) origin) }
+        ensures code { AddsCode result self.old self.new (emission.own_part (place_in caller.now.places.now) instruction
+            (front_by caller.now.plain.now caller.now.number caller.now.choice.now index instruction)) }
+        ensures origins { AddsOrigins result self.old self.new
+            (replicate (emission.own_count (length (front_by caller.now.plain.now caller.now.number caller.now.choice.now index instruction)))
+            origin) }
     {
         self.push_wanted(
             caller.plain,
@@ -196,12 +204,13 @@ impl Emission {
         )?;
         let further = caller
             .choice
-            .twin_at(caller.plain, caller.number, index, instruction);
-        self.push_twin(instruction, further, origin)?;
+            .duplicate_at(caller.plain, caller.number, index, instruction);
+        self.push_duplicate(instruction, further, origin)?;
         self.push(moved(0, caller.places, instruction), origin)
     }
 
-    /// What an instruction becomes: the code of a call that is opened, or itself with other places. Or the rest of that code.
+    /// Appends the replacement of an instruction: the code of an inlined call, or the instruction itself. If `in_line` is false, appends
+    /// the out-of-line part of an inlined call's code, if the instruction is one.
     fn push_part(
         &mut self,
         alloc: Global,
@@ -212,8 +221,13 @@ impl Emission {
     ) -> Result<(), AllocError>
         requires known { IsKnown caller.now }
         requires at { At (routine_at caller.now.plain.now caller.now.number).code index instruction }
-        ensures code { AddsCode result self.old self.new (emission.part caller.now.plain.now caller.now.number (place_in caller.now.places.now) (place_in caller.now.rests.now) in_line index instruction (chosen_call instruction (place_in caller.now.choice.now.chosen.items index)) (front_by caller.now.plain.now caller.now.number caller.now.choice.now index instruction)) }
-        ensures origins { AddsOrigins result self.old self.new (emission.part_origins caller.now.plain.now caller.now.number in_line index (chosen_call instruction (place_in caller.now.choice.now.chosen.items index)) (length (front_by caller.now.plain.now caller.now.number caller.now.choice.now index instruction))) }
+        ensures code { AddsCode result self.old self.new (emission.part caller.now.plain.now caller.now.number (place_in caller.now.places.now)
+            (place_in caller.now.rests.now) in_line index instruction (chosen_call instruction (place_in caller.now.choice.now.chosen.items index))
+            (front_by caller.now.plain.now caller.now.number caller.now.choice.now index instruction)) }
+        ensures origins { AddsOrigins result self.old self.new
+            (emission.part_origins caller.now.plain.now caller.now.number in_line index
+            (chosen_call instruction (place_in caller.now.choice.now.chosen.items index))
+            (length (front_by caller.now.plain.now caller.now.number caller.now.choice.now index instruction))) }
     {
         let function = caller.number;
         let origin = Origin { function, index };
@@ -224,7 +238,7 @@ impl Emission {
                     call,
                     shift: caller.plain.function(function).slots,
                     results: callee.results,
-                    behind: place_in(caller.places, index + 1),
+                    following: place_in(caller.places, index + 1),
                     rest: place_in(caller.rests, index),
                 };
                 let here = place_in(caller.places, index);
@@ -235,7 +249,7 @@ impl Emission {
         }
     }
 
-    /// What the instructions of a function become, or the rest of it.
+    /// Appends the replacements of the instructions of a function: the in-line code, or the out-of-line code.
     pub(crate) fn push_parts(
         &mut self,
         alloc: Global,
@@ -243,8 +257,13 @@ impl Emission {
         in_line: bool,
     ) -> Result<(), AllocError>
         requires { IsKnown caller.now }
-        ensures code { AddsCode result self.old self.new (emission.opened_code caller.now.plain.now caller.now.number caller.now.choice.now.chosen.items (front_by caller.now.plain.now caller.now.number caller.now.choice.now) (place_in caller.now.places.now) (place_in caller.now.rests.now) in_line 0 (routine_at caller.now.plain.now caller.now.number).code) }
-        ensures origins { AddsOrigins result self.old self.new (emission.opened_origins caller.now.plain.now caller.now.number caller.now.choice.now.chosen.items (front_by caller.now.plain.now caller.now.number caller.now.choice.now) in_line 0 (routine_at caller.now.plain.now caller.now.number).code) }
+        ensures code { AddsCode result self.old self.new (emission.opened_code caller.now.plain.now caller.now.number
+            caller.now.choice.now.chosen.items (front_by caller.now.plain.now caller.now.number caller.now.choice.now)
+            (place_in caller.now.places.now) (place_in caller.now.rests.now) in_line 0 (routine_at caller.now.plain.now caller.now.number).code) }
+        ensures origins { AddsOrigins result self.old self.new
+            (emission.opened_origins caller.now.plain.now caller.now.number caller.now.choice.now.chosen.items
+            (front_by caller.now.plain.now caller.now.number caller.now.choice.now) in_line 0
+            (routine_at caller.now.plain.now caller.now.number).code) }
     {
         let function = caller.plain.function(caller.number);
         for index in 0..function.code.len() {

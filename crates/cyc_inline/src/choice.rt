@@ -1,4 +1,4 @@
-//! Which calls of a function are opened, and which of its instructions have a twin or leads.
+//! Chooses the calls of a function that are inlined, and its duplicated and hoisted instructions.
 ghost use Rattle.std.specs.Prelude.{◌≡◌, ◌+◌, ◌*◌, ◌<◌, ◌≤◌, ◌⊎◌, Some, [], length, IfOk, IfSome, OnOk};
 ghost use Rattle.cyc_plain.specs.inside.Program.{routine_at, routine_of};
 ghost use Rattle.cyc_plain.specs.inside.Straight.{At};
@@ -7,43 +7,44 @@ ghost use Rattle.cyc_plain.specs.declared.limits.TheConstants as plain_limits;
 ghost use Rattle.cyc_inline.specs.declared.limits.TheConstants as limits;
 ghost use Rattle.cyc_inline.specs.declared.site.Call.{Call};
 ghost use Rattle.cyc_inline.specs.inside.Sites.{chosen_call, place_in};
-ghost use Rattle.cyc_inline.specs.inside.Emission.{AreChosen, AreLeafs, IsChosenBy, IsNeed, IsSmallCall, call_size, front_by, leads_by, twin_by};
+ghost use Rattle.cyc_inline.specs.inside.Emission.{AreChosen, AreLeafs, IsChosenBy, IsNeed, IsSmallCall, call_size, front_by, all_hoisted_by, duplicate_by};
 
+use crate::duplicating::{duplicate_slot, hoisted_count};
 use crate::limits::MOST_GROWTH;
-use crate::needing::Twins;
+use crate::needing::Duplicates;
 use crate::site::{Call, chosen_call, inside_size};
 use crate::tables::place_in;
-use crate::twinning::{lead_count, twin_slot};
 use cyc_plain::{Function, Instruction, LAYOUT_WORDS, MOST_FRAME_WORDS, Plain};
 use std::alloc::{AllocError, Global};
 
-/// What the caller needs for a call that may be opened.
+/// The resources that the caller needs to inline a call.
 #[derive(Clone, Copy)]
 pub(crate) struct Need {
-    /// So many slots.
+    /// The number of slots.
     pub(crate) slots: usize,
-    /// So many instructions.
+    /// The number of instructions.
     pub(crate) size: usize,
-    /// So many of the callee's instructions stand in line.
+    /// The number of the callee's instructions that stand in line.
     pub(crate) line: usize,
 }
 
-/// The calls of a function that are opened, and its instructions that have a twin or leads.
+/// The calls of a function that are inlined, and its duplicated and hoisted instructions.
 #[derive(Drop)]
 pub(crate) struct Choice {
-    /// For each of its instructions how many of the callee's stand in line, if it is such a call, and else 0.
+    /// For each instruction, the number of the callee's instructions that stand in line if it is an inlined call, else 0.
     pub(crate) chosen: Vec<usize>,
-    /// For each of them the slot that is wanted for its twin. It has one where that is a further slot, and a twin may stand.
-    pub(crate) twins: Vec<usize>,
-    /// For each of them what is wanted in front of it.
-    pub(crate) leads: Vec<Vec<Instruction>>,
-    /// How many slots it has with those of the functions that are called there, and those of the twins.
+    /// For each instruction, the slot wanted for its duplicate. The duplicate is made only if that is an extra slot and the instruction may
+    /// be duplicated.
+    pub(crate) duplicates: Vec<usize>,
+    /// For each instruction, the instructions that should be hoisted before it.
+    pub(crate) all_hoisted: Vec<Vec<Instruction>>,
+    /// The number of slots, including those of the inlined callees and the duplicates.
     pub(crate) slots: usize,
-    /// How many instructions stand for these calls.
+    /// The number of instructions that replace the inlined calls.
     pub(crate) growth: usize,
 }
 
-/// How many instructions stand for a call that is opened, in its place or behind the caller's code.
+/// Returns the number of instructions that replace an inlined call, in its place or out of line.
 pub(crate) fn call_size(plain: &Plain, in_line: bool, call: Call) -> usize
     requires plain { IsPlain plain.now }
     requires call { IsSmallCall plain.now call }
@@ -55,7 +56,7 @@ pub(crate) fn call_size(plain: &Plain, in_line: bool, call: Call) -> usize
     if in_line { call.count + 1 + size } else { size }
 }
 
-/// How many of the callee's instructions stand in line, if the instruction is a call of a leaf, and else 0.
+/// Returns the number of the callee's instructions that stand in line if the instruction is a call of a leaf, else 0.
 fn line_of(leafs: &[usize], instruction: Instruction) -> usize
     ensures { (call : Call) → chosen_call instruction result ≡ Some call → result ≡ place_in leafs.now call.callee }
 {
@@ -65,7 +66,7 @@ fn line_of(leafs: &[usize], instruction: Instruction) -> usize
     }
 }
 
-/// What a function needs for one of its instructions, if that is a call that may be opened.
+/// Returns the slots that a function needs for one of its instructions, if that is a call that may be inlined.
 fn need_of(plain: &Plain, leafs: &[usize], number: usize, instruction: Instruction) -> Option<Need>
     requires plain { IsPlain plain.now }
     requires leafs { AreLeafs plain.now leafs.now }
@@ -93,7 +94,7 @@ fn need_of(plain: &Plain, leafs: &[usize], number: usize, instruction: Instructi
 }
 
 impl Choice {
-    /// No call of a function with so many slots.
+    /// Returns the choice of no call, for a function with this many slots.
     fn new(alloc: Global, slots: usize) -> Choice
         ensures chosen { result.chosen.items ≡ [] }
         ensures slots { result.slots ≡ slots }
@@ -101,14 +102,14 @@ impl Choice {
     {
         Choice {
             chosen: Vec::new(alloc),
-            twins: Vec::new(alloc),
-            leads: Vec::new(alloc),
+            duplicates: Vec::new(alloc),
+            all_hoisted: Vec::new(alloc),
             slots,
             growth: 0,
         }
     }
 
-    /// One instruction more. A call that may be opened is, if the function does not grow too much.
+    /// Adds one instruction. A call that may be inlined is chosen if the function does not grow too much.
     fn add(&mut self, need: Option<Need>) -> Result<(), AllocError>
         requires { self.now.growth ≤ limits.MOST_GROWTH }
         ensures { OnOk result (IsChosenBy self.old self.new need) }
@@ -125,8 +126,8 @@ impl Choice {
         Ok(())
     }
 
-    /// The slot of an instruction's twin, if it has one.
-    pub(crate) fn twin_at(
+    /// Returns the slot of an instruction's duplicate, if it has one.
+    pub(crate) fn duplicate_at(
         &self,
         plain: &Plain,
         number: usize,
@@ -134,19 +135,19 @@ impl Choice {
         instruction: Instruction,
     ) -> Option<usize>
         requires { number < length plain.now.functions }
-        ensures { result ≡ twin_by plain.now number self.now index instruction }
+        ensures { result ≡ duplicate_by plain.now number self.now index instruction }
     {
         let given_slots = plain.function(number).slots;
-        twin_slot(
+        duplicate_slot(
             given_slots,
             self.slots,
             instruction,
-            place_in(&self.twins, index),
+            place_in(&self.duplicates, index),
         )
     }
 
-    /// How many leads an instruction has.
-    fn leads_at(
+    /// Returns the number of hoisted instructions before an instruction.
+    fn all_hoisted_at(
         &self,
         plain: &Plain,
         number: usize,
@@ -154,18 +155,18 @@ impl Choice {
         instruction: Instruction,
     ) -> usize
         requires { number < length plain.now.functions }
-        ensures value { result ≡ length (leads_by plain.now number self.now index instruction) }
-        ensures few { result ≤ limits.MOST_LEADS }
+        ensures value { result ≡ length (all_hoisted_by plain.now number self.now index instruction) }
+        ensures few { result ≤ limits.MOST_HOISTED }
     {
         let globals = plain.globals().len();
         let given_slots = plain.function(number).slots;
-        match self.leads.get(index) {
-            Some(wanted) => lead_count(globals, given_slots, self.slots, instruction, wanted),
+        match self.all_hoisted.get(index) {
+            Some(wanted) => hoisted_count(globals, given_slots, self.slots, instruction, wanted),
             None => 0,
         }
     }
 
-    /// How many instructions stand in front of one.
+    /// Returns the number of instructions put before an instruction.
     pub(crate) fn front_at(
         &self,
         plain: &Plain,
@@ -175,17 +176,17 @@ impl Choice {
     ) -> usize
         requires { number < length plain.now.functions }
         ensures value { result ≡ length (front_by plain.now number self.now index instruction) }
-        ensures few { result ≤ limits.MOST_LEADS + 1 }
+        ensures few { result ≤ limits.MOST_HOISTED + 1 }
     {
-        let leads = self.leads_at(plain, number, index, instruction);
-        match self.twin_at(plain, number, index, instruction) {
-            Some(_) => leads + 1,
-            None => leads,
+        let all_hoisted = self.all_hoisted_at(plain, number, index, instruction);
+        match self.duplicate_at(plain, number, index, instruction) {
+            Some(_) => all_hoisted + 1,
+            None => all_hoisted,
         }
     }
 }
 
-/// The larger of two numbers.
+/// Returns the larger of two numbers.
 pub(crate) fn larger(left: usize, right: usize) -> usize
     ensures left { left ≤ result }
     ensures right { right ≤ result }
@@ -194,7 +195,7 @@ pub(crate) fn larger(left: usize, right: usize) -> usize
     if left < right { right } else { left }
 }
 
-/// An instruction of a function.
+/// Returns an instruction of a function.
 pub(crate) fn instruction_at(function: &Function, index: usize) -> Instruction
     requires { index < length function.now.code.items }
     ensures { At (routine_of function.now).code index result }
@@ -202,7 +203,7 @@ pub(crate) fn instruction_at(function: &Function, index: usize) -> Instruction
     function.code[index]
 }
 
-/// Which calls of a function are opened.
+/// Chooses the calls of a function to inline.
 pub(crate) fn choose(
     alloc: Global,
     plain: &Plain,
@@ -225,18 +226,18 @@ pub(crate) fn choose(
     Ok(choice)
 }
 
-/// No call of a function, but twins and leads, if its frame stays small with their slots.
-pub(crate) fn choose_twins(
+/// Chooses duplicates and hoisted instructions but no call, if the frame stays small with the extra slots.
+pub(crate) fn choose_duplicates(
     alloc: Global,
     plain: &Plain,
     number: usize,
-    twins: Twins,
+    duplicates: Duplicates,
 ) -> Option<Choice>
     requires { number < length plain.now.functions }
     ensures { IfSome result (λ choice. AreChosen plain.now (routine_at plain.now number) choice.chosen.items choice.slots) }
 {
     let function = plain.function(number);
-    let slots = twins.slots;
+    let slots = duplicates.slots;
     if function.frame_count > MOST_FRAME_WORDS || slots < function.slots {
         return None;
     }
@@ -245,8 +246,8 @@ pub(crate) fn choose_twins(
     }
     Some(Choice {
         chosen: Vec::new(alloc),
-        twins: twins.wanted,
-        leads: twins.leads,
+        duplicates: duplicates.wanted,
+        all_hoisted: duplicates.all_hoisted,
         slots,
         growth: 0,
     })

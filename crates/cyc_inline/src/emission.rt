@@ -1,4 +1,4 @@
-//! Code that is being made, and what it is made of.
+//! Emitted code and the origins of its instructions.
 ghost use Rattle.std.specs.Prelude.{◌≡◌, ◌+◌, ◌<◌, ◌^◌, [], ◌∷◌, replicate};
 ghost use Rattle.cyc_inline.specs.inside.Emission.{AddsCode, AddsOrigins};
 ghost use Rattle.cyc_inline.specs.inside.Opened.{passing};
@@ -7,7 +7,7 @@ use crate::origin::Origin;
 use cyc_plain::{Instruction, Operand};
 use std::alloc::{AllocError, Global};
 
-/// The code of a function as far as it is made, and for each instruction what it is made of.
+/// The code of a function emitted so far, with the origin of each instruction.
 #[derive(Drop)]
 pub(crate) struct Emission {
     pub(crate) code: Vec<Instruction>,
@@ -25,7 +25,7 @@ impl Emission {
         }
     }
 
-    /// One instruction more.
+    /// Appends one instruction.
     pub(crate) fn push(
         &mut self,
         instruction: Instruction,
@@ -39,7 +39,7 @@ impl Emission {
         Ok(())
     }
 
-    /// Moves of so many words from one slot on to others, one by one.
+    /// Appends moves of `count` words from consecutive slots to others, one by one.
     pub(crate) fn push_passing(
         &mut self,
         destination: usize,

@@ -1,11 +1,12 @@
-//! Functions that nothing calls, of whose code a return is enough.
+//! Functions that nothing calls: their code is reduced to a return.
 ghost use Rattle.std.specs.Prelude.{◌≡◌, ℕ, Some, true, IfOk, length, map, slice_get};
 ghost use Rattle.std.specs.Vec.Iter.{into_iter_items, into_iter_len};
 ghost use Rattle.cyc_plain.specs.declared.instruction.Instruction.{Instruction};
 ghost use Rattle.cyc_plain.specs.inside.Program.{routine_of};
 ghost use Rattle.cyc_plain.specs.inside.Straight.{At};
 ghost use Rattle.cyc_inline.specs.inside.Changes.{first_of, note, notes_of, others};
-ghost use Rattle.cyc_inline.specs.inside.Emptied.{AreReached, IsEmptied, LeadsBelow, LeadsTo, StayReached, first_flag, first_return, is_reached, note_kept, note_with, notes_kept, other_flags, routine_kept, routine_with, routines_kept};
+ghost use Rattle.cyc_inline.specs.inside.Emptied.{AreReached, IsEmptied, LeadsBelow, LeadsTo, StayReached, first_flag, first_return, is_reached};
+ghost use Rattle.cyc_inline.specs.inside.Emptied.{note_kept, note_with, notes_kept, other_flags, routine_kept, routine_with, routines_kept};
 
 use crate::choice::instruction_at;
 use crate::inlining::Inlined;
@@ -16,7 +17,7 @@ use cyc_plain::{Function, Instruction, Plain};
 use std::alloc::{AllocError, Global};
 use std::vec::IntoIter;
 
-/// Notes the function that an instruction calls.
+/// Marks the function that an instruction calls as reached.
 fn note_call(instruction: Instruction, reached: &mut Vec<bool>)
     requires { LeadsBelow (length reached.old.items) instruction }
     ensures stay { StayReached reached.old.items reached.new.items }
@@ -27,7 +28,7 @@ fn note_call(instruction: Instruction, reached: &mut Vec<bool>)
     }
 }
 
-/// Notes the functions that the code of one calls.
+/// Marks the functions that a function's code calls as reached.
 fn note_calls(function: &Function, reached: &mut Vec<bool>)
     requires { (p : ℕ) (i : Instruction) → At (routine_of function.now).code p i → LeadsBelow (length reached.old.items) i }
     ensures stay { StayReached reached.old.items reached.new.items }
@@ -39,7 +40,7 @@ fn note_calls(function: &Function, reached: &mut Vec<bool>)
     }
 }
 
-/// None of a program's functions but the one that is called first.
+/// Returns the marks with only `main` reached.
 fn main_reached(alloc: Global, plain: &Plain) -> Result<Vec<bool>, AllocError>
     ensures many { IfOk result (λ reached. length reached.items ≡ length plain.now.functions) }
     ensures main { IfOk result (λ reached. is_reached reached.items plain.now.main ≡ true) }
@@ -49,7 +50,7 @@ fn main_reached(alloc: Global, plain: &Plain) -> Result<Vec<bool>, AllocError>
     Ok(reached)
 }
 
-/// Which functions of a program are called: the first one, and those that code calls.
+/// Returns the reached functions of a program: `main` and each function that some code calls.
 fn reached_in(alloc: Global, plain: &Plain) -> Result<Vec<bool>, AllocError>
     ensures { IfOk result (λ reached. AreReached plain.now reached.items) }
 {
@@ -86,7 +87,7 @@ fn next_flag(reached: &mut IntoIter<bool, Global>) -> bool
     }
 }
 
-/// The place of the first return in code, or the end of the code if it has none.
+/// Returns the place of the first return in code, or the end of the code if it has none.
 fn first_return(code: &[Instruction]) -> usize
     ensures { result ≡ first_return code.now }
 {
@@ -98,7 +99,7 @@ fn first_return(code: &[Instruction]) -> usize
     code.len()
 }
 
-/// The instruction at a place of code, if it is not its end.
+/// Returns the instruction at a place of code, if the place is not the end.
 fn instruction_in(code: &[Instruction], place: usize) -> Option<Instruction>
     ensures { result ≡ slice_get code.now place }
 {
@@ -108,7 +109,7 @@ fn instruction_in(code: &[Instruction], place: usize) -> Option<Instruction>
     }
 }
 
-/// What the instruction at a place of a function is made from.
+/// Returns the origin of the instruction at a place of a function.
 fn origin_of(opened: &Option<Opened>, number: usize, index: usize) -> Origin {
     if let Some(opened) = opened {
         if let Some(origin) = opened.origins.get(index) {
@@ -121,7 +122,7 @@ fn origin_of(opened: &Option<Opened>, number: usize, index: usize) -> Origin {
     }
 }
 
-/// A function like this one, of whose code one instruction is left, which is made from the one given.
+/// Returns the given function with only one of its instructions, whose origin is in the function given.
 fn emptied(
     alloc: Global,
     function: Function,
@@ -154,7 +155,7 @@ fn emptied(
     })
 }
 
-/// The function of this number, or a return alone if nothing calls it. A function that never returns keeps its code.
+/// Returns the function of this number, or only a return if nothing calls it. A function without a return keeps its code.
 fn keep(
     alloc: Global,
     function: Function,
@@ -178,7 +179,7 @@ fn keep(
     }
 }
 
-/// The functions, without the code of those that nothing calls.
+/// Returns the functions, without the code of those that nothing calls.
 fn keep_all(
     alloc: Global,
     given: Vec<Function>,
@@ -205,7 +206,7 @@ fn keep_all(
     })
 }
 
-/// The program without the code of functions that nothing calls.
+/// Returns the program without the code of functions that nothing calls.
 pub(crate) fn empty(alloc: Global, inlined: Inlined) -> Result<Inlined, AllocError>
     ensures { IfOk result (IsEmptied inlined) }
 {

@@ -1,36 +1,36 @@
-//! Plain programs in which small functions that call nothing stand in the place of their calls.
+//! Inlines small functions that call nothing.
 ghost use Rattle.std.specs.Prelude.{◌≡◌, ◌+◌, ◌<◌, ◌≤◌, ◌⊎◌, IfOk, length, max, sum_by};
 ghost use Rattle.cyc_plain.specs.declared.limits.TheConstants as limits;
 ghost use Rattle.cyc_plain.specs.inside.Program.{size};
 ghost use Rattle.cyc_plain.specs.inside.WellFormed.{IsPlain};
-ghost use Rattle.cyc_inline.specs.inside.Changes.{AreBegun, AreTold, IsChange, IsWork, left_of, notes_of};
+ghost use Rattle.cyc_inline.specs.inside.Changes.{AreBegun, AreReported, IsChange, IsWork, left_of, notes_of};
 ghost use Rattle.cyc_inline.specs.inside.Inlined.{IsInlined};
 
 use crate::emptying::empty;
 use crate::leaf::leafs_of;
-use crate::making::{Made, make, make_twins};
+use crate::making::{Made, make, make_duplicates};
 use crate::naming::Search;
 use crate::replacing::{Opened, replace};
 use crate::sizes::spare_of;
 use cyc_plain::Plain;
 use std::alloc::{AllocError, Global};
 
-/// A program that was inlined.
+/// The result of inlining a program.
 #[derive(Drop)]
 pub struct Inlined {
-    /// The program, which does what the one given does.
+    /// The inlined program, which behaves as the given one.
     pub plain: Plain,
-    /// For each of its functions what it was made from, if it is not the one given.
+    /// For each function, its origin if it was replaced.
     pub opened: Vec<Option<Opened>>,
 }
 
-/// What is done to the functions of a program.
+/// The change made to the functions of a program.
 #[derive(Clone, Copy)]
 pub(crate) enum Work<'a> {
-    /// Calls of leafs are opened: for each function how many of its instructions stand in line, if it is one, and else 0.
+    /// Inline calls of leafs: for each function, the number of its instructions that stand in line if it is a leaf, else 0.
     Calls { leafs: &'a [usize] },
-    /// Instructions get twins.
-    Twins,
+    /// Duplicate instructions.
+    Duplicates,
 }
 
 fn has_any(leafs: &[usize]) -> bool {
@@ -42,7 +42,7 @@ fn has_any(leafs: &[usize]) -> bool {
     false
 }
 
-/// The number of the first function to which there may be something to do, or how many functions there are.
+/// Returns the number of the first function that may change, or the number of functions.
 fn first_of(search: &mut Search, plain: &Plain, work: Work) -> Result<usize, AllocError> {
     match work {
         Work::Calls { leafs } => {
@@ -52,11 +52,11 @@ fn first_of(search: &mut Search, plain: &Plain, work: Work) -> Result<usize, All
                 Ok(plain.functions().len())
             }
         }
-        Work::Twins => search.first_needing(plain),
+        Work::Duplicates => search.first_needing(plain),
     }
 }
 
-/// By how many words a program may become larger, if there may be something to do: from this function on.
+/// Returns by how many words a program may grow, if the functions from `first` on may change.
 fn spare_for(plain: &Plain, first: usize, room: usize) -> usize
     ensures { (result ≡ 0) ⊎ ((sum_by size plain.now.functions + result ≤ room) × (sum_by size plain.now.functions + result ≤ limits.MOST_SIZE)) }
 {
@@ -67,7 +67,7 @@ fn spare_for(plain: &Plain, first: usize, room: usize) -> usize
     }
 }
 
-/// By how many words the functions behind one may become larger.
+/// Returns by how many words the functions after one may grow.
 fn left_of(change: &Option<Made>, spare: usize) -> usize
     ensures { result ≡ left_of change.now spare }
 {
@@ -77,7 +77,8 @@ fn left_of(change: &Option<Made>, spare: usize) -> usize
     }
 }
 
-/// A function that stands for the one of this number, if another does: to those before the first nothing is done.
+/// Returns the replacement of the function of this number, if there is one. Functions before the first changed function have no
+/// replacement.
 fn change_of(
     alloc: Global,
     search: &mut Search,
@@ -97,11 +98,11 @@ fn change_of(
     }
     match work {
         Work::Calls { leafs } => make(alloc, plain, leafs, number, spare),
-        Work::Twins => make_twins(alloc, search, plain, number, spare),
+        Work::Duplicates => make_duplicates(alloc, search, plain, number, spare),
     }
 }
 
-/// For each function of a program the one that stands for it, if that is another.
+/// Returns for each function of a program its replacement, if it has one.
 fn changes_of(
     alloc: Global,
     plain: &Plain,
@@ -125,7 +126,7 @@ fn changes_of(
     Ok(changes)
 }
 
-/// The program with this done to its functions.
+/// Returns the program with this change made to its functions.
 pub(crate) fn remake(
     alloc: Global,
     plain: Plain,
@@ -135,7 +136,7 @@ pub(crate) fn remake(
     requires { IsWork plain work }
     ensures inlined { IfOk result (λ made. IsInlined plain made.plain) }
     ensures size { IfOk result (λ made. sum_by size made.plain.functions ≤ max (sum_by size plain.functions) room) }
-    ensures told { IfOk result (λ made. AreTold plain made.plain (notes_of made.opened.items)) }
+    ensures reported { IfOk result (λ made. AreReported plain made.plain (notes_of made.opened.items)) }
 {
     let changes = changes_of(alloc, &plain, work, room)?;
     let parts = plain.into_parts();
@@ -146,12 +147,12 @@ pub(crate) fn remake(
     })
 }
 
-/// The program with small functions that call nothing in the place of their calls, and with no code of functions that
-/// nothing calls then. It has at most so many words of size as there is room for, or as it had before.
+/// Returns the program with calls of small leafs inlined and without the code of functions that nothing then calls. The program's size is
+/// at most `room` words, or at most its former size.
 pub fn inline(alloc: Global, plain: Plain, room: usize) -> Result<Inlined, AllocError>
     ensures inlined { IfOk result (λ made. IsInlined plain made.plain) }
     ensures size { IfOk result (λ made. sum_by size made.plain.functions ≤ max (sum_by size plain.functions) room) }
-    ensures told { IfOk result (λ made. AreTold plain made.plain (notes_of made.opened.items)) }
+    ensures reported { IfOk result (λ made. AreReported plain made.plain (notes_of made.opened.items)) }
 {
     let leafs = leafs_of(alloc, &plain)?;
     let work = Work::Calls { leafs: &leafs };

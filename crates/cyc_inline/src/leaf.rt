@@ -1,4 +1,4 @@
-//! Functions whose code may stand in the place of their calls: small ones that call nothing.
+//! Functions that may be inlined: small ones that call nothing.
 ghost use Rattle.std.specs.Prelude.{◌≡◌, ◌<◌, ◌≤◌, true, length, IfOk};
 ghost use Rattle.std.specs.List.{AllByRecursion};
 ghost use Rattle.cyc_plain.specs.inside.Program.{routine_at, routine_of};
@@ -11,7 +11,7 @@ use crate::limits::MOST_LEAF_CODE;
 use cyc_plain::{Function, Instruction, Plain};
 use std::alloc::{AllocError, Global};
 
-/// Whether an instruction may be one of a leaf's. A loop may not: what it takes is much more than a call.
+/// Returns true if an instruction may be part of a leaf. A back jump may not: a loop costs much more than the call.
 fn is_of_leaf(instruction: Instruction, index: usize) -> bool
     ensures { result ≡ true → is_of_leaf instruction ≡ true }
 {
@@ -40,7 +40,7 @@ fn are_of_leaf(function: &Function) -> bool
     true
 }
 
-/// Whether an instruction leads nowhere behind it.
+/// Returns true if control never falls through an instruction.
 fn is_leaving(instruction: Instruction) -> bool
     ensures { result ≡ leaves instruction }
 {
@@ -54,7 +54,7 @@ fn is_leaving(instruction: Instruction) -> bool
     }
 }
 
-/// Whether a function returns at an instruction.
+/// Returns true if a function returns at an instruction.
 pub(crate) fn returns(instruction: Instruction) -> bool
     ensures { result ≡ returns instruction }
 {
@@ -83,8 +83,8 @@ fn is_target(code: &[Instruction], place: usize) -> bool {
     false
 }
 
-/// How much of a leaf's code is to stand in line: all up to the last return that something leads to, so that this return
-/// goes on behind the call by itself. What raises exceptions stands behind it, and where nothing leads.
+/// Returns the number of a leaf's instructions that stand in line: all up to the last reachable return, which then falls through to the
+/// code after the call. Instructions that raise exceptions and unreachable ones are placed out of line.
 pub fn line_of(code: &[Instruction]) -> usize
     ensures { result ≤ length code.now }
 {
@@ -100,7 +100,7 @@ pub fn line_of(code: &[Instruction]) -> usize
     line
 }
 
-/// How many instructions of the function stand in line, if it is a leaf, and else 0.
+/// Returns the number of the function's instructions that stand in line if it is a leaf, else 0.
 fn leaf_line(function: &Function) -> usize
     ensures { 0 < result → IsLeaf (routine_of function.now) result }
 {
@@ -115,7 +115,7 @@ fn leaf_line(function: &Function) -> usize
     }
 }
 
-/// The same of the function of this number. The one that is called first is no leaf.
+/// Returns `leaf_line` of the function of this number. The function `main` is never a leaf.
 fn line_at(plain: &Plain, number: usize) -> usize
     requires { number < length plain.now.functions }
     ensures { 0 < result → IsLeaf (routine_at plain.now number) result }
@@ -127,7 +127,7 @@ fn line_at(plain: &Plain, number: usize) -> usize
     }
 }
 
-/// Of each function of a program how many of its instructions stand in line, if it is a leaf, and else 0.
+/// Returns for each function the number of its instructions that stand in line if it is a leaf, else 0.
 pub(crate) fn leafs_of(alloc: Global, plain: &Plain) -> Result<Vec<usize>, AllocError>
     ensures { IfOk result (λ lines. AreLeafs plain.now lines.items) }
 {

@@ -1,13 +1,14 @@
-//! Inlining: small functions that call nothing stand in the place of their calls. And expressions get slots of their own.
+//! Inlining of small functions that call nothing, and slots of their own for recomputed expressions.
 #![tactic(auto)]
 
 mod caller;
 mod choice;
+mod duplicating;
 mod emission;
 mod emptying;
 mod expressions;
+mod hoisting;
 mod inlining;
-mod leading;
 mod leaf;
 mod limits;
 mod making;
@@ -20,7 +21,6 @@ mod shapes;
 mod site;
 mod sizes;
 mod tables;
-mod twinning;
 mod writing;
 
 pub use expressions::name_expressions;

@@ -1,10 +1,10 @@
-//! How much is inlined.
+//! The limits of inlining.
 
-/// A function whose code stands in the place of its calls has at most so many instructions.
+/// The most instructions that an inlined function may have.
 pub(crate) const MOST_LEAF_CODE: usize = 32;
 
-/// A function grows by at most so many instructions.
+/// The most instructions by which a function may grow.
 pub(crate) const MOST_GROWTH: usize = 4000;
 
-/// So many expressions are computed in front of a loop at most.
-pub(crate) const MOST_LEADS: usize = 8;
+/// The most expressions hoisted before one loop.
+pub(crate) const MOST_HOISTED: usize = 8;

@@ -1,4 +1,4 @@
-//! Functions that stand for those of a program, with some of their calls opened, or with twins of instructions.
+//! Replacements of a program's functions, with some calls inlined or some instructions duplicated.
 ghost use Rattle.std.specs.Prelude.{◌+◌, ◌<◌, ◌≤◌, length, IfOk, IfSome};
 ghost use Rattle.cyc_plain.specs.inside.Program.{routine_at, routine_of, size};
 ghost use Rattle.cyc_plain.specs.inside.WellFormed.{IsPlain};
@@ -6,27 +6,27 @@ ghost use Rattle.cyc_inline.specs.inside.Emission.{AreChosen, AreLeafs, IsMade};
 ghost use Rattle.cyc_inline.specs.inside.Changes.{IsChange};
 
 use crate::caller::{Caller, opened_places};
-use crate::choice::{Choice, choose, choose_twins, larger};
+use crate::choice::{Choice, choose, choose_duplicates, larger};
 use crate::emission::Emission;
 use crate::naming::Search;
-use crate::needing::twins_of;
+use crate::needing::duplicates_of;
 use crate::origin::Origin;
 use crate::sizes::code_size;
 use crate::tables::place_in;
 use cyc_plain::{Function, Instruction, LAYOUT_WORDS, MOST_SIZE, Plain};
 use std::alloc::{AllocError, Global};
 
-/// A function that stands for one of a program.
+/// A replacement of a function.
 #[derive(Drop)]
 pub(crate) struct Made {
     pub(crate) function: Function,
-    /// What each of its instructions is made of.
+    /// The origin of each of the replacement's instructions.
     pub(crate) origins: Vec<Origin>,
-    /// By how many words the functions behind it may become larger.
+    /// The number of words by which the functions after the replaced one may grow.
     pub(crate) spare: usize,
 }
 
-/// The function with these calls opened, and these twins.
+/// Returns the function with these calls inlined and these instructions duplicated.
 fn opened(
     alloc: Global,
     plain: &Plain,
@@ -67,8 +67,8 @@ fn opened(
     })
 }
 
-/// By how many words the other functions may become larger behind a function, if it does not become too large itself.
-fn spare_behind(given: &Function, made: &Function, spare: usize) -> Option<usize>
+/// Returns by how many words the functions after this one may grow, unless this one grows too much.
+fn spare_after(given: &Function, made: &Function, spare: usize) -> Option<usize>
     ensures { IfSome result (λ left. size (routine_of made.now) + left ≤ size (routine_of given.now) + spare) }
 {
     let before = code_size(&given.code, MOST_SIZE)?;
@@ -76,11 +76,11 @@ fn spare_behind(given: &Function, made: &Function, spare: usize) -> Option<usize
         return None;
     }
     let most = before + spare;
-    let behind = code_size(&made.code, most)?;
-    Some(most - behind)
+    let following = code_size(&made.code, most)?;
+    Some(most - following)
 }
 
-/// A function that stands for the one of this number, with these calls opened and these twins, if there is room for its code.
+/// Returns the function of this number with these calls inlined and these instructions duplicated, if its code fits the size limit.
 fn opened_in(
     alloc: Global,
     plain: &Plain,
@@ -94,14 +94,14 @@ fn opened_in(
     ensures { IfOk result (IsChange plain.now number spare) }
 {
     let mut made = opened(alloc, plain, number, choice, spare)?;
-    if let Some(left) = spare_behind(plain.function(number), &made.function, spare) {
+    if let Some(left) = spare_after(plain.function(number), &made.function, spare) {
         made.spare = left;
         return Ok(Some(made));
     }
     Ok(None)
 }
 
-/// Whether a function calls one that may be opened.
+/// Returns true if a function calls one that may be inlined.
 fn has_site(function: &Function, leafs: &[usize]) -> bool {
     for instruction in &function.code {
         if let Instruction::Call { function, .. } = *instruction {
@@ -113,8 +113,7 @@ fn has_site(function: &Function, leafs: &[usize]) -> bool {
     false
 }
 
-/// A function that stands for the one of this number, with calls opened, if it has such calls and there is room for their
-/// code. Where there is none, the one of this number stands for itself.
+/// Returns the function of this number with calls inlined, or none if no call of it can be inlined or its code would be too large.
 pub(crate) fn make(
     alloc: Global,
     plain: &Plain,
@@ -139,9 +138,8 @@ pub(crate) fn make(
     }
 }
 
-/// A function that stands for the one of this number, with twins, if it gets any and there is room for their code. Where
-/// there is none, the one of this number stands for itself.
-pub(crate) fn make_twins(
+/// Returns the function of this number with instructions duplicated, or none if nothing is duplicated or its code would be too large.
+pub(crate) fn make_duplicates(
     alloc: Global,
     search: &mut Search,
     plain: &Plain,
@@ -152,8 +150,8 @@ pub(crate) fn make_twins(
     requires number { number < length plain.now.functions }
     ensures { IfOk result (IsChange plain.now number spare) }
 {
-    if let Some(twins) = twins_of(alloc, search, plain, number, plain.function(number))? {
-        if let Some(choice) = choose_twins(alloc, plain, number, twins) {
+    if let Some(duplicates) = duplicates_of(alloc, search, plain, number, plain.function(number))? {
+        if let Some(choice) = choose_duplicates(alloc, plain, number, duplicates) {
             return opened_in(alloc, plain, number, &choice, spare);
         }
     }

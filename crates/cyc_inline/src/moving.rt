@@ -1,4 +1,4 @@
-//! Instructions with other slots and other places.
+//! Instructions with shifted slots and moved jump targets.
 ghost use Rattle.std.specs.Prelude.{◌≡◌, ◌+◌, ◌<◌, ◌^◌};
 ghost use Rattle.cyc_inline.specs.inside.Emission.{IsFit, IsFitOperand};
 ghost use Rattle.cyc_inline.specs.inside.Opened as opened;
@@ -19,7 +19,7 @@ fn shifted_operand(shift: usize, operand: Operand) -> Operand
     }
 }
 
-/// An instruction with other slots and other places.
+/// Returns an instruction with its slots shifted and its jump targets moved.
 pub(crate) fn moved(shift: usize, places: &[usize], instruction: Instruction) -> Instruction
     requires { IsFit shift instruction }
     ensures { result ≡ opened.moved shift (sites.place_in places.now) instruction }

@@ -1,94 +1,93 @@
-//! Which expressions of a function get slots of their own: those that are computed again behind a place where the slot that
-//! had them got another word, and those that a loop does not change, which are computed in front of it too. Nothing is
-//! promised of it: what is wanted is checked where it is used.
-use crate::leading::Candidate;
+//! Chooses the expressions of a function that get slots of their own: those that are computed again after their slot was overwritten, and
+//! loop invariants, which are hoisted too. Unverified: the checker validates each choice.
+use crate::hoisting::Candidate;
 use crate::shapes::{LOAD, LOAD_GLOBAL, Shape, Value, bucket_of, is_same_shape, is_slot, kind_of};
 use crate::writing::{Slots, pinned_by, slots_from, stores, written_by};
 use cyc_plain::{BinaryOperator, Function, Instruction, Operand, Plain};
 use std::alloc::{AllocError, Global};
 
-/// So many expressions of one bucket are compared at most.
+/// The most expressions of one bucket that are compared.
 const MOST_COMPARED: usize = 8;
 
-/// A function of so many instructions at most is small: what it computes may be worth a slot outside of loops too.
+/// The most instructions of a small function. In a small function an expression may get a slot outside loops too.
 const MOST_SMALL: usize = 256;
 
-/// An expression. Times are numbers of instructions, from 1 on.
 #[derive(Clone, Copy)]
 pub(crate) struct Expression {
     pub(crate) shape: Shape,
-    /// The first instruction that computes it.
+    /// The first instruction that computes the expression.
     pub(crate) index: usize,
-    /// The number of the one before it in its bucket, and 1 more, or 0.
+    /// The number plus 1 of the previous expression in this expression's bucket, or 0.
     before: usize,
-    /// When it was computed last, and since when it has this value.
+    /// The time of the expression's last computation, and the time since which the expression has this value.
     seen_at: usize,
     since: usize,
-    /// The slot that got it last.
+    /// The slot that received the expression last.
     holder: usize,
-    /// Whether it was computed again where the holder had another word, or is computed in front of a loop.
+    /// True if the expression was computed again after the slot that held it was overwritten, or is hoisted before a loop.
     pub(crate) is_needed: bool,
-    /// The slot of its own, or 0.
+    /// The expression's own slot, or 0.
     pub(crate) slot: usize,
 }
 
-/// What is known of a slot.
+/// The knowledge about a slot.
 #[derive(Clone, Copy)]
 struct Held {
-    /// When it was written last, and what it has had since.
+    /// The time of the last write to the slot, and the value that the slot has held since.
     written: usize,
     value: Value,
-    /// Whether its address is taken.
+    /// True if the slot's address is taken.
     is_pinned: bool,
 }
 
-/// A slot that was not written.
+/// A slot that was never written.
 const UNWRITTEN: Held = Held {
     written: 0,
     value: Value::Word { word: 0 },
     is_pinned: false,
 };
 
-/// What is known of an instruction.
+/// The knowledge about an instruction.
 #[derive(Clone, Copy)]
 pub(crate) struct Place {
-    /// The last instruction that jumps back to it, and 1 more, or 0.
+    /// The number plus 1 of the last instruction that jumps back to this one, or 0.
     end: usize,
-    /// The number of its expression, and 1 more, or 0.
+    /// The number plus 1 of the instruction's expression, or 0.
     pub(crate) seen: usize,
-    /// The number of the newest expression of the bucket of its index, and 1 more, or 0. There are as many buckets as instructions.
+    /// The number plus 1 of the newest expression in the bucket with the instruction's index, or 0. The table has as many buckets as the
+    /// function has instructions.
     newest: usize,
 }
 
-/// An instruction that was not looked at.
+/// An instruction not visited yet.
 const UNSEEN: Place = Place {
     end: 0,
     seen: 0,
     newest: 0,
 };
 
-/// What is known of a function. It is kept from one function to the next, so that its lists have room.
+/// The known facts about a function. The lists of the facts are reused for the next function, to save allocation.
 #[derive(Drop)]
 pub(crate) struct Search {
     held: Vec<Held>,
     pub(crate) places: Vec<Place>,
     pub(crate) expressions: Vec<Expression>,
-    /// What may be computed in front of a loop that is not over, and what is computed in front of one.
+    /// Candidates to hoist out of a loop that has not ended, and the hoisted expressions.
     pub(crate) candidates: Vec<Candidate>,
-    pub(crate) leads: Vec<Candidate>,
-    /// When memory was changed last, and since when names are good.
+    pub(crate) all_hoisted: Vec<Candidate>,
+    /// The time of the last change of memory, and the time since which known values are valid.
     pub(crate) stored: usize,
     begun: usize,
-    /// Up to which instruction an expression is worth a slot: the last one of the loops so far, or of a small function.
+    /// The last instruction at which an expression is worth a slot: the last one of the loops so far, or of a small function.
     worth: usize,
-    /// The last instruction of the loops so far, and 1 more, or 0.
+    /// The number plus 1 of the last instruction of the loops so far, or 0.
     looped: usize,
-    /// From this instruction on nothing comes to be needed: it stands behind every loop, and behind a small function.
+    /// The first instruction from which no expression becomes needed: it follows every loop and any small function.
     pub(crate) decided: usize,
-    /// Whether an expression is needed.
+    /// True if some expression is needed.
     pub(crate) has_needed: bool,
-    /// The number of the function that this is known of, and 1 more, or 0 where that is not told.
-    pub(crate) told: usize,
+    /// The number plus 1 of the function that this knowledge describes, or 0 if unknown.
+    pub(crate) reported: usize,
 }
 
 pub(crate) fn is_small(function: &Function) -> bool {
@@ -102,20 +101,20 @@ impl Search {
             places: Vec::new(alloc),
             expressions: Vec::new(alloc),
             candidates: Vec::new(alloc),
-            leads: Vec::new(alloc),
+            all_hoisted: Vec::new(alloc),
             stored: 0,
             begun: 1,
             worth: 0,
             looped: 0,
             decided: 0,
             has_needed: false,
-            told: 0,
+            reported: 0,
         }
     }
 
     // ---- the tables of a function
 
-    /// Forgets the function before, and begins with another.
+    /// Resets the tables for another function.
     pub(crate) fn begin(&mut self, function: &Function) -> Result<(), AllocError> {
         self.held.clear();
         self.held.resize(function.slots, UNWRITTEN)?;
@@ -123,7 +122,7 @@ impl Search {
         self.places.resize(function.code.len(), UNSEEN)?;
         self.expressions.clear();
         self.candidates.clear();
-        self.leads.clear();
+        self.all_hoisted.clear();
         self.stored = 0;
         self.begun = 1;
         self.worth = if is_small(function) {
@@ -155,7 +154,7 @@ impl Search {
         }
     }
 
-    /// A loop begins with an instruction, and ends in front of another.
+    /// Notes that a loop begins at one instruction and ends before another.
     fn end_at(&mut self, head: usize, end: usize) {
         if let Some(place) = self.places.get_mut(head) {
             place.end = end;
@@ -171,7 +170,7 @@ impl Search {
         }
     }
 
-    /// The last instruction that jumps back to this one, and 1 more, or 0.
+    /// Returns the number plus 1 of the last instruction that jumps back to this one, or 0.
     pub(crate) fn end_of(&self, index: usize) -> usize {
         match self.places.get(index) {
             Some(place) => place.end,
@@ -186,7 +185,7 @@ impl Search {
         }
     }
 
-    /// When a slot was written last.
+    /// Returns the time of the last write to a slot.
     pub(crate) fn written(&self, slot: usize) -> usize {
         match self.held.get(slot) {
             Some(held) => held.written,
@@ -196,7 +195,7 @@ impl Search {
 
     // ---- values
 
-    /// When what a value stands for was changed last.
+    /// Returns the time of the last change of what a value denotes.
     fn changed(&self, value: Value) -> usize {
         match value {
             Value::Word { .. } => 0,
@@ -208,7 +207,7 @@ impl Search {
         }
     }
 
-    /// What a slot of which this is known has: what it got last, if that is as it was, or else itself.
+    /// Returns the value of a slot: the value last written if that is still valid, else the slot itself.
     fn value_by(&self, held: &Held, slot: usize) -> Value {
         if held.written >= self.begun && self.changed(held.value) <= held.written {
             held.value
@@ -217,7 +216,7 @@ impl Search {
         }
     }
 
-    /// What a slot has that nothing else reaches.
+    /// Returns the value of a slot whose address is not taken.
     fn free_in(&self, slot: usize) -> Option<Value> {
         let held = self.held.get(slot)?;
         if held.is_pinned {
@@ -227,7 +226,7 @@ impl Search {
         }
     }
 
-    /// What an operand is that nothing else reaches.
+    /// Returns the value of an operand that no address reaches.
     fn free_of(&self, operand: Operand) -> Option<Value> {
         match operand {
             Operand::Word { word } => Some(Value::Word { word }),
@@ -235,7 +234,7 @@ impl Search {
         }
     }
 
-    /// What an operand is. A slot that something else reaches got nothing that is known.
+    /// Returns the value of an operand. Nothing is known of a slot whose address is taken.
     fn value_of(&self, operand: Operand) -> Value {
         match operand {
             Operand::Word { word } => Value::Word { word },
@@ -246,7 +245,7 @@ impl Search {
         }
     }
 
-    /// What an operator computes for a slot that nothing else reaches.
+    /// Returns the expression that an operator computes for a slot whose address is not taken.
     fn shape_of(
         &self,
         operator: BinaryOperator,
@@ -264,7 +263,7 @@ impl Search {
         }
     }
 
-    /// What a load from an address computes.
+    /// Returns the expression of a load from an address.
     fn loaded_from(&self, address: Operand, offset: u32) -> Shape {
         Shape {
             kind: LOAD,
@@ -273,7 +272,7 @@ impl Search {
         }
     }
 
-    /// When what an expression is made of was changed last.
+    /// Returns the time of the last change of an expression's operands.
     fn made(&self, shape: Shape) -> usize {
         if shape.kind == LOAD_GLOBAL {
             return self.stored;
@@ -286,9 +285,9 @@ impl Search {
         }
     }
 
-    // ---- what is computed
+    // ---- computed expressions
 
-    /// The number of an expression that was seen, and 1 more, or 0: the first of this bucket that has this shape.
+    /// Returns the number plus 1 of the first known expression of this bucket that has this shape, or 0.
     fn find(&self, shape: Shape, newest: usize) -> usize {
         let mut at = newest;
         for _ in 0..MOST_COMPARED {
@@ -310,7 +309,7 @@ impl Search {
         0
     }
 
-    /// An expression of this number is computed once more, for a slot.
+    /// Notes that the expression of this number is computed again, for a slot.
     fn see_again(&mut self, number: usize, made: usize, slot: usize, time: usize) {
         let written = match self.expressions.get(number) {
             Some(expression) => self.written(expression.holder),
@@ -331,7 +330,7 @@ impl Search {
         self.has_needed = self.has_needed || is_needed;
     }
 
-    /// An expression is computed, for a slot. Answers its number, and 1 more.
+    /// Notes that an expression is computed for a slot. Returns the expression's number plus 1.
     fn see(&mut self, shape: Shape, index: usize, slot: usize) -> Result<usize, AllocError> {
         let time = index.wrapping_add(1);
         let bucket = bucket_of(shape, self.places.len());
@@ -362,7 +361,7 @@ impl Search {
         Ok(at)
     }
 
-    /// An instruction computes or loads this for a slot. Within a loop it may be computed in front of that.
+    /// Notes that an instruction computes or loads an expression for a slot. Within a loop the expression becomes a candidate to hoist.
     fn compute(&mut self, shape: Shape, index: usize, slot: usize) -> Result<(), AllocError> {
         let time = index.wrapping_add(1);
         if self.is_pinned(slot) {
@@ -385,7 +384,7 @@ impl Search {
         Ok(())
     }
 
-    /// An expression of this number is needed.
+    /// Marks the expression of this number as needed.
     pub(crate) fn need(&mut self, number: usize) {
         if let Some(expression) = self.expressions.get_mut(number) {
             expression.is_needed = true;
@@ -393,9 +392,9 @@ impl Search {
         self.has_needed = true;
     }
 
-    // ---- what is written
+    // ---- writes
 
-    /// A slot is written, and has this value then.
+    /// Notes that a slot is written with this value.
     fn write(&mut self, slot: usize, value: Value, time: usize) {
         let mut is_pinned = true;
         if let Some(held) = self.held.get_mut(slot) {
@@ -410,7 +409,7 @@ impl Search {
         }
     }
 
-    /// The words of one slot after another come to others.
+    /// Notes that consecutive slots are copied to other slots.
     fn copy(&mut self, destination: usize, source: usize, count: usize, time: usize) {
         for word in 0..count {
             let slot = destination.wrapping_add(word);
@@ -422,7 +421,7 @@ impl Search {
         }
     }
 
-    /// The slots that an instruction writes have something new.
+    /// Notes that the slots that an instruction writes hold unknown values.
     fn renew(&mut self, slots: Slots, time: usize) {
         for word in 0..slots.count {
             let slot = slots.first.wrapping_add(word);
@@ -430,7 +429,7 @@ impl Search {
         }
     }
 
-    /// An operator gives a slot a word.
+    /// Records that an operator writes a slot.
     fn operate(
         &mut self,
         operator: BinaryOperator,
@@ -448,7 +447,7 @@ impl Search {
         }
     }
 
-    /// A slot gets the word at an address.
+    /// Notes that a slot receives the word at an address.
     fn load(
         &mut self,
         destination: usize,
@@ -460,7 +459,7 @@ impl Search {
         self.compute(shape, index, destination)
     }
 
-    /// What is known in front of an instruction: where a loop begins with it, no name is good.
+    /// Updates the knowledge before an instruction: if a loop begins there, no known value stays valid.
     fn come_to(&mut self, index: usize) {
         let end = self.end_of(index);
         if end > 0 {
@@ -470,7 +469,7 @@ impl Search {
         }
     }
 
-    /// One instruction more of this code.
+    /// Updates the knowledge by one instruction of this code.
     pub(crate) fn look(
         &mut self,
         plain: &Plain,
@@ -519,7 +518,7 @@ impl Search {
     }
 }
 
-/// What a load of a global computes.
+/// Returns the expression of a load of a global.
 fn loaded_global(global: usize) -> Shape {
     Shape {
         kind: LOAD_GLOBAL,

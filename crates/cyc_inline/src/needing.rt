@@ -1,18 +1,17 @@
-//! Of which functions expressions need slots of their own, and which slots these get.
+//! Decides in which functions expressions need slots of their own, and assigns these slots.
 use crate::naming::{Search, is_small};
 use cyc_plain::{Function, Instruction, LAYOUT_WORDS, MOST_FRAME_WORDS, Plain};
 use std::alloc::{AllocError, Global};
 
-/// How many slots a function has with those that its expressions get, for each of its instructions which of them its twin
-/// is for, or 0, and its leads.
+/// The number of slots including the extra ones, and for each instruction the slot of its duplicate (or 0) and its hoisted instructions.
 #[derive(Drop)]
-pub(crate) struct Twins {
+pub(crate) struct Duplicates {
     pub(crate) slots: usize,
     pub(crate) wanted: Vec<usize>,
-    pub(crate) leads: Vec<Vec<Instruction>>,
+    pub(crate) all_hoisted: Vec<Vec<Instruction>>,
 }
 
-/// Whether code jumps back.
+/// Returns true if code jumps back.
 fn has_loop(code: &[Instruction]) -> bool {
     for (index, instruction) in code.iter().enumerate() {
         match instruction {
@@ -28,7 +27,7 @@ fn has_loop(code: &[Instruction]) -> bool {
 }
 
 impl Search {
-    /// Looks at a function, up to where it is decided that nothing is needed. Answers whether an expression is needed.
+    /// Scans a function until no further expression can become needed. Returns true if the function needs a slot for an expression.
     fn look_at(&mut self, plain: &Plain, function: &Function) -> Result<bool, AllocError> {
         if function.frame_count > MOST_FRAME_WORDS {
             return Ok(false);
@@ -50,20 +49,20 @@ impl Search {
         Ok(self.has_needed)
     }
 
-    /// The number of a program's first function of which an expression is needed, or how many functions there are. What is
-    /// known of it is told then.
+    /// Returns the number of the first function that needs a slot for an expression, or the number of functions. The known facts about the
+    /// returned function are kept.
     pub(crate) fn first_needing(&mut self, plain: &Plain) -> Result<usize, AllocError> {
         let functions = plain.functions();
         for (number, function) in functions.iter().enumerate() {
             if self.look_at(plain, function)? {
-                self.told = number.wrapping_add(1);
+                self.reported = number.wrapping_add(1);
                 return Ok(number);
             }
         }
         Ok(functions.len())
     }
 
-    /// Expressions that are needed get slots, while a frame has room. Answers how many slots there are then.
+    /// Assigns slots to needed expressions while the frame has room. Returns the number of slots of the function after the assignment.
     fn give_slots(&mut self, slots: usize) -> usize {
         let mut next = slots;
         for number in 0..self.expressions.len() {
@@ -77,7 +76,7 @@ impl Search {
         next
     }
 
-    /// For each instruction the slot of its expression, or 0.
+    /// Returns for each instruction the slot of its expression, or 0.
     fn wanted(&self, alloc: Global) -> Result<Vec<usize>, AllocError> {
         let mut wanted = Vec::with_capacity(alloc, self.places.len())?;
         for place in &self.places {
@@ -93,16 +92,16 @@ impl Search {
     }
 }
 
-/// Which expressions of the function of this number get slots of their own, if some do.
-pub(crate) fn twins_of(
+/// Returns the duplicates and hoisted instructions of the function of this number, if it gets any.
+pub(crate) fn duplicates_of(
     alloc: Global,
     search: &mut Search,
     plain: &Plain,
     number: usize,
     function: &Function,
-) -> Result<Option<Twins>, AllocError> {
-    let is_told = search.told == number.wrapping_add(1);
-    if !is_told && !search.look_at(plain, function)? {
+) -> Result<Option<Duplicates>, AllocError> {
+    let is_reported = search.reported == number.wrapping_add(1);
+    if !is_reported && !search.look_at(plain, function)? {
         return Ok(None);
     }
     let slots = search.give_slots(function.slots);
@@ -110,10 +109,10 @@ pub(crate) fn twins_of(
         return Ok(None);
     }
     let wanted = search.wanted(alloc)?;
-    let leads = search.led(alloc, &function.code)?;
-    Ok(Some(Twins {
+    let all_hoisted = search.preceded(alloc, &function.code)?;
+    Ok(Some(Duplicates {
         slots,
         wanted,
-        leads,
+        all_hoisted,
     }))
 }

@@ -1,10 +1,10 @@
-//! Where the instructions of a program that was inlined come from.
+//! The origins of the instructions of an inlined program.
 
-/// An instruction of the program given, from which one or more instructions are made.
+/// An instruction of the given program, from which one or more instructions are made.
 #[derive(Clone, Copy, Debug, PartialEq, Eq)]
 pub struct Origin {
-    /// The number of its function.
+    /// The number of the origin's function.
     pub function: usize,
-    /// Its place in the function's code.
+    /// The origin's place in the code of its function.
     pub index: usize,
 }

@@ -1,4 +1,4 @@
-//! The functions of a program, of which some have others in their place.
+//! The functions of a program, some of which are replaced.
 ghost use Rattle.std.specs.Prelude.{◌≡◌, IfOk, length};
 ghost use Rattle.std.specs.Vec.Iter.{into_iter_items, into_iter_len};
 ghost use Rattle.cyc_inline.specs.inside.Changes.{first_of, function_of, note_of, noted, others, replaced};
@@ -9,23 +9,23 @@ use cyc_plain::Function;
 use std::alloc::{AllocError, Global};
 use std::vec::IntoIter;
 
-/// What a function was made from that stands in the place of the one given.
+/// The origin of a replaced function.
 #[derive(Drop)]
 pub struct Opened {
     /// The function that was given.
     pub given: Function,
-    /// What each instruction of the one that stands for it is made of.
+    /// The origin of each instruction of the replacement.
     pub origins: Vec<Origin>,
 }
 
-/// A function that stands in a program, and what it was made from, if it is not the one given.
+/// A function of the program, and its origin if it was replaced.
 #[derive(Drop)]
 pub(crate) struct Placed {
     pub(crate) function: Function,
     pub(crate) opened: Option<Opened>,
 }
 
-/// Functions that stand in a program, and for each what it was made from, if it is not the one given.
+/// The functions of the program, and for each its origin if it was replaced.
 #[derive(Drop)]
 pub(crate) struct Replaced {
     pub(crate) functions: Vec<Function>,
@@ -63,7 +63,7 @@ fn place(given: Function, change: Option<Made>) -> Placed
     }
 }
 
-/// The functions, with those that were made in the place of the ones they stand for.
+/// Returns the functions, each with its replacement in its place if it has one.
 pub(crate) fn replace(
     alloc: Global,
     given: Vec<Function>,

@@ -1,16 +1,16 @@
-//! What instructions compute or load, and of what, so that expressions can be told apart.
+//! The operation and operands of an instruction, used to compare expressions.
 use cyc_plain::BinaryOperator;
 
-/// From this kind on operators compare, up to the kinds of loads.
+/// The first kind of the comparison operators; the kinds of loads follow them.
 pub(crate) const COMPARED: usize = 10;
 
-/// The kind of what loads from an address, behind those of the operators.
+/// The kind of a load from an address, numbered after the kinds of the operators.
 pub(crate) const LOAD: usize = 16;
 
-/// The kind of what loads a global.
+/// The kind of a load of a global.
 pub(crate) const LOAD_GLOBAL: usize = 17;
 
-/// What an operand stands for, as far as it is known: a word, a slot, or an expression.
+/// The known value of an operand: a word, a slot, or an expression.
 #[derive(Clone, Copy)]
 pub(crate) enum Value {
     Word { word: u32 },
@@ -18,7 +18,7 @@ pub(crate) enum Value {
     Expression { number: usize },
 }
 
-/// What an instruction computes or loads, and of what.
+/// The operation and the operands of an instruction.
 #[derive(Clone, Copy)]
 pub(crate) struct Shape {
     pub(crate) kind: usize,
@@ -43,12 +43,12 @@ fn is_same(one: Value, other: Value) -> bool {
     }
 }
 
-/// Whether two instructions of these shapes compute the same.
+/// Returns true if two instructions of these shapes compute the same value.
 pub(crate) fn is_same_shape(one: Shape, other: Shape) -> bool {
     one.kind == other.kind && is_same(one.left, other.left) && is_same(one.right, other.right)
 }
 
-/// Whether a value is what a slot has.
+/// Returns true if a value is the content of this slot.
 pub(crate) fn is_slot(value: Value, slot: usize) -> bool {
     match value {
         Value::Slot { number } => number == slot,
@@ -56,7 +56,7 @@ pub(crate) fn is_slot(value: Value, slot: usize) -> bool {
     }
 }
 
-/// A number by which values are told apart.
+/// Returns a hash of a value.
 fn sum_of(value: Value) -> usize {
     match value {
         Value::Word { word } => (word as usize).wrapping_mul(3),
@@ -65,7 +65,7 @@ fn sum_of(value: Value) -> usize {
     }
 }
 
-/// The bucket, of so many, in which a shape is looked for.
+/// Returns the bucket, out of `count`, that holds a shape.
 pub(crate) fn bucket_of(shape: Shape, count: usize) -> usize {
     if count == 0 {
         return 0;
@@ -75,7 +75,7 @@ pub(crate) fn bucket_of(shape: Shape, count: usize) -> usize {
     left.wrapping_add(right).wrapping_add(shape.kind) % count
 }
 
-/// The number of an operator that has a twin.
+/// Returns the kind of an operator that may be duplicated.
 pub(crate) fn kind_of(operator: BinaryOperator) -> Option<usize> {
     match operator {
         BinaryOperator::Add => Some(0),

@@ -1,4 +1,4 @@
-//! Calls that are opened: the callee's code stands in their place, and some of it behind the caller's code.
+//! Inlined calls: the callee's code replaces the call, and part of it is placed out of line after the caller's code.
 ghost use Rattle.std.specs.Prelude.{◌≡◌, ◌+◌, ◌*◌, ◌<◌, ◌≤◌, ◌^◌, IfOk, length, replicate, nat_lt, if◌then◌else◌, [], true, false};
 ghost use Rattle.cyc_plain.specs.declared.limits.TheConstants.{GREATEST_VALUE};
 ghost use Rattle.cyc_inline.specs.declared.limits.TheConstants.{MOST_LEAF_CODE};
@@ -13,36 +13,36 @@ use crate::origin::Origin;
 use cyc_plain::Instruction;
 use std::alloc::{AllocError, Global};
 
-/// A call that is opened, as its instruction says it.
+/// An inlined call, as its instruction gives it.
 #[derive(Clone, Copy)]
 pub(crate) struct Call {
-    /// The number of the function that is called.
+    /// The number of the callee.
     pub(crate) callee: usize,
-    /// The first of the slots that are passed.
+    /// The first of the slots that hold the arguments.
     pub(crate) arguments: usize,
-    /// How many words are passed.
+    /// The number of words passed.
     pub(crate) count: usize,
-    /// The first of the slots that get what is returned.
+    /// The first of the slots that receive the results.
     pub(crate) result: usize,
-    /// How many of the callee's instructions stand in line. The caller goes on behind the last of them.
+    /// The number of the callee's instructions that stand in line. The caller continues after the last of these instructions.
     pub(crate) line: usize,
 }
 
-/// A call that is opened, and what its code is made by.
+/// An inlined call with the data needed to emit its code.
 #[derive(Clone, Copy)]
 pub(crate) struct Site {
     pub(crate) call: Call,
-    /// The first of the caller's slots that are the callee's.
+    /// The first of the caller's slots that the callee uses.
     pub(crate) shift: usize,
-    /// How many words the callee returns.
+    /// The number of words that the callee returns.
     pub(crate) results: usize,
-    /// Where the caller goes on.
-    pub(crate) behind: usize,
-    /// Where the rest of the callee's code stands, which is not in line.
+    /// The place at which the caller continues.
+    pub(crate) following: usize,
+    /// The place of the out-of-line part of the callee's code.
     pub(crate) rest: usize,
 }
 
-/// The call that an instruction is, if it has been chosen: so many of the callee's instructions stand in line then.
+/// Returns the call that the instruction makes, if this call is chosen for inlining: `line` instructions of the callee then stand in line.
 pub(crate) fn chosen_call(instruction: Instruction, line: usize) -> Option<Call>
     ensures { result ≡ sites.chosen_call instruction line }
 {
@@ -69,14 +69,14 @@ pub(crate) fn chosen_call(instruction: Instruction, line: usize) -> Option<Call>
     }
 }
 
-/// Whether an instruction of the callee stands in line, or is of the rest.
+/// Returns true if an instruction of the callee belongs to the requested part: in line or out of line.
 fn stands_in(in_line: bool, line: usize, index: usize) -> bool
     ensures { result ≡ sites.stands_in in_line line index }
 {
     if in_line { index < line } else { line <= index }
 }
 
-/// The first of the slots that a return gives, if the instruction is one.
+/// Returns the first of the slots that a return reads, if the instruction is a return.
 fn end_of(instruction: Instruction) -> Option<usize>
     ensures { result ≡ is_end instruction }
 {
@@ -87,7 +87,7 @@ fn end_of(instruction: Instruction) -> Option<usize>
     }
 }
 
-/// How many instructions one of the callee's becomes.
+/// Returns the number of instructions that replace one of the callee's.
 fn inside_count(results: usize, line: usize, index: usize, instruction: Instruction) -> usize
     requires index { index + 1 < 2 ^ 64 }
     requires results { results ≤ GREATEST_VALUE }
@@ -106,7 +106,7 @@ fn inside_count(results: usize, line: usize, index: usize, instruction: Instruct
     }
 }
 
-/// How many of them stand in line, or are of the rest.
+/// Returns the number of these instructions in the requested part, in line or out of line.
 fn count_in(
     results: usize,
     line: usize,
@@ -126,7 +126,7 @@ fn count_in(
     }
 }
 
-/// How many instructions the callee's code becomes in line, or the rest of it.
+/// Returns the size of the replaced callee's code, in instructions: in line, or out of line.
 pub(crate) fn inside_size(results: usize, line: usize, in_line: bool, code: &[Instruction]) -> usize
     requires results { results ≤ GREATEST_VALUE }
     requires few { length code.now ≤ MOST_LEAF_CODE }
@@ -140,14 +140,14 @@ pub(crate) fn inside_size(results: usize, line: usize, in_line: bool, code: &[In
     size
 }
 
-/// The next place in line, or of the rest.
+/// Returns the next place in line, or out of line.
 fn next_place(line: usize, index: usize, here: usize, there: usize) -> usize
     ensures { result ≡ (if nat_lt index line then here else there) }
 {
     if index < line { here } else { there }
 }
 
-/// Where each of the callee's instructions stands, if the first in line stands here, and the first of the rest there.
+/// Returns the place of each of the callee's instructions if the first in line stands at `here` and the first out of line at `there`.
 fn inside_places(
     alloc: Global,
     site: &Site,
@@ -173,7 +173,7 @@ fn inside_places(
 }
 
 impl Emission {
-    /// What an instruction of the callee becomes.
+    /// Appends the replacement of an instruction of the callee.
     fn push_inside(
         &mut self,
         site: &Site,
@@ -185,7 +185,9 @@ impl Emission {
         requires fits { IsFitInside site.now instruction }
         requires result { site.now.call.result + site.now.results < 2 ^ 64 }
         ensures code { AddsCode result self.old self.new (sites.inside_part site.now (sites.place_in places.now) index instruction (is_end instruction)) }
-        ensures origins { AddsOrigins result self.old self.new (replicate (sites.inside_count site.now.results site.now.call.line index (is_end instruction)) (opened.origin_at site.now.call.callee index)) }
+        ensures origins { AddsOrigins result self.old self.new
+            (replicate (sites.inside_count site.now.results site.now.call.line index (is_end instruction))
+            (opened.origin_at site.now.call.callee index)) }
     {
         let origin = Origin {
             function: site.call.callee,
@@ -197,7 +199,7 @@ impl Emission {
                 if index + 1 == site.call.line {
                     Ok(())
                 } else {
-                    let target = site.behind;
+                    let target = site.following;
                     self.push(Instruction::Jump { target }, origin)
                 }
             }
@@ -205,7 +207,7 @@ impl Emission {
         }
     }
 
-    /// What it becomes in line, or as one of the rest.
+    /// Appends the replacement of an instruction if it belongs to the requested part, in line or out of line.
     fn push_inside_in(
         &mut self,
         site: &Site,
@@ -217,8 +219,11 @@ impl Emission {
         requires index { index + 1 < 2 ^ 64 }
         requires fits { IsFitInside site.now instruction }
         requires result { site.now.call.result + site.now.results < 2 ^ 64 }
-        ensures code { AddsCode result self.old self.new (if sites.stands_in in_line site.now.call.line index then sites.inside_part site.now (sites.place_in places.now) index instruction (is_end instruction) else []) }
-        ensures origins { AddsOrigins result self.old self.new (replicate (sites.count_in site.now.results site.now.call.line in_line index (is_end instruction)) (opened.origin_at site.now.call.callee index)) }
+        ensures code { AddsCode result self.old self.new (if sites.stands_in in_line site.now.call.line index
+            then sites.inside_part site.now (sites.place_in places.now) index instruction (is_end instruction) else []) }
+        ensures origins { AddsOrigins result self.old self.new
+            (replicate (sites.count_in site.now.results site.now.call.line in_line index (is_end instruction))
+            (opened.origin_at site.now.call.callee index)) }
     {
         if stands_in(in_line, site.call.line, index) {
             self.push_inside(site, places, index, instruction)
@@ -227,7 +232,7 @@ impl Emission {
         }
     }
 
-    /// What the callee's code becomes in line, or the rest of it.
+    /// Appends the replacement of the callee's code: its in-line part, or its out-of-line part.
     fn push_body(
         &mut self,
         site: &Site,
@@ -237,7 +242,8 @@ impl Emission {
     ) -> Result<(), AllocError>
         requires { IsFitSite site.now code.now }
         ensures code { AddsCode result self.old self.new (sites.inside_code site.now (sites.place_in places.now) in_line 0 code.now) }
-        ensures origins { AddsOrigins result self.old self.new (sites.inside_origins site.now.call.callee site.now.results site.now.call.line in_line 0 code.now) }
+        ensures origins { AddsOrigins result self.old self.new
+            (sites.inside_origins site.now.call.callee site.now.results site.now.call.line in_line 0 code.now) }
     {
         for index in 0..code.len() {
             self.push_inside_in(site, places, in_line, index, code[index])?;
@@ -245,8 +251,8 @@ impl Emission {
         Ok(())
     }
 
-    /// What stands in the place of a call that is opened, which is here: moves of what is passed, the test that there is room,
-    /// and what the callee's code becomes in line. Or the rest of it.
+    /// Appends the replacement of an inlined call: moves of the arguments, the check of stack room, and the in-line part of the callee's
+    /// code. If `in_line` is false, appends the callee's out-of-line part instead.
     pub(crate) fn push_site(
         &mut self,
         alloc: Global,

@@ -1,4 +1,4 @@
-//! How large code is, in words of text at most.
+//! Upper bounds of code sizes, in words of machine code.
 ghost use Rattle.std.specs.Prelude.{◌≡◌, ◌+◌, ◌≤◌, ◌⊎◌, IfSome, sum_by};
 ghost use Rattle.cyc_plain.specs.declared.limits.TheConstants as limits;
 ghost use Rattle.cyc_plain.specs.inside.Program.{instruction_size, operator_size, size};
@@ -29,7 +29,7 @@ fn request_size(request: Request) -> usize
     }
 }
 
-/// The size of an instruction, if that is none that no program has.
+/// Returns the size of an instruction, or none for an instruction that no program contains.
 fn instruction_size(instruction: Instruction) -> Option<usize>
     ensures { IfSome result (λ it. it ≡ instruction_size instruction) }
 {
@@ -69,7 +69,7 @@ fn instruction_size(instruction: Instruction) -> Option<usize>
     Some(size)
 }
 
-/// The size of code, if it is at most this.
+/// Returns the size of code, if it is at most `most`.
 pub(crate) fn code_size(code: &[Instruction], most: usize) -> Option<usize>
     requires { most ≤ limits.MOST_SIZE }
     ensures size { IfSome result (λ it. it ≡ sum_by instruction_size code.now) }
@@ -86,7 +86,7 @@ pub(crate) fn code_size(code: &[Instruction], most: usize) -> Option<usize>
     Some(size)
 }
 
-/// The size of a program, if it is at most this.
+/// Returns the size of a program, if it is at most `most`.
 fn program_size(plain: &Plain, most: usize) -> Option<usize>
     requires { most ≤ limits.MOST_SIZE }
     ensures size { IfSome result (λ it. it ≡ sum_by size plain.now.functions) }
@@ -100,7 +100,7 @@ fn program_size(plain: &Plain, most: usize) -> Option<usize>
     Some(size)
 }
 
-/// By how many words a program may become larger, if it may have so many.
+/// Returns by how many words a program may grow, if it may have `room` words.
 pub(crate) fn spare_of(plain: &Plain, room: usize) -> usize
     ensures { (result ≡ 0) ⊎ ((sum_by size plain.now.functions + result ≤ room) × (sum_by size plain.now.functions + result ≤ limits.MOST_SIZE)) }
 {

@@ -1,8 +1,8 @@
-//! Tables, by the numbers of functions and by the places of instructions.
+//! Tables indexed by function numbers or by places of instructions.
 ghost use Rattle.std.specs.Prelude.{◌≡◌};
 ghost use Rattle.cyc_inline.specs.inside.Sites as sites;
 
-/// What a table says of a function or an instruction, and 0 where it says nothing.
+/// Returns the entry of a table for a function or an instruction, and 0 if there is none.
 pub(crate) fn place_in(places: &[usize], index: usize) -> usize
     ensures { result ≡ sites.place_in places.now index }
 {

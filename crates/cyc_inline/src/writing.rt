@@ -1,7 +1,7 @@
-//! What instructions write: slots, and memory, in which those slots lie whose address is taken.
+//! The effects of instructions: the slots that they write, and memory, which contains the slots whose address is taken.
 use cyc_plain::{Instruction, Plain, RECORD_WORDS, Request};
 
-/// Slots that an instruction writes.
+/// A range of slots that an instruction writes.
 #[derive(Clone, Copy)]
 pub(crate) struct Slots {
     pub(crate) first: usize,
@@ -12,7 +12,7 @@ pub(crate) fn slots_from(first: usize, count: usize) -> Slots {
     Slots { first, count }
 }
 
-/// The slots that a request's answer comes to.
+/// Returns the slots that receive a request's result.
 fn answered(request: Request) -> Slots {
     match request {
         Request::OpenLexical { destination } => slots_from(destination, 2),
@@ -24,7 +24,7 @@ fn answered(request: Request) -> Slots {
     }
 }
 
-/// The slots that an instruction writes.
+/// Returns the slots that an instruction writes.
 pub(crate) fn written_by(plain: &Plain, instruction: &Instruction) -> Slots {
     match *instruction {
         Instruction::Move { destination, .. }
@@ -55,7 +55,7 @@ pub(crate) fn written_by(plain: &Plain, instruction: &Instruction) -> Slots {
     }
 }
 
-/// Whether an instruction may change memory.
+/// Returns true if an instruction may change memory.
 pub(crate) fn stores(instruction: &Instruction) -> bool {
     match instruction {
         Instruction::Store { .. }
@@ -68,7 +68,7 @@ pub(crate) fn stores(instruction: &Instruction) -> bool {
     }
 }
 
-/// The slots whose address an instruction takes.
+/// Returns the slots whose address an instruction takes.
 pub(crate) fn pinned_by(instruction: &Instruction) -> Slots {
     match *instruction {
         Instruction::AddressOf { slot, count, .. } => slots_from(slot, count),

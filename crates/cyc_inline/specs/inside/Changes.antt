@@ -1,4 +1,4 @@
--- A program some of whose functions have others in their place.
+-- A program some of whose functions are replaced.
 use Rattle.std.specs.Prelude.{◌≡◌, ℕ, zero, suc, ◌+◌, ◌<◌, ◌≤◌, List, [], ◌∷◌, length, map, Option, Some, None, slice_index_or, max, sum_by}
 use Rattle.cyc_plain.specs.declared.limits.TheConstants.{MOST_SIZE}
 use Rattle.cyc_plain.specs.declared.program.Function.{Function}
@@ -11,7 +11,7 @@ use Rattle.cyc_inline.specs.declared.replacing.Opened.{Opened}
 use Rattle.cyc_inline.specs.inside.Opened.{origin_at}
 use Rattle.cyc_inline.specs.inside.Emission.{AreLeafs, IsMade}
 
--- ---- what is said of each function: another that stands for it, or nothing
+-- ---- the optional replacement of each function
 
 abbrev pub first_of : {X : Type 0} → List (Option X) → Option X
 first_of [] = None
@@ -24,7 +24,7 @@ others (x ∷ xs) = xs
 abbrev pub change_at : List (Option Made) → ℕ → Option Made
 change_at changes k = slice_index_or changes k None
 
--- ---- functions, and what they are made from
+-- ---- replaced functions and their origins
 
 abbrev pub function_of : Function → Option Made → Function
 function_of given (Some made) = made.function
@@ -42,7 +42,7 @@ abbrev pub noted : List Function → List (Option Made) → List (Option Opened)
 noted [] changes = []
 noted (f ∷ functions) changes = note_of f (first_of changes) ∷ noted functions (others changes)
 
--- the same of routines
+-- The function of a routine after its replacement.
 abbrev pub routine_made : Routine → Option Made → Routine
 routine_made r (Some made) = routine_of made.function
 routine_made r None = r
@@ -51,12 +51,12 @@ abbrev pub changed : List Routine → List (Option Made) → List Routine
 changed [] changes = []
 changed (r ∷ routines) changes = routine_made r (first_of changes) ∷ changed routines (others changes)
 
--- Instructions from an index on, so many, each made of itself.
+-- The origins of `count` instructions from `index` on, if each instruction stays as it is.
 abbrev pub own_origins : (number index count : ℕ) → List Origin
 own_origins number index zero = []
 own_origins number index (suc count) = origin_at number index ∷ own_origins number (suc index) count
 
--- What the instructions of a function are made of, which stands for one of so many instructions.
+-- The origins of the instructions of a function with `count` instructions, or of its replacement.
 abbrev pub origins_made : (number count : ℕ) → Option Made → List Origin
 origins_made number count (Some made) = made.origins.items
 origins_made number count None = own_origins number 0 count
@@ -65,14 +65,14 @@ abbrev pub all_origins : (number : ℕ) → List Routine → List (Option Made) 
 all_origins number [] changes = []
 all_origins number (r ∷ routines) changes = origins_made number (length r.code) (first_of changes) ∷ all_origins (suc number) routines (others changes)
 
--- ---- how it is made
+-- ---- how the replacement is made
 
--- What may be done to the functions of a program: only leafs are opened.
+-- The allowed changes of the functions of a program: only leaves are inlined.
 abbrev pub IsWork : Program → Work → Type 0
 IsWork program (works.Calls leafs) = AreLeafs program leafs.now
-IsWork program works.Twins = Unit {0}
+IsWork program works.Duplicates = Unit {0}
 
--- what is made for a function stands for it
+-- The replacement (if there is one) correctly replaces function `number`.
 abbrev pub IsMadeFor : Program → (number : ℕ) → Option Made → Type 0
 IsMadeFor program number (Some made) = IsMade program number (routine_of made.function) made.origins.items
 IsMadeFor program number None = Unit {0}
@@ -81,20 +81,20 @@ abbrev pub left_of : Option Made → (spare : ℕ) → ℕ
 left_of (Some made) spare = made.spare
 left_of None spare = spare
 
--- And the others may then become larger by so many words as are left.
+-- A valid replacement that leaves `change.spare` words of growth for the remaining functions.
 pub record IsChange (program : Program) (number spare : ℕ) (change : Option Made) : Type 0 where
   pub made : IsMadeFor program number change
   pub fits : size (routine_made (routine_at program number) change) + left_of change spare ≤ size (routine_at program number) + spare
 
--- What stands for the first functions of a program has been made, and so much larger may the others become than they are.
+-- The replacements of the first functions are made, and `spare` words of growth remain for the other functions.
 pub record AreBegun (program : Program) (room : ℕ) (changes : List (Option Made)) (spare : ℕ) : Type 0 where
   pub each : (k : ℕ) → k < length changes → IsMadeFor program k (change_at changes k)
   pub most : (sum_by size (changed program.functions changes) + spare ≤ max (sum_by size program.functions) room)
       × (sum_by size (changed program.functions changes) + spare ≤ MOST_SIZE)
 
--- ---- what is told of it
+-- ---- the origins reported for a function
 
--- the function that was given, and of how many instructions it is told what they are made of
+-- The function that was given, and the number of instructions whose origins are reported.
 pub record Note : Type 0 where
   pub given : Routine
   pub count : ℕ
@@ -106,11 +106,11 @@ note None = None
 abbrev pub notes_of : List (Option Opened) → List (Option Note)
 notes_of opened = map note opened
 
--- A function of the program that is made: the one given, or another, of each of whose instructions it is told what it is made of.
-abbrev pub IsTold : (r s : Routine) → Option Note → Type 0
-IsTold r s (Some told) = (told.given ≡ r) × (told.count ≡ length s.code)
-IsTold r s None = s ≡ r
+-- `s` is the given function `r`, or a replacement with one reported origin for each instruction.
+abbrev pub IsReported : (r s : Routine) → Option Note → Type 0
+IsReported r s (Some reported) = (reported.given ≡ r) × (reported.count ≡ length s.code)
+IsReported r s None = s ≡ r
 
-pub record AreTold (program inlined : Program) (notes : List (Option Note)) : Type 0 where
+pub record AreReported (program inlined : Program) (notes : List (Option Note)) : Type 0 where
   pub as_many : length notes ≡ length program.functions
-  pub each : (k : ℕ) → k < length program.functions → IsTold (routine_at program k) (routine_at inlined k) (slice_index_or notes k None)
+  pub each : (k : ℕ) → k < length program.functions → IsReported (routine_at program k) (routine_at inlined k) (slice_index_or notes k None)

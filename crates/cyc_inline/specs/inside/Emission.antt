@@ -1,4 +1,4 @@
--- The code of a function, some of whose calls are opened, as the crate makes it, and which may be.
+-- The code that the crate emits for a function some of whose calls are inlined, and the conditions on these calls.
 use Rattle.std.specs.Prelude.{◌≡◌, All, ℕ, suc, ◌+◌, ◌<◌, ◌≤◌, ◌^◌, ◌⊎◌, nat_lt, nat_le, Bool, true, false, not, ◌&&◌, List, [], ◌∷◌, ◌++◌, filter, length, replicate, Result, OnOk, Option, Some, None, slice_get, slice_index_or, if◌then◌else◌}
 use Rattle.std.specs.List.{AllByRecursion}
 use Rattle.std.specs.declared.vec.Vec.{Vec}
@@ -16,14 +16,14 @@ use Rattle.cyc_inline.specs.declared.caller.Caller.{Caller}
 use Rattle.cyc_inline.specs.declared.choice.Choice.{Choice}
 use Rattle.cyc_inline.specs.declared.choice.Need.{Need}
 use Rattle.cyc_inline.specs.declared.emission.Emission.{Emission}
-use Rattle.cyc_inline.specs.declared.limits.TheConstants.{MOST_LEAF_CODE, MOST_GROWTH, MOST_LEADS}
+use Rattle.cyc_inline.specs.declared.limits.TheConstants.{MOST_LEAF_CODE, MOST_GROWTH, MOST_HOISTED}
 use Rattle.cyc_inline.specs.declared.origin.Origin.{Origin}
 use Rattle.cyc_inline.specs.declared.site.Call.{Call}
 use Rattle.cyc_inline.specs.declared.site.Site.{Site}
-use Rattle.cyc_inline.specs.inside.Opened.{moved, is_division, may_have_twin, twin, may_be_led, IsTwin, is_of_leaf, is_end, origin_at, origins_of, IsOpened}
+use Rattle.cyc_inline.specs.inside.Opened.{moved, is_division, may_have_duplicate, duplicate, may_follow_hoisted, IsDuplicate, is_of_leaf, is_end, origin_at, origins_of, IsOpened}
 use Rattle.cyc_inline.specs.inside.Sites.{chosen_call, place_in, site_code, site_origins, site_size}
 
--- ---- what the methods that emit add
+-- ---- the code that the emitting methods append
 
 abbrev pub AddsCode : {T : Type 0} → Result T AllocError → (old new : Emission) → List Instruction → Type 0
 AddsCode result old new code = OnOk result (new.code.items ≡ old.code.items ++ code)
@@ -37,7 +37,7 @@ abbrev pub IsFitOperand : (shift : ℕ) → Operand → Type 0
 IsFitOperand shift (operands.Slot number) = shift + number < 2 ^ 64
 IsFitOperand shift (operands.Word word) = Unit {0}
 
--- the slots of an instruction, shifted
+-- The slots of an instruction, shifted, fit a machine word.
 abbrev pub IsFit : (shift : ℕ) → Instruction → Type 0
 IsFit shift (instructions.Move destination source) = (shift + destination < 2 ^ 64) × IsFitOperand shift source
 IsFit shift (instructions.MoveWords destination source count) = (shift + destination < 2 ^ 64) × (shift + source < 2 ^ 64)
@@ -57,16 +57,16 @@ IsFit shift (instructions.CountLexical destination) = shift + destination < 2 ^ 
 IsFit shift (instructions.Throw tag value) = IsFitOperand shift tag × IsFitOperand shift value
 IsFit shift instruction = Unit {0}
 
--- the words that a return gives, shifted
+-- The slots that a return reads, shifted, fit a machine word.
 abbrev pub IsFitEnd : (shift results : ℕ) → Option ℕ → Type 0
 IsFitEnd shift results (Some value) = shift + value + results < 2 ^ 64
 IsFitEnd shift results None = Unit {0}
 
--- an instruction of the callee's code
+-- The numbers of an instruction of the callee's code fit a machine word.
 abbrev pub IsFitInside : Site → Instruction → Type 0
 IsFitInside site i = IsFit site.shift i × IsFitEnd site.shift site.results (is_end i)
 
--- a call that is opened, and the code of its callee
+-- The numbers of an inlined call and of its callee's code fit a machine word.
 pub record IsFitSite (site : Site) (code : List Instruction) : Type 0 where
   pub each : AllByRecursion (IsFitInside site) code
   pub results : site.results ≤ GREATEST_VALUE
@@ -74,43 +74,43 @@ pub record IsFitSite (site : Site) (code : List Instruction) : Type 0 where
   pub arguments : site.call.arguments + site.call.count < 2 ^ 64
   pub shift : site.shift + site.call.count < 2 ^ 64
 
--- ---- which calls may be opened
+-- ---- which calls may be inlined
 
--- A function whose code may stand in the place of its calls. The last instruction in line leads nowhere behind it.
+-- A function whose code may replace its calls. The last instruction of its in-line part does not fall through.
 pub record IsLeaf (r : Routine) (line : ℕ) : Type 0 where
   pub few : length r.code ≤ MOST_LEAF_CODE
   pub all : AllByRecursion (λ (i : Instruction). is_of_leaf i ≡ true) r.code
   pub within : line ≤ length r.code
   pub last : (k : ℕ) (i : Instruction) → At r.code k i → k + 1 ≡ line → leaves i ≡ true
 
--- the functions of a program that are said to be so are, and so many of their instructions may stand in line
+-- Each function with a positive entry in `lines` is a leaf, with an in-line part of that many instructions.
 abbrev pub AreLeafs : Program → (lines : List ℕ) → Type 0
 AreLeafs program lines = (k : ℕ) → 0 < place_in lines k → IsLeaf (routine_at program k) (place_in lines k)
 
--- the instructions that stand for a call: in its place, or the rest
+-- The number of instructions that replace a call: in its place (`in_line`), or out of line.
 abbrev pub call_size : Program → (in_line : Bool) → Call → ℕ
 call_size program in_line call = site_size call (routine_at program call.callee).results in_line (routine_at program call.callee).code
 
--- so few that they can be counted
+-- The callee is small enough for its instructions to be counted.
 pub record IsSmallCall (program : Program) (call : Call) : Type 0 where
   pub is_function : call.callee < length program.functions
   pub few : length (routine_at program call.callee).code ≤ MOST_LEAF_CODE
   pub small : call.count ≤ MOST_GROWTH
 
--- A call that may be opened in a function that then has so many slots.
+-- A call that may be inlined in a function that then has `slots` slots.
 pub record IsOpenable (program : Program) (r : Routine) (slots : ℕ) (call : Call) : Type 0 where
   pub leaf : IsLeaf (routine_at program call.callee) call.line
   pub some : 0 < call.line
   pub room : r.slots + (routine_at program call.callee).slots ≤ slots
   pub small : call.count ≤ MOST_GROWTH
 
--- What the caller needs for an instruction, if that is a call that may be opened.
+-- The slots that the caller needs for an instruction, if that is a call that may be inlined.
 pub record IsNeed (program : Program) (r : Routine) (i : Instruction) (need : Need) : Type 0 where
   pub openable : (call : Call) → chosen_call i need.line ≡ Some call → IsOpenable program r need.slots call
   pub least : r.slots ≤ need.slots
   pub frame : need.slots + LAYOUT_WORDS ≤ MOST_FRAME_WORDS
 
--- One instruction more is chosen, or is not.
+-- The choice `new` extends `old` by one instruction, which is a call chosen for inlining or not chosen.
 pub record IsChosenBy (old new : Choice) (need : Option Need) : Type 0 where
   pub line : ℕ
   pub chosen : new.chosen.items ≡ old.chosen.items ++ line ∷ []
@@ -119,27 +119,27 @@ pub record IsChosenBy (old new : Choice) (need : Option Need) : Type 0 where
   pub least : old.slots ≤ new.slots
   pub growth : new.growth ≤ MOST_GROWTH
 
--- The calls of a function that are chosen may be opened, and it then has so many slots.
+-- The chosen calls of a function may be inlined, and the function then has `slots` slots.
 pub record AreChosen (program : Program) (r : Routine) (chosen : List ℕ) (slots : ℕ) : Type 0 where
   pub each : (index : ℕ) (i : Instruction) (call : Call) → At r.code index i → chosen_call i (place_in chosen index) ≡ Some call → IsOpenable program r slots call
   pub least : r.slots ≤ slots
   pub frame : (slots ≡ r.slots) ⊎ ((r.frame_count ≤ MOST_FRAME_WORDS) × (slots + LAYOUT_WORDS ≤ MOST_FRAME_WORDS))
 
--- ---- which instructions have a twin
+-- ---- which instructions have a duplicate
 
--- The slot of an instruction's twin: the one that is wanted, if that is one of the further slots, and the instruction may have a twin.
-abbrev pub twin_slot : (given slots : ℕ) → Instruction → (wanted : ℕ) → Option ℕ
-twin_slot given slots i wanted = if may_have_twin i then (if nat_le given wanted then (if nat_lt wanted slots then Some wanted else None) else None) else None
+-- The slot of an instruction's duplicate: `wanted` if that is an extra slot and the instruction may have a duplicate.
+abbrev pub duplicate_slot : (given slots : ℕ) → Instruction → (wanted : ℕ) → Option ℕ
+duplicate_slot given slots i wanted = if may_have_duplicate i then (if nat_le given wanted then (if nat_lt wanted slots then Some wanted else None) else None) else None
 
--- by the table of what is wanted
-abbrev pub twin_by : Program → (number : ℕ) → Choice → (index : ℕ) → Instruction → Option ℕ
-twin_by program number choice index i = twin_slot (routine_at program number).slots choice.slots i (place_in choice.twins.items index)
+-- The hoisted instructions before an instruction, by the table of wanted ones.
+abbrev pub duplicate_by : Program → (number : ℕ) → Choice → (index : ℕ) → Instruction → Option ℕ
+duplicate_by program number choice index i = duplicate_slot (routine_at program number).slots choice.slots i (place_in choice.duplicates.items index)
 
-abbrev pub twin_in : Instruction → Option ℕ → List Instruction
-twin_in i (Some slot) = twin slot i ∷ []
-twin_in i None = []
+abbrev pub duplicate_in : Instruction → Option ℕ → List Instruction
+duplicate_in i (Some slot) = duplicate slot i ∷ []
+duplicate_in i None = []
 
--- ---- which leads they have
+-- ---- hoisted instructions
 
 abbrev pub is_further : (given slots slot : ℕ) → Bool
 is_further given slots slot = nat_le given slot && nat_lt slot slots
@@ -148,50 +148,50 @@ abbrev pub fits_in : (slots : ℕ) → Operand → Bool
 fits_in slots (operands.Slot number) = nat_lt number slots
 fits_in slots (operands.Word word) = nat_lt word (2 ^ 32)
 
--- a lead of a function that then has so many slots: all that it names is there
-abbrev pub may_lead : (globals given slots : ℕ) → Instruction → Bool
-may_lead globals given slots (instructions.Move destination source) = is_further given slots destination && fits_in slots source
-may_lead globals given slots (instructions.Binary operator destination left right) =
+-- An instruction that may be hoisted in a function with `slots` slots: every global and slot that it names exists.
+abbrev pub may_hoisted : (globals given slots : ℕ) → Instruction → Bool
+may_hoisted globals given slots (instructions.Move destination source) = is_further given slots destination && fits_in slots source
+may_hoisted globals given slots (instructions.Binary operator destination left right) =
     not (is_division operator) && (is_further given slots destination && (fits_in slots left && fits_in slots right))
-may_lead globals given slots (instructions.LoadGlobal destination global) = is_further given slots destination && nat_lt global globals
-may_lead globals given slots instruction = false
+may_hoisted globals given slots (instructions.LoadGlobal destination global) = is_further given slots destination && nat_lt global globals
+may_hoisted globals given slots instruction = false
 
--- of those that are wanted, which are few
-abbrev pub leads_of : (globals given slots : ℕ) → Instruction → (wanted : List Instruction) → List Instruction
-leads_of globals given slots i wanted = if may_be_led i && nat_le (length wanted) MOST_LEADS then filter (may_lead globals given slots) wanted else []
+-- The wanted instructions that may be hoisted before this instruction; none if too many are wanted.
+abbrev pub all_hoisted_of : (globals given slots : ℕ) → Instruction → (wanted : List Instruction) → List Instruction
+all_hoisted_of globals given slots i wanted = if may_follow_hoisted i && nat_le (length wanted) MOST_HOISTED then filter (may_hoisted globals given slots) wanted else []
 
-abbrev pub leads_if : (globals given slots : ℕ) → Instruction → (wanted : Option (Vec Instruction Global)) → List Instruction
-leads_if globals given slots i (Some wanted) = leads_of globals given slots i wanted.items
-leads_if globals given slots i None = []
+abbrev pub all_hoisted_if : (globals given slots : ℕ) → Instruction → (wanted : Option (Vec Instruction Global)) → List Instruction
+all_hoisted_if globals given slots i (Some wanted) = all_hoisted_of globals given slots i wanted.items
+all_hoisted_if globals given slots i None = []
 
--- by the table of what is wanted
-abbrev pub leads_by : Program → (number : ℕ) → Choice → (index : ℕ) → Instruction → List Instruction
-leads_by program number choice index i =
-    leads_if (length program.globals) (routine_at program number).slots choice.slots i (slice_get choice.leads.items index)
+-- The hoisted instructions before an instruction, by the table of wanted ones.
+abbrev pub all_hoisted_by : Program → (number : ℕ) → Choice → (index : ℕ) → Instruction → List Instruction
+all_hoisted_by program number choice index i =
+    all_hoisted_if (length program.globals) (routine_at program number).slots choice.slots i (slice_get choice.all_hoisted.items index)
 
--- what stands in front of an instruction
+-- The instructions put before an instruction: hoisted ones, then its duplicate.
 abbrev pub front_by : Program → (number : ℕ) → Choice → (index : ℕ) → Instruction → List Instruction
-front_by program number choice index i = leads_by program number choice index i ++ twin_in i (twin_by program number choice index i)
+front_by program number choice index i = all_hoisted_by program number choice index i ++ duplicate_in i (duplicate_by program number choice index i)
 
--- ---- the code of a function: in line, and the rest behind it
+-- ---- the code of a function: in line, and out of line after it
 
-abbrev pub site_of : Program → Routine → Call → (behind rest : ℕ) → Site
-site_of program r call behind rest = record {
+abbrev pub site_of : Program → Routine → Call → (following rest : ℕ) → Site
+site_of program r call following rest = record {
   call = call;
   shift = r.slots;
   results = (routine_at program call.callee).results;
-  behind = behind;
+  following = following;
   rest = rest;
 }
 
--- what an instruction becomes that is no such call: itself with other places, and what stands in front of it
+-- The replacement of an instruction that is no inlined call: the instructions before it, then the instruction with its targets moved.
 abbrev pub own_part : (place : ℕ → ℕ) → Instruction → (front : List Instruction) → List Instruction
 own_part place i front = front ++ moved 0 place i ∷ []
 
 abbrev pub own_count : (front : ℕ) → ℕ
 own_count front = suc front
 
--- what an instruction becomes: the code of a call that is opened, or itself
+-- The replacement of an instruction: the code of an inlined call, or the instruction itself.
 abbrev pub part : Program → (number : ℕ) → (place rest : ℕ → ℕ) → (in_line : Bool) → (index : ℕ) → Instruction → Option Call → (front : List Instruction) → List Instruction
 part program number place rest in_line index i (Some call) front =
     site_code (site_of program (routine_at program number) call (place (index + 1)) (rest index)) in_line (place index) (routine_at program call.callee).code
@@ -206,7 +206,7 @@ abbrev pub part_count : Program → (in_line : Bool) → Option Call → (front 
 part_count program in_line (Some call) front = call_size program in_line call
 part_count program in_line None front = if in_line then own_count front else 0
 
--- the same of all instructions from an index on, each with what stands in front of it
+-- The replacements of all instructions from `index` on, each with the instructions before it.
 abbrev pub opened_code : Program → (number : ℕ) → List ℕ → (front_at : ℕ → Instruction → List Instruction) → (place rest : ℕ → ℕ) → (in_line : Bool) → (index : ℕ) → List Instruction → List Instruction
 opened_code program number chosen front_at place rest in_line index [] = []
 opened_code program number chosen front_at place rest in_line index (i ∷ code) =
@@ -219,7 +219,7 @@ opened_origins program number chosen front_at in_line index (i ∷ code) =
     part_origins program number in_line index (chosen_call i (place_in chosen index)) (length (front_at index i))
     ++ opened_origins program number chosen front_at in_line (suc index) code
 
--- where each of them stands, if the first stands here, and what stands behind the last
+-- The place of each instruction's replacement, if the first begins at `here`, and the place after the last.
 abbrev pub opened_places : Program → List ℕ → (front_at : ℕ → Instruction → List Instruction) → (in_line : Bool) → (index here : ℕ) → List Instruction → List ℕ
 opened_places program chosen front_at in_line index here [] = here ∷ []
 opened_places program chosen front_at in_line index here (i ∷ code) =
@@ -230,13 +230,13 @@ opened_end program chosen front_at in_line index here [] = here
 opened_end program chosen front_at in_line index here (i ∷ code) =
     opened_end program chosen front_at in_line (suc index) (here + part_count program in_line (chosen_call i (place_in chosen index)) (length (front_at index i))) code
 
--- What stands in front of an instruction may stand there, and all that it names is there.
+-- The instructions put before an instruction may stand there, and everything that they name exists.
 pub record IsFront (program : Program) (r : Routine) (slots : ℕ) (i : Instruction) (front : List Instruction) : Type 0 where
-  pub each : AllByRecursion (λ (x : Instruction). (may_lead (length program.globals) r.slots slots x ≡ true) ⊎ IsTwin r.slots slots i x) front
-  pub some : 0 < length front → may_be_led i ≡ true
+  pub each : AllByRecursion (λ (x : Instruction). (may_hoisted (length program.globals) r.slots slots x ≡ true) ⊎ IsDuplicate r.slots slots i x) front
+  pub some : 0 < length front → may_follow_hoisted i ≡ true
 
--- What the code of a function is made from: the calls that are chosen, what stands in front of each instruction, where each of its instructions stands, and where
--- the rest of what stands for it.
+-- The parts from which the code of a function is made: the calls that are chosen, the instructions put before each instruction, the place
+-- of each of its instructions, and the place of the rest of its replacement.
 pub record AreParts (program : Program) (number : ℕ) (chosen : List ℕ) (front_at : ℕ → Instruction → List Instruction) (places rests : List ℕ) (slots : ℕ) : Type 0 where
   pub plain : IsPlain program
   pub is_function : number < length program.functions
@@ -252,20 +252,20 @@ IsKnown caller =
     AreParts caller.plain.now caller.number caller.choice.now.chosen.items (front_by caller.plain.now caller.number caller.choice.now) caller.places.now caller.rests.now
     caller.choice.now.slots
 
--- ---- functions that are made
+-- ---- replaced functions
 
--- A function that stands for one of the program: one of the same program, with some of its calls inlined.
+-- A replacement of a function of the program: the function with some of its calls inlined.
 pub record IsMade (program : Program) (number : ℕ) (s : Routine) (origins : List Origin) : Type 0 where
   pub opened : IsOpened program number (routine_at program number) s origins
   pub routine : IsRoutine program s
   pub words : All HasWord s.code
 
--- Instructions of a function, so many of them, each made of itself.
+-- The origins of `count` unchanged instructions: each is its own origin.
 pub record AreOwn (number count : ℕ) (origins : List Origin) : Type 0 where
   pub as_many : length origins ≡ count
   pub each : (k : ℕ) → k < count → slice_get origins k ≡ Some (origin_at number k)
 
--- functions that stand for the first of a program, so many of them
+-- Replacements of the first `count` functions of a program, with their origins.
 pub record AreFirstMade (program : Program) (count : ℕ) (routines : List Routine) (origins : List (List Origin)) : Type 0 where
   pub as_many : length routines ≡ count
   pub as_many_origins : length origins ≡ count

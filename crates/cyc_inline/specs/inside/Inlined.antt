@@ -1,4 +1,4 @@
--- What inlining promises: a program like the one given, which does what that does.
+-- The promise of inlining: the inlined program behaves as the given one.
 use Rattle.std.specs.Prelude.{◌≡◌, ℕ, ◌<◌, ◌≤◌, ◌⊎◌, List, [], length, sum_by}
 use Rattle.std.specs.List.{AllByRecursion}
 use Rattle.cyc_words.specs.Simulation.{NeverFails}
@@ -9,7 +9,7 @@ use Rattle.cyc_plain.specs.inside.Program.{Routine, Program, CodePlace, routine_
 use Rattle.cyc_plain.specs.inside.Step.{machine, start}
 use Rattle.cyc_plain.specs.inside.WellFormed.{IsPlain}
 
--- A function like another: it takes and returns as much, and its frame is as large, or neither is too large.
+-- A function with the same name, parameters and results as the given one. The frame sizes are equal, or both exceed the maximum.
 pub record IsLike (r s : Routine) : Type 0 where
   pub name : s.name ≡ r.name
   pub parameters : s.parameters ≡ r.parameters
@@ -17,8 +17,9 @@ pub record IsLike (r s : Routine) : Type 0 where
   pub slots : r.slots ≤ s.slots
   pub frame : (s.frame_count ≡ r.frame_count) ⊎ ((r.frame_count ≤ MOST_FRAME_WORDS) × (s.frame_count ≤ MOST_FRAME_WORDS))
 
--- A program with the same functions, globals and `main`. Each of its runs is one of the program given, within the same limits, if no
--- run of that fails. A place of the program given has become some places, and all of these cost no more than there are.
+-- A program with the functions, globals and `main` of the given one, some calls inlined. If no run of the given program fails, each of its
+-- runs is one of the given program, within the same limits. Each place of the given program is replaced by some places, and these together
+-- cost no more than the whole inlined program.
 pub record IsInlined (program inlined : Program) : Type 0 where
   pub plain : IsPlain inlined
   pub as_many : length inlined.functions ≡ length program.functions

@@ -1,4 +1,4 @@
--- The code of a function some of whose calls are inlined.
+-- A function some of whose calls are inlined.
 use Rattle.std.specs.Prelude.{◌≡◌, ℕ, zero, suc, ◌+◌, ◌<◌, ◌≤◌, ◌⊎◌, Bool, true, false, not, if◌then◌else◌, List, [], ◌∷◌, ◌++◌, length, Option, Some, None, slice_get, slice_index_or}
 use Rattle.std.specs.List.{AllByRecursion}
 use Rattle.cyc_plain.specs.declared.instruction.Instruction.{Instruction}
@@ -14,7 +14,8 @@ use Rattle.cyc_plain.specs.inside.WellFormed.{leaves}
 use Rattle.cyc_inline.specs.declared.origin.Origin.{Origin}
 use Rattle.cyc_inline.specs.inside.Inlined.{IsLike}
 
--- An operand, and an instruction, with other slots and other places. (A leaf's slots are shifted, a caller's stay: `shift` 0.)
+-- An operand or an instruction with its slots shifted and its jump targets moved. A leaf's slots are shifted; a caller's are not (`shift`
+-- 0).
 abbrev pub shifted_operand : (shift : ℕ) → Operand → Operand
 shifted_operand shift (operands.Slot number) = operands.Slot (shift + number)
 shifted_operand shift (operands.Word word) = operands.Word word
@@ -41,7 +42,7 @@ moved shift place (instructions.Throw tag value) = instructions.Throw (shifted_o
 moved shift place (instructions.Try first handler) = instructions.Try first (place handler)
 moved shift place instruction = instruction
 
--- an instruction that a leaf may have: it opens no handler, calls nothing, and takes no slot's address
+-- An instruction that a leaf may contain: it opens no handler, calls nothing, and takes no slot's address.
 abbrev pub is_of_leaf : Instruction → Bool
 is_of_leaf (instructions.Call function arguments count result) = false
 is_of_leaf (instructions.Enter function) = false
@@ -52,7 +53,7 @@ is_of_leaf (instructions.Leave first) = false
 is_of_leaf (instructions.Uncaught tag value) = false
 is_of_leaf instruction = true
 
--- so many words from one slot on come to others, one by one
+-- The moves of `count` words from slots at `source` to slots at `destination`, one by one.
 abbrev pub passing : (destination source count : ℕ) → List Instruction
 passing destination source zero = []
 passing destination source (suc count) =
@@ -63,34 +64,34 @@ is_end (instructions.Return value) = Some value
 is_end (instructions.Finish value) = Some value
 is_end instruction = None
 
--- ---- what the code is made of
+-- ---- the origins of the code
 
--- an instruction of the program given, from which one or more are made
+-- An instruction of the given program, from which one or more instructions are made.
 abbrev pub origin_at : (function index : ℕ) → Origin
 origin_at function index = record { function = function; index = index }
 
--- so many instructions from a place on are made of this one
+-- The `count` instructions from place `from` on have this origin.
 abbrev pub AreMadeOf : List Origin → (from count : ℕ) → Origin → Type 0
 AreMadeOf origins from count origin = (k : ℕ) → k < count → slice_get origins (from + k) ≡ Some origin
 
--- The place behind, where the code goes on: it is the next one, or a jump leads there.
+-- Control passes from one place to another: that is the next place, or a jump leads to it.
 abbrev pub GoesTo : List Instruction → List Origin → (from to : ℕ) → Origin → Type 0
 GoesTo code origins from to origin = (from ≡ to) ⊎ (At code from (instructions.Jump to) × AreMadeOf origins from 1 origin)
 
--- An instruction of a leaf stands in its caller's code: itself with the caller's further slots, or for a return the moves of what is
--- returned and the way behind the call.
-abbrev pub StandsInside : (code : List Instruction) → List Origin → (shift result results behind callee : ℕ) → (place : ℕ → ℕ) → (index : ℕ) → Instruction → Option ℕ → Type 0
-StandsInside code origins shift result results behind callee place index i (Some value) =
+-- The replacement of a leaf's instruction in the caller's code: the instruction with its slots shifted; for a return, moves of the results
+-- and a jump after the call.
+abbrev pub StandsInside : (code : List Instruction) → List Origin → (shift result results following callee : ℕ) → (place : ℕ → ℕ) → (index : ℕ) → Instruction → Option ℕ → Type 0
+StandsInside code origins shift result results following callee place index i (Some value) =
     HasAt code (place index) (passing result (shift + value) results)
     × AreMadeOf origins (place index) results (origin_at callee index)
-    × GoesTo code origins (place index + results) behind (origin_at callee index)
-StandsInside code origins shift result results behind callee place index i None =
+    × GoesTo code origins (place index + results) following (origin_at callee index)
+StandsInside code origins shift result results following callee place index i None =
     At code (place index) (moved shift place i)
     × AreMadeOf origins (place index) 1 (origin_at callee index)
     × (leaves i ≡ false → GoesTo code origins (place index + 1) (place (index + 1)) (origin_at callee index))
 
--- A call has been inlined: its arguments come to further slots, there is room for it, and then the callee's code stands.
-pub record IsSite (program : Program) (s : Routine) (origins : List Origin) (shift function index here behind callee arguments count result : ℕ) : Type 0 where
+-- An inlined call: its arguments are moved to extra slots, stack room is checked, and the callee's code follows.
+pub record IsSite (program : Program) (s : Routine) (origins : List Origin) (shift function index here following callee arguments count result : ℕ) : Type 0 where
   pub place : ℕ → ℕ
   pub room : shift + (routine_at program callee).slots ≤ s.slots
   pub entry : HasAt s.code here (passing shift arguments count ++ instructions.Enter callee ∷ [])
@@ -98,85 +99,84 @@ pub record IsSite (program : Program) (s : Routine) (origins : List Origin) (shi
   pub first : place 0 ≡ here + count + 1
   pub leaf : AllByRecursion (λ (i : Instruction). is_of_leaf i ≡ true) (routine_at program callee).code
   pub body : (k : ℕ) (i : Instruction) → slice_get (routine_at program callee).code k ≡ Some i
-      → StandsInside s.code origins shift result (routine_at program callee).results behind callee place k i (is_end i)
+      → StandsInside s.code origins shift result (routine_at program callee).results following callee place k i (is_end i)
 
--- ---- twins
+-- ---- duplicates
 
--- An instruction that computes or loads a word may have a twin in front of it, which computes or loads the same for a further slot. A division
--- has none, since it may fail.
+-- An instruction that computes or loads a word may be duplicated into an extra slot just before it. A division may not, since it can fail.
 abbrev pub is_division : BinaryOperator → Bool
 is_division binary.Divide = true
 is_division binary.Remainder = true
 is_division operator = false
 
-abbrev pub may_have_twin : Instruction → Bool
-may_have_twin (instructions.Binary operator destination left right) = not (is_division operator)
-may_have_twin (instructions.LoadGlobal destination global) = true
-may_have_twin (instructions.Load destination address offset) = true
-may_have_twin instruction = false
+abbrev pub may_have_duplicate : Instruction → Bool
+may_have_duplicate (instructions.Binary operator destination left right) = not (is_division operator)
+may_have_duplicate (instructions.LoadGlobal destination global) = true
+may_have_duplicate (instructions.Load destination address offset) = true
+may_have_duplicate instruction = false
 
--- the same for another slot
-abbrev pub twin : (slot : ℕ) → Instruction → Instruction
-twin slot (instructions.Binary operator destination left right) = instructions.Binary operator slot left right
-twin slot (instructions.LoadGlobal destination global) = instructions.LoadGlobal slot global
-twin slot (instructions.Load destination address offset) = instructions.Load slot address offset
-twin slot instruction = instruction
+-- A copy of the instruction with another destination slot.
+abbrev pub duplicate : (slot : ℕ) → Instruction → Instruction
+duplicate slot (instructions.Binary operator destination left right) = instructions.Binary operator slot left right
+duplicate slot (instructions.LoadGlobal destination global) = instructions.LoadGlobal slot global
+duplicate slot (instructions.Load destination address offset) = instructions.Load slot address offset
+duplicate slot instruction = instruction
 
--- It is for a slot that the function given does not have.
-pub record IsTwin (given slots : ℕ) (i j : Instruction) : Type 0 where
+-- A hoisted instruction writes a slot that the given function does not have.
+pub record IsDuplicate (given slots : ℕ) (i j : Instruction) : Type 0 where
   pub slot : ℕ
   pub further : given ≤ slot
   pub room : slot < slots
-  pub may : may_have_twin i ≡ true
-  pub is : j ≡ twin slot i
+  pub may : may_have_duplicate i ≡ true
+  pub is : j ≡ duplicate slot i
 
--- ---- leads
+-- ---- hoisted instructions
 
--- An instruction of one call alone may have others in front of it, leads, if the code goes on behind it, or may.
-abbrev pub may_be_led : Instruction → Bool
-may_be_led (instructions.Move destination source) = true
-may_be_led (instructions.MoveWords destination source count) = true
-may_be_led (instructions.Unary operator destination operand) = true
-may_be_led (instructions.Binary operator destination left right) = true
-may_be_led (instructions.Branch comparison left right target) = true
-may_be_led (instructions.ReadByte destination) = true
-may_be_led (instructions.WriteByte source) = true
-may_be_led (instructions.LoadGlobal destination global) = true
-may_be_led (instructions.StoreGlobal global source) = true
-may_be_led (instructions.Load destination address offset) = true
-may_be_led (instructions.Store address offset source) = true
-may_be_led (instructions.LoadByte destination address offset) = true
-may_be_led (instructions.StoreByte address offset source) = true
-may_be_led instruction = false
+-- An instruction with a single origin may be preceded by hoisted instructions if control can continue after it.
+abbrev pub may_follow_hoisted : Instruction → Bool
+may_follow_hoisted (instructions.Move destination source) = true
+may_follow_hoisted (instructions.MoveWords destination source count) = true
+may_follow_hoisted (instructions.Unary operator destination operand) = true
+may_follow_hoisted (instructions.Binary operator destination left right) = true
+may_follow_hoisted (instructions.Branch comparison left right target) = true
+may_follow_hoisted (instructions.ReadByte destination) = true
+may_follow_hoisted (instructions.WriteByte source) = true
+may_follow_hoisted (instructions.LoadGlobal destination global) = true
+may_follow_hoisted (instructions.StoreGlobal global source) = true
+may_follow_hoisted (instructions.Load destination address offset) = true
+may_follow_hoisted (instructions.Store address offset source) = true
+may_follow_hoisted (instructions.LoadByte destination address offset) = true
+may_follow_hoisted (instructions.StoreByte address offset source) = true
+may_follow_hoisted instruction = false
 
--- A lead gives a slot a word, and cannot fail at that.
-abbrev pub led_slot : Instruction → Option ℕ
-led_slot (instructions.Move destination source) = Some destination
-led_slot (instructions.Binary operator destination left right) = if is_division operator then None else Some destination
-led_slot (instructions.LoadGlobal destination global) = Some destination
-led_slot instruction = None
+-- The slot that a hoisted instruction writes. A hoisted instruction cannot fail.
+abbrev pub preceded_slot : Instruction → Option ℕ
+preceded_slot (instructions.Move destination source) = Some destination
+preceded_slot (instructions.Binary operator destination left right) = if is_division operator then None else Some destination
+preceded_slot (instructions.LoadGlobal destination global) = Some destination
+preceded_slot instruction = None
 
--- It is for a slot that the function given does not have.
-pub record IsLead (given slots : ℕ) (j : Instruction) : Type 0 where
+-- A hoisted instruction writes a slot that the given function does not have.
+pub record IsHoisted (given slots : ℕ) (j : Instruction) : Type 0 where
   pub slot : ℕ
   pub further : given ≤ slot
   pub room : slot < slots
-  pub is : led_slot j ≡ Some slot
+  pub is : preceded_slot j ≡ Some slot
 
--- what may stand in front of an instruction
+-- An instruction that may stand before another: a hoisted one or a duplicate.
 abbrev pub MayPrecede : (given slots : ℕ) → (i j : Instruction) → Type 0
-MayPrecede given slots i j = IsLead given slots j ⊎ IsTwin given slots i j
+MayPrecede given slots i j = IsHoisted given slots j ⊎ IsDuplicate given slots i j
 
--- Leads and perhaps its twin stand in front of an instruction.
-pub record IsLed (r s : Routine) (origins : List Origin) (function : ℕ) (place : ℕ → ℕ) (index : ℕ) (i : Instruction) : Type 0 where
+-- An instruction preceded by hoisted instructions and possibly its duplicate.
+pub record IsPreceded (r s : Routine) (origins : List Origin) (function : ℕ) (place : ℕ → ℕ) (index : ℕ) (i : Instruction) : Type 0 where
   pub front : List Instruction
   pub each : AllByRecursion (MayPrecede r.slots s.slots i) front
-  pub may : may_be_led i ≡ true
+  pub may : may_follow_hoisted i ≡ true
   pub at : HasAt s.code (place index) (front ++ moved 0 place i ∷ [])
   pub made : AreMadeOf origins (place index) (suc (length front)) (origin_at function index)
   pub next : place (index + 1) ≡ place index + suc (length front)
 
--- What stands for an instruction of the caller: itself, perhaps with others in front of it, or where it is a call, perhaps the callee's code.
+-- The replacement of an instruction of the caller: the instruction, perhaps after others, or for a call perhaps the callee's code.
 abbrev pub StandsFor : Program → (r s : Routine) → List Origin → (function : ℕ) → (place : ℕ → ℕ) → (index : ℕ) → Instruction → Type 0
 StandsFor program r s origins function place index (instructions.Call callee arguments count result) =
     (At s.code (place index) (instructions.Call callee arguments count result) × AreMadeOf origins (place index) 1 (origin_at function index)
@@ -185,26 +185,26 @@ StandsFor program r s origins function place index (instructions.Call callee arg
 StandsFor program r s origins function place index i =
     (At s.code (place index) (moved 0 place i) × AreMadeOf origins (place index) 1 (origin_at function index)
     × (leaves i ≡ false → place (index + 1) ≡ place index + 1))
-    ⊎ IsLed r s origins function place index i
+    ⊎ IsPreceded r s origins function place index i
 
--- A function with some of its calls inlined. Each instruction of its code is made of one of the program: of its own code, or of a leaf's.
+-- A function with some of its calls inlined. Each instruction of the result has an origin in the function or in a leaf.
 pub record IsOpened (program : Program) (function : ℕ) (r s : Routine) (origins : List Origin) : Type 0 where
   pub like : IsLike r s
   pub as_many : length origins ≡ length s.code
   pub place : ℕ → ℕ
   pub first : place 0 ≡ 0
   pub stands : (index : ℕ) (i : Instruction) → slice_get r.code index ≡ Some i → StandsFor program r s origins function place index i
-  -- no slot has an address that had none
+  -- Each slot whose address is taken has its address taken in the given function too.
   pub pinned : (p : ℕ) (i : Instruction) → At s.code p i → (slot : ℕ) → pins i slot ≡ true → is_pinned r.code slot ≡ true
 
--- of each function, what its instructions are made of
+-- The origins of the instructions of a function.
 abbrev pub origins_of : List (List Origin) → (function : ℕ) → List Origin
 origins_of origins function = slice_index_or origins function []
 
--- A program, some of whose calls are inlined.
+-- A program some of whose calls are inlined.
 pub record AreOpened (program inlined : Program) (origins : List (List Origin)) : Type 0 where
   pub as_many : length inlined.functions ≡ length program.functions
-  pub all_told : length origins ≡ length program.functions
+  pub all_reported : length origins ≡ length program.functions
   pub each : (k : ℕ) → k < length program.functions → IsOpened program k (routine_at program k) (routine_at inlined k) (origins_of origins k)
   pub globals : inlined.globals ≡ program.globals
   pub main : inlined.main ≡ program.main

@@ -1,4 +1,4 @@
--- The code of a call that is opened, as the crate makes it: some of it stands in the call's place, and the rest behind the caller's code.
+-- The code that the crate emits for an inlined call: one part in the call's place, the remaining part out of line after the caller's code.
 use Rattle.std.specs.Prelude.{ℕ, suc, ◌+◌, ◌==◌, nat_lt, nat_le, if◌then◌else◌, Bool, true, false, List, [], ◌∷◌, ◌++◌, replicate, Option, Some, None, slice_index_or}
 use Rattle.cyc_plain.specs.declared.instruction.Instruction.{Instruction}
 use Rattle.cyc_plain.specs.declared.instruction.Instruction.TheVariants as instructions
@@ -7,7 +7,7 @@ use Rattle.cyc_inline.specs.declared.site.Call.{Call}
 use Rattle.cyc_inline.specs.declared.site.Site.{Site}
 use Rattle.cyc_inline.specs.inside.Opened.{moved, passing, is_end, origin_at}
 
--- The call that an instruction is, if it has been chosen: so many of the callee's instructions stand in line then, which are some.
+-- Returns the call that the instruction is, if it is chosen: `line` instructions of the callee, more than 0, stand in line.
 abbrev pub chosen_call : Instruction → (line : ℕ) → Option Call
 chosen_call (instructions.Call callee arguments count result) line =
     if line == 0
@@ -15,42 +15,42 @@ chosen_call (instructions.Call callee arguments count result) line =
     else Some (record { callee = callee; arguments = arguments; count = count; result = result; line = line })
 chosen_call instruction line = None
 
--- where an instruction stands, by a table
+-- The place of an instruction, by a table.
 abbrev pub place_in : List ℕ → (index : ℕ) → ℕ
 place_in places index = slice_index_or places index 0
 
--- an instruction of the callee stands in line, or it is of the rest
+-- An instruction of the callee stands in line, or out of line.
 abbrev pub stands_in : (in_line : Bool) → (line index : ℕ) → Bool
 stands_in true line index = nat_lt index line
 stands_in false line index = nat_le line index
 
 -- ---- an instruction of the callee
 
--- the way behind a return: none where it is the last in line
-abbrev pub way_behind : (is_last : Bool) → (behind : ℕ) → List Instruction
-way_behind true behind = []
-way_behind false behind = instructions.Jump behind ∷ []
+-- The jump after an inlined return: none if the return is the last instruction in line.
+abbrev pub way_following : (is_last : Bool) → (following : ℕ) → List Instruction
+way_following true following = []
+way_following false following = instructions.Jump following ∷ []
 
 abbrev pub way_count : (is_last : Bool) → ℕ
 way_count true = 0
 way_count false = 1
 
--- what an instruction becomes: itself with the caller's further slots, or for a return moves and the way behind
+-- The replacement of a callee's instruction: the instruction with its slots shifted; for a return, moves and the jump after the call.
 abbrev pub inside_part : Site → (place : ℕ → ℕ) → (index : ℕ) → Instruction → Option ℕ → List Instruction
 inside_part site place index i (Some value) =
-    passing site.call.result (site.shift + value) site.results ++ way_behind (index + 1 == site.call.line) site.behind
+    passing site.call.result (site.shift + value) site.results ++ way_following (index + 1 == site.call.line) site.following
 inside_part site place index i None = moved site.shift place i ∷ []
 
--- in so many instructions
+-- The number of instructions in the replacement of a callee's instruction.
 abbrev pub inside_count : (results line index : ℕ) → Option ℕ → ℕ
 inside_count results line index (Some value) = results + way_count (index + 1 == line)
 inside_count results line index None = 1
 
--- how many of them stand in line, or are of the rest
+-- The number of these instructions that stand in line, or out of line.
 abbrev pub count_in : (results line : ℕ) → (in_line : Bool) → (index : ℕ) → Option ℕ → ℕ
 count_in results line in_line index end = if stands_in in_line line index then inside_count results line index end else 0
 
--- ---- the callee's code in line, or the rest of it: of its instructions from an index on
+-- ---- the callee's code from an index on, in line or out of line
 
 abbrev pub inside_code : Site → (place : ℕ → ℕ) → (in_line : Bool) → (index : ℕ) → List Instruction → List Instruction
 inside_code site place in_line index [] = []
@@ -67,19 +67,19 @@ abbrev pub inside_size : (results line : ℕ) → (in_line : Bool) → (index : 
 inside_size results line in_line index [] = 0
 inside_size results line in_line index (i ∷ code) = count_in results line in_line index (is_end i) + inside_size results line in_line (suc index) code
 
--- where each of them stands, if the next in line stands here, and the next of the rest there
+-- The places of the callee's instructions if the next one in line stands at `here` and the next one out of line at `there`.
 abbrev pub inside_places : (results line index here there : ℕ) → List Instruction → List ℕ
 inside_places results line index here there [] = []
 inside_places results line index here there (i ∷ code) =
     (if nat_lt index line then here else there)
     ∷ inside_places results line (suc index) (here + count_in results line true index (is_end i)) (there + count_in results line false index (is_end i)) code
 
--- ---- a call that is opened
+-- ---- an inlined call
 
 abbrev pub places_inside : Site → (here : ℕ) → List Instruction → (index : ℕ) → ℕ
 places_inside site here code = place_in (inside_places site.results site.call.line 0 (here + site.call.count + 1) site.rest code)
 
--- in its place the arguments are moved, there is room, and then the callee's code stands that is in line
+-- The code in the call's place: moves of the arguments, the check of stack room, and the in-line part of the callee's code.
 abbrev pub site_code : Site → (in_line : Bool) → (here : ℕ) → List Instruction → List Instruction
 site_code site true here code =
     passing site.shift site.call.arguments site.call.count ++ instructions.Enter site.call.callee ∷ inside_code site (places_inside site here code) true 0 code

@@ -4,7 +4,7 @@ use Rattle.cyc_plain.specs.inside.WellFormed.{IsPlain}
 use Rattle.cyc_inline.specs.inside.Changes.{notes_of}
 use Rattle.cyc_inline.specs.inside.Emptied.{emptied}
 use Rattle.cyc_inline.proofs.EmptiedProgram.{emptied_plain}
-use Rattle.cyc_inline.proofs.EmptiedFunctions.{kept_program, told_whole}
+use Rattle.cyc_inline.proofs.EmptiedFunctions.{kept_program, reported_whole}
 use Rattle.cyc_inline.proofs.emptying.empty.Goals as goal
 
 pub new-requires : goal.new-requires
@@ -28,7 +28,7 @@ returns c =
       reached = reached;
       are = c.in_ok-reached.ensures;
       is = is;
-      told = λ program many told.
-          told_whole program given parts.functions.items (notes_of c.args.inlined.opened.items) (notes_of c.in_ok-kept.kept.opened.items) reached c.new.result
-          (ap (λ (p : Program). p.functions) c.into_parts-parts.ensures.value) c.in_ok-kept.ensures.opened is many told;
+      reported = λ program many reported.
+          reported_whole program given parts.functions.items (notes_of c.args.inlined.opened.items) (notes_of c.in_ok-kept.kept.opened.items) reached c.new.result
+          (ap (λ (p : Program). p.functions) c.into_parts-parts.ensures.value) c.in_ok-kept.ensures.opened is many reported;
     }

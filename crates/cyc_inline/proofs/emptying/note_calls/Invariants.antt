@@ -5,7 +5,7 @@ use Rattle.cyc_plain.specs.inside.Straight.{At}
 use Rattle.cyc_inline.specs.inside.Emptied.{LeadsTo, StayReached}
 use Rattle.cyc_inline.proofs.emptying.note_calls.Given as goal
 
--- what the instructions so far call is noted
+-- Every function called by the instructions so far is marked.
 abbrev pub invariant-loop-index : goal.invariant-loop-index
 invariant-loop-index l =
     StayReached l.initial.reached.items l.reached.items × ((p : ℕ) (i : Instruction) → p < l.index → At (routine_of l.function).code p i → LeadsTo l.reached.items i)

@@ -1,9 +1,9 @@
 use Rattle.std.proofs.Common.{◌≤◌, max, sym, subst}
 use Rattle.std.specs.Prelude.{sum_by}
 use Rattle.cyc_plain.specs.inside.Program.{Program, size}
-use Rattle.cyc_inline.specs.inside.Changes.{AreTold, notes_of}
+use Rattle.cyc_inline.specs.inside.Changes.{AreReported, notes_of}
 use Rattle.cyc_inline.specs.inside.Inlined.{IsInlined}
-use Rattle.cyc_inline.proofs.EmissionPrograms.{whole_plain, whole_inlined, whole_small, whole_told}
+use Rattle.cyc_inline.proofs.EmissionPrograms.{whole_plain, whole_inlined, whole_small, whole_reported}
 use Rattle.cyc_inline.proofs.inlining.remake.Goals as goal
 
 pub new-requires : goal.new-requires
@@ -32,11 +32,11 @@ returns-clause-size c =
     c.into_parts-parts.ensures.plain c.into_parts-parts.ensures.value c.in_ok-changes.ensures.as_many c.in_ok-changes.ensures.made
     c.in_ok-replaced.ensures.functions c.in_ok-replaced.ensures.opened)
 
-pub returns-clause-told : goal.returns-clause-told
-returns-clause-told c =
+pub returns-clause-reported : goal.returns-clause-reported
+returns-clause-reported c =
     let parts = c.into_parts-parts.result in
     let made = c.in_ok-replaced.replaced in
-    subst (λ (made : Program). AreTold c.args.plain made (notes_of c.in_ok-replaced.replaced.opened.items)) (sym c.new.ensures)
-    (whole_told c.args.plain c.args.room parts.functions.items made.functions.items c.in_ok-changes.changes.items made.opened.items parts.globals.items parts.main
+    subst (λ (made : Program). AreReported c.args.plain made (notes_of c.in_ok-replaced.replaced.opened.items)) (sym c.new.ensures)
+    (whole_reported c.args.plain c.args.room parts.functions.items made.functions.items c.in_ok-changes.changes.items made.opened.items parts.globals.items parts.main
     c.into_parts-parts.ensures.plain c.into_parts-parts.ensures.value c.in_ok-changes.ensures.as_many c.in_ok-changes.ensures.made
     c.in_ok-replaced.ensures.functions c.in_ok-replaced.ensures.opened)

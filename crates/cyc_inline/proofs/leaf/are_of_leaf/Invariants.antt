@@ -4,7 +4,7 @@ use Rattle.cyc_plain.specs.declared.instruction.Instruction.{Instruction}
 use Rattle.cyc_inline.specs.inside.Opened.{is_of_leaf}
 use Rattle.cyc_inline.proofs.leaf.are_of_leaf.Given as goal
 
--- if the other instructions may be a leaf's, all may
+-- If the remaining instructions may be part of a leaf, all of the instructions may.
 abbrev pub invariant-loop-index : goal.invariant-loop-index
 invariant-loop-index l =
     AllByRecursion (λ (i : Instruction). is_of_leaf i ≡ true) (drop l.index l.function.code.items)

@@ -1,14 +1,13 @@
-//! Which expressions of a function are computed in front of a loop: those that the loop does not change. Nothing is promised
-//! of it: what is wanted is checked where it is used.
-use crate::limits::MOST_LEADS;
+//! Chooses loop-invariant expressions to hoist. Unverified: the checker validates each choice.
+use crate::duplicating::may_follow_hoisted;
+use crate::limits::MOST_HOISTED;
 use crate::naming::Search;
 use crate::shapes::{COMPARED, LOAD_GLOBAL, Value};
-use crate::twinning::may_be_led;
 use cyc_plain::{Instruction, Operand};
 use std::alloc::{AllocError, Global};
 
-/// An expression that may be computed in front of a loop: its number, the instruction that has it, and that in front of
-/// which it is computed, if there is one.
+/// A candidate to hoist: the number of its expression, the instruction that computes it, and the instruction before which it would be
+/// computed, if there is one.
 #[derive(Clone, Copy)]
 pub(crate) struct Candidate {
     pub(crate) number: usize,
@@ -16,11 +15,10 @@ pub(crate) struct Candidate {
     pub(crate) front: Option<usize>,
 }
 
-/// The instruction behind which a loop begins: the one before its head, or where that leads elsewhere the one before, if it
-/// leads to the head.
+/// Returns the instruction after which a loop is entered: the one before the loop header, or the one before that if it jumps to the header.
 fn front_of(code: &[Instruction], head: usize) -> Option<usize> {
     let last = head.checked_sub(1)?;
-    if may_be_led(*code.get(last)?) {
+    if may_follow_hoisted(*code.get(last)?) {
         return Some(last);
     }
     let front = last.checked_sub(1)?;
@@ -30,7 +28,7 @@ fn front_of(code: &[Instruction], head: usize) -> Option<usize> {
     }
 }
 
-/// Those of the candidates that stay candidates of what a loop stands in: the candidates from `first` up to `end`.
+/// The candidates, from `first` up to `end`, that remain candidates for the enclosing loop.
 #[derive(Clone, Copy)]
 struct Kept {
     first: usize,
@@ -38,7 +36,7 @@ struct Kept {
 }
 
 impl Search {
-    /// Whether a candidate that is kept has the expression of this number.
+    /// Returns true if a kept candidate has the expression of this number.
     fn is_kept(&self, number: usize, kept: Kept) -> bool {
         for at in kept.first..kept.end {
             if let Some(candidate) = self.candidates.get(at) {
@@ -50,7 +48,7 @@ impl Search {
         false
     }
 
-    /// Whether a value is the same from in front of an instruction on, all through the loop that comes behind it.
+    /// Returns true if a value does not change from before instruction `front` through the loop after it.
     fn is_same_from(&self, value: Value, front: usize, kept: Kept) -> bool {
         match value {
             Value::Word { .. } => true,
@@ -59,7 +57,7 @@ impl Search {
         }
     }
 
-    /// Whether an expression is so, and cannot fail.
+    /// Returns true if the operands of an expression do not change in the loop, and the expression cannot fail.
     fn stays_from(&self, number: usize, front: usize, kept: Kept) -> bool {
         match self.expressions.get(number) {
             Some(expression) => {
@@ -75,16 +73,16 @@ impl Search {
         }
     }
 
-    /// One that was a candidate is none any more. If there is a loop that does not change it, it is computed in front of that.
+    /// Closes a candidate. If some loop leaves it invariant, it is hoisted before that loop.
     fn settle(&mut self, candidate: Candidate) -> Result<(), AllocError> {
         if candidate.front.is_some() {
             self.need(candidate.number);
-            self.leads.push(candidate)?;
+            self.all_hoisted.push(candidate)?;
         }
         Ok(())
     }
 
-    /// Behind an instruction that is the last to jump back to a place a loop is over.
+    /// Closes the loops of which an instruction is the last back jump.
     pub(crate) fn close(
         &mut self,
         code: &[Instruction],
@@ -98,7 +96,7 @@ impl Search {
         }
     }
 
-    /// Those that stay candidates stand in front of the others, which are left out then.
+    /// Moves the kept candidates to the front of the list and drops the others.
     fn close_loop(&mut self, code: &[Instruction], head: usize) -> Result<(), AllocError> {
         let front = front_of(code, head);
         let first = self.first_from(head);
@@ -117,7 +115,7 @@ impl Search {
         Ok(())
     }
 
-    /// A candidate of a loop as it stays one of what the loop stands in, if that may be, and is computed in front of the loop.
+    /// Returns a loop's candidate as a candidate of the enclosing loop, hoisted before the inner loop, if that is allowed.
     fn held_on(
         &mut self,
         candidate: Candidate,
@@ -136,7 +134,7 @@ impl Search {
         if front.is_some() && self.is_kept(candidate.number, kept) {
             return Ok(None);
         }
-        if kept.end.wrapping_sub(kept.first) >= MOST_LEADS {
+        if kept.end.wrapping_sub(kept.first) >= MOST_HOISTED {
             self.settle(candidate)?;
             return Ok(None);
         }
@@ -147,7 +145,7 @@ impl Search {
         Ok(Some(candidate))
     }
 
-    /// The first of the last candidates that all stand at an instruction or behind it.
+    /// Returns the first trailing candidate at or after `head`.
     fn first_from(&self, head: usize) -> usize {
         let count = self.candidates.len();
         for at in (0..count).rev() {
@@ -160,7 +158,7 @@ impl Search {
         0
     }
 
-    /// What is still a candidate behind the loops is none any more.
+    /// Closes every expression that is still a candidate after the last loop.
     pub(crate) fn settle_all(&mut self) -> Result<(), AllocError> {
         for at in 0..self.candidates.len() {
             if let Some(candidate) = self.candidates.get(at) {
@@ -172,7 +170,7 @@ impl Search {
         Ok(())
     }
 
-    /// What a value is found in.
+    /// Returns the operand that holds a value.
     fn operand_of(&self, value: Value) -> Option<Operand> {
         match value {
             Value::Word { word } => Some(Operand::Word { word }),
@@ -186,8 +184,8 @@ impl Search {
         }
     }
 
-    /// What computes an expression of this code for its slot.
-    fn lead_of(&self, code: &[Instruction], number: usize) -> Option<Instruction> {
+    /// Returns the instruction that computes an expression of this code for its slot.
+    fn hoisted_of(&self, code: &[Instruction], number: usize) -> Option<Instruction> {
         let expression = self.expressions.get(number)?;
         let destination = expression.slot;
         if destination == 0 {
@@ -208,22 +206,22 @@ impl Search {
         }
     }
 
-    fn push_lead(
+    fn push_hoisted(
         &self,
         code: &[Instruction],
         number: usize,
-        leads: Option<&mut Vec<Instruction>>,
+        all_hoisted: Option<&mut Vec<Instruction>>,
     ) -> Result<(), AllocError> {
-        if let Some(lead) = self.lead_of(code, number) {
-            if let Some(leads) = leads {
-                leads.push(lead)?;
+        if let Some(hoisted) = self.hoisted_of(code, number) {
+            if let Some(all_hoisted) = all_hoisted {
+                all_hoisted.push(hoisted)?;
             }
         }
         Ok(())
     }
 
-    /// For each instruction of this code what is computed in front of it.
-    pub(crate) fn led(
+    /// For each instruction of this code, returns the instructions hoisted before it.
+    pub(crate) fn preceded(
         &self,
         alloc: Global,
         code: &[Instruction],
@@ -232,9 +230,9 @@ impl Search {
         for _ in 0..code.len() {
             all.push(Vec::new(alloc))?;
         }
-        for candidate in &self.leads {
+        for candidate in &self.all_hoisted {
             if let Some(front) = candidate.front {
-                self.push_lead(code, candidate.number, all.get_mut(front))?;
+                self.push_hoisted(code, candidate.number, all.get_mut(front))?;
             }
         }
         Ok(all)

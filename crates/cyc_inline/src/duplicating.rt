@@ -1,11 +1,11 @@
-//! Twins: an instruction may have another in front of it, which does the same for a further slot. Leads: it may have others
-//! in front of it, which give further slots words.
+//! Duplicates: an instruction may be duplicated into an extra slot just before it. Hoisted instructions: an instruction may be preceded by
+//! others, which write extra slots.
 ghost use Rattle.std.specs.Prelude.{◌≡◌, ◌≤◌, length};
 ghost use Rattle.cyc_inline.specs.declared.limits.TheConstants as limits;
 ghost use Rattle.cyc_inline.specs.inside.Emission as emission;
 ghost use Rattle.cyc_inline.specs.inside.Opened as opened;
 
-use crate::limits::MOST_LEADS;
+use crate::limits::MOST_HOISTED;
 use cyc_plain::{BinaryOperator, Instruction, Operand};
 
 fn is_division(operator: BinaryOperator) -> bool
@@ -14,9 +14,9 @@ fn is_division(operator: BinaryOperator) -> bool
     matches!(operator, BinaryOperator::Divide | BinaryOperator::Remainder)
 }
 
-/// Whether an instruction may have a twin: it computes or loads a word, and cannot fail at that.
-pub(crate) fn may_have_twin(instruction: Instruction) -> bool
-    ensures { result ≡ opened.may_have_twin instruction }
+/// Returns true if an instruction may be duplicated: it computes or loads a word and cannot fail.
+pub(crate) fn may_have_duplicate(instruction: Instruction) -> bool
+    ensures { result ≡ opened.may_have_duplicate instruction }
 {
     match instruction {
         Instruction::Binary { operator, .. } => !is_division(operator),
@@ -25,17 +25,16 @@ pub(crate) fn may_have_twin(instruction: Instruction) -> bool
     }
 }
 
-/// The slot of an instruction's twin: the one that is wanted, if that is one of the further slots, and the instruction may
-/// have a twin.
-pub(crate) fn twin_slot(
+/// Returns the slot of an instruction's duplicate: `wanted` if that is an extra slot and the instruction may be duplicated.
+pub(crate) fn duplicate_slot(
     given_slots: usize,
     slots: usize,
     instruction: Instruction,
     wanted: usize,
 ) -> Option<usize>
-    ensures { result ≡ emission.twin_slot given_slots slots instruction wanted }
+    ensures { result ≡ emission.duplicate_slot given_slots slots instruction wanted }
 {
-    if may_have_twin(instruction) {
+    if may_have_duplicate(instruction) {
         if given_slots <= wanted && wanted < slots {
             return Some(wanted);
         }
@@ -43,9 +42,9 @@ pub(crate) fn twin_slot(
     None
 }
 
-/// Whether an instruction may have leads: it is of one call alone, and the code goes on behind it, or may.
-pub(crate) fn may_be_led(instruction: Instruction) -> bool
-    ensures { result ≡ opened.may_be_led instruction }
+/// Returns true if an instruction may be preceded by hoisted ones: control can continue after it, and it is no inlined call.
+pub(crate) fn may_follow_hoisted(instruction: Instruction) -> bool
+    ensures { result ≡ opened.may_follow_hoisted instruction }
 {
     match instruction {
         Instruction::Move { .. }
@@ -80,11 +79,16 @@ fn fits_in(slots: usize, operand: Operand) -> bool
     }
 }
 
-/// Whether an instruction may be a lead: it gives a further slot a word, and cannot fail at that.
-pub(crate) fn may_lead(globals: usize, given_slots: usize, slots: usize, lead: Instruction) -> bool
-    ensures { result ≡ emission.may_lead globals given_slots slots lead }
+/// Returns true if an instruction may be hoisted: it writes an extra slot and cannot fail.
+pub(crate) fn may_hoisted(
+    globals: usize,
+    given_slots: usize,
+    slots: usize,
+    hoisted: Instruction,
+) -> bool
+    ensures { result ≡ emission.may_hoisted globals given_slots slots hoisted }
 {
-    match lead {
+    match hoisted {
         Instruction::Move {
             destination,
             source,
@@ -108,32 +112,32 @@ pub(crate) fn may_lead(globals: usize, given_slots: usize, slots: usize, lead: I
     }
 }
 
-/// How many leads an instruction has, of those that are wanted.
-pub(crate) fn lead_count(
+/// Returns the number of wanted instructions that may be hoisted before an instruction.
+pub(crate) fn hoisted_count(
     globals: usize,
     given_slots: usize,
     slots: usize,
     instruction: Instruction,
     wanted: &[Instruction],
 ) -> usize
-    ensures value { result ≡ length (emission.leads_of globals given_slots slots instruction wanted.now) }
-    ensures few { result ≤ limits.MOST_LEADS }
+    ensures value { result ≡ length (emission.all_hoisted_of globals given_slots slots instruction wanted.now) }
+    ensures few { result ≤ limits.MOST_HOISTED }
 {
-    if !may_be_led(instruction) || wanted.len() > MOST_LEADS {
+    if !may_follow_hoisted(instruction) || wanted.len() > MOST_HOISTED {
         return 0;
     }
     let mut count = 0;
-    for lead in wanted {
-        if may_lead(globals, given_slots, slots, *lead) {
+    for hoisted in wanted {
+        if may_hoisted(globals, given_slots, slots, *hoisted) {
             count += 1;
         }
     }
     count
 }
 
-/// The same instruction for another slot.
-pub(crate) fn twin(slot: usize, instruction: Instruction) -> Instruction
-    ensures { result ≡ opened.twin slot instruction }
+/// Returns a copy of the instruction with another destination slot.
+pub(crate) fn duplicate(slot: usize, instruction: Instruction) -> Instruction
+    ensures { result ≡ opened.duplicate slot instruction }
 {
     match instruction {
         Instruction::Binary {

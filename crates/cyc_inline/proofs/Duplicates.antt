@@ -1,5 +1,6 @@
--- The steps of an instruction with leads and its twin in front of it, where no inlined call is under way: several below for one above. What these find
--- comes to slots that the call above does not have, and then the instruction does the same above and below.
+-- The steps of an instruction with hoisted instructions and a duplicate before it, outside inlined calls. Several steps of the inlined
+-- program match one source step. The extra steps write slots that the source call does not have; after these steps the instruction has the
+-- same effect in both programs.
 use Rattle.std.proofs.Common.{◌≡◌, ℕ, suc, ◌+◌, ◌<◌, ◌≤◌, Bool, true, false, ◌&&◌, List, [], ◌∷◌, ◌++◌, length, Option, Some, None, refl, sym, ap, subst, ◌∙◌, arith, inl, inr, length-append}
 use Rattle.std.specs.Prelude.{nat_le, Contains, if◌then◌else◌}
 use Rattle.std.specs.List.{AllByRecursion}
@@ -19,14 +20,14 @@ use Rattle.cyc_plain.specs.inside.Operators.{binary_result, has_no_result}
 use Rattle.cyc_plain.specs.inside.Program.{Routine, Program, CodePlace, routine_at}
 use Rattle.cyc_plain.specs.inside.State.{put, Activation, Frame, Configuration, State, Running, Stuck, status_of, place_of, HoldsWords}
 use Rattle.cyc_plain.specs.inside.Step.{Choice, gives, operand_word, loads, performed, instruction_at, is_within, limit_of, limited, limited_step, Step, machine}
-use Rattle.cyc_plain.specs.inside.Straight.{At, HasAt, places_behind}
+use Rattle.cyc_plain.specs.inside.Straight.{At, HasAt, places_after}
 use Rattle.cyc_plain.specs.inside.WellFormed.{IsInRange, IsPlain}
 use Rattle.cyc_plain.proofs.RunLaws.{zeros, zeros_at, limit_free, stuck_within}
 use Rattle.cyc_plain.proofs.SlotLaws.{put-other}
 use Rattle.cyc_plain.proofs.Steps.{step_performs}
-use Rattle.cyc_plain.proofs.Straight.{behind-distinct}
+use Rattle.cyc_plain.proofs.Straight.{following-distinct}
 use Rattle.cyc_inline.specs.declared.origin.Origin.{Origin}
-use Rattle.cyc_inline.specs.inside.Opened.{moved, is_division, may_have_twin, twin, may_be_led, IsLead, MayPrecede, AreOpened}
+use Rattle.cyc_inline.specs.inside.Opened.{moved, is_division, may_have_duplicate, duplicate, may_follow_hoisted, IsHoisted, MayPrecede, AreOpened}
 use Rattle.cyc_inline.proofs.Costs.{place_at, own, own_has}
 use Rattle.cyc_inline.proofs.Agreeing.{agree_from}
 use Rattle.cyc_inline.proofs.Waiting.{place_in, AreSlotted, AreCalls, AreWaiting, as_deep, beside, Outside}
@@ -34,36 +35,36 @@ use Rattle.cyc_inline.proofs.Memory.{memory_outside}
 use Rattle.cyc_inline.proofs.Performing.{is_ordinary, performs}
 use Rattle.cyc_inline.proofs.Outside.{bears, operand_same}
 use Rattle.cyc_inline.proofs.Matched.{step_is, Alike, limited_outside, finds, Matches, matching, kept, words_kept}
-use Rattle.cyc_inline.proofs.Steps.{IsLedHere}
-use Rattle.cyc_inline.proofs.Passing.{behind_inside, has_each}
+use Rattle.cyc_inline.proofs.Steps.{IsPrecededHere}
+use Rattle.cyc_inline.proofs.Passing.{after_inside, has_each}
 use Rattle.cyc_inline.proofs.Inside.{ordinary_calls, ordinary_limit, step_so}
 
--- what is led is of one call alone, and the code goes on behind it
-led_ordinary : (i : Instruction) → may_be_led i ≡ true → is_ordinary i ≡ true
-led_ordinary (instructions.Move destination source) may = refl
-led_ordinary (instructions.MoveWords destination source count) may = refl
-led_ordinary (instructions.Unary operator destination operand) may = refl
-led_ordinary (instructions.Binary operator destination left right) may = refl
-led_ordinary (instructions.Branch comparison left right target) may = refl
-led_ordinary (instructions.ReadByte destination) may = refl
-led_ordinary (instructions.WriteByte source) may = refl
-led_ordinary (instructions.LoadGlobal destination global) may = refl
-led_ordinary (instructions.StoreGlobal global source) may = refl
-led_ordinary (instructions.Load destination address offset) may = refl
-led_ordinary (instructions.Store address offset source) may = refl
-led_ordinary (instructions.LoadByte destination address offset) may = refl
-led_ordinary (instructions.StoreByte address offset source) may = refl
-led_ordinary i may = absurd (let e : false ≡ true = may in cc)
+-- An instruction preceded by hoisted ones is ordinary: control continues after it.
+preceded_ordinary : (i : Instruction) → may_follow_hoisted i ≡ true → is_ordinary i ≡ true
+preceded_ordinary (instructions.Move destination source) may = refl
+preceded_ordinary (instructions.MoveWords destination source count) may = refl
+preceded_ordinary (instructions.Unary operator destination operand) may = refl
+preceded_ordinary (instructions.Binary operator destination left right) may = refl
+preceded_ordinary (instructions.Branch comparison left right target) may = refl
+preceded_ordinary (instructions.ReadByte destination) may = refl
+preceded_ordinary (instructions.WriteByte source) may = refl
+preceded_ordinary (instructions.LoadGlobal destination global) may = refl
+preceded_ordinary (instructions.StoreGlobal global source) may = refl
+preceded_ordinary (instructions.Load destination address offset) may = refl
+preceded_ordinary (instructions.Store address offset source) may = refl
+preceded_ordinary (instructions.LoadByte destination address offset) may = refl
+preceded_ordinary (instructions.StoreByte address offset source) may = refl
+preceded_ordinary i may = absurd (let e : false ≡ true = may in cc)
 
--- all but a division has a result
+-- Every operator except division has a result for all operands.
 has_result : (operator : BinaryOperator) (b : ℕ) → is_division operator ≡ false → has_no_result operator b ≡ false
 has_result binary.Divide b none = absurd (let e : true ≡ false = none in cc)
 has_result binary.Remainder b none = absurd (let e : true ≡ false = none in cc)
 has_result operator b none = refl
 
-led_no_division : (t : Bool) (destination slot : ℕ) → (if t then None else Some destination) ≡ Some slot → (t ≡ false) × (destination ≡ slot)
-led_no_division true destination slot is = absurd (let e : None ≡ Some slot = is in cc)
-led_no_division false destination slot is = (refl, let e : Some destination ≡ Some slot = is in cc)
+preceded_no_division : (t : Bool) (destination slot : ℕ) → (if t then None else Some destination) ≡ Some slot → (t ≡ false) × (destination ≡ slot)
+preceded_no_division true destination slot is = absurd (let e : None ≡ Some slot = is in cc)
+preceded_no_division false destination slot is = (refl, let e : Some destination ≡ Some slot = is in cc)
 
 module _ (program inlined : Program) (origins : List (List Origin)) (are : AreOpened program inlined origins) (plain : IsPlain program) (fine : IsPlain inlined) (pages calls : ℕ)
     (c : Configuration) (b : Activation) (gs : List Frame)
@@ -71,7 +72,7 @@ module _ (program inlined : Program) (origins : List (List Origin)) (are : AreOp
     (matches : Matches program inlined origins are plain fine pages calls (Running c) (Running (beside program inlined origins are c b gs)))
     (never : (next : State) → Step program pages calls (Running c) next → status_of next ≡ simulation.Failed → ⊥)
     (i : Instruction) (at : At (routine_at program c.active.function).code c.active.next i) (range : IsInRange program (routine_at program c.active.function) i)
-    (led : IsLedHere program inlined origins are c.active.function c.active.next i) where
+    (preceded : IsPrecededHere program inlined origins are c.active.function c.active.next i) where
   abbrev d : Configuration
   d = beside program inlined origins are c b gs
 
@@ -84,7 +85,7 @@ module _ (program inlined : Program) (origins : List (List Origin)) (are : AreOp
   abbrev place : ℕ → ℕ
   place = place_in program inlined origins are c.active.function
 
-  -- the instruction itself, below
+  -- The step of the duplicated instruction in the inlined program, after the extra steps.
   abbrev j : Instruction
   j = moved 0 place i
 
@@ -92,13 +93,13 @@ module _ (program inlined : Program) (origins : List (List Origin)) (are : AreOp
   Precedes = MayPrecede r.slots s.slots i
 
   ordinary : is_ordinary i ≡ true
-  ordinary = led_ordinary i led.may
+  ordinary = preceded_ordinary i preceded.may
 
   abbrev count : ℕ
-  count = suc (length led.front)
+  count = suc (length preceded.front)
 
   abbrev places : List CodePlace
-  places = places_behind b.function b.next count
+  places = places_after b.function b.next count
 
   abbrev Way : State → Type 0
   Way = IsOnTheWay (machine program pages calls) (machine inlined pages calls) (Running c)
@@ -106,7 +107,7 @@ module _ (program inlined : Program) (origins : List (List Origin)) (are : AreOp
   abbrev Goal : State → Type 0
   Goal = IsMatchedStep (machine program pages calls) (machine inlined pages calls) (matching program inlined origins are plain fine pages calls) (Running c) places
 
-  -- ---- what stands in front finds a word
+  -- ---- each preceding instruction computes a word
 
   module _ (knower : Activation) (slotted : AreSlotted program inlined origins are c.active knower) where
     abbrev here : Configuration
@@ -125,34 +126,34 @@ module _ (program inlined : Program) (origins : List (List Origin)) (are : AreOp
         ap (λ (fails : Bool). if fails then Stuck c.output c.input else gives here destination (binary_result operator (operand_word knower.slots left) (operand_word knower.slots right)))
         (has_result operator (operand_word knower.slots right) none)
 
-    -- a lead does
-    by_lead : (x : Instruction) → IsLead r.slots s.slots x → FindsWord x
-    by_lead (instructions.Move destination source) lead = record {
+    -- A hoisted instruction writes a word to its slot without any other effect.
+    by_hoisted : (x : Instruction) → IsHoisted r.slots s.slots x → FindsWord x
+    by_hoisted (instructions.Move destination source) hoisted = record {
       slot = destination;
       word = operand_word knower.slots source;
-      further = (let e : Some destination ≡ Some lead.slot = lead.is in let is : destination ≡ lead.slot = cc in let further = lead.further in omega (arith, is, further));
+      further = (let e : Some destination ≡ Some hoisted.slot = hoisted.is in let is : destination ≡ hoisted.slot = cc in let further = hoisted.further in omega (arith, is, further));
       limit = refl;
       does = λ choice. refl;
     }
-    by_lead (instructions.Binary operator destination left right) lead =
-        let (none, is) = led_no_division (is_division operator) destination lead.slot lead.is in
+    by_hoisted (instructions.Binary operator destination left right) hoisted =
+        let (none, is) = preceded_no_division (is_division operator) destination hoisted.slot hoisted.is in
         record {
           slot = destination;
           word = binary_result operator (operand_word knower.slots left) (operand_word knower.slots right);
-          further = (let further = lead.further in omega (arith, is, further));
+          further = (let further = hoisted.further in omega (arith, is, further));
           limit = refl;
           does = λ choice. divides_not operator destination left right choice none;
         }
-    by_lead (instructions.LoadGlobal destination global) lead = record {
+    by_hoisted (instructions.LoadGlobal destination global) hoisted = record {
       slot = destination;
       word = c.globals global;
-      further = (let e : Some destination ≡ Some lead.slot = lead.is in let is : destination ≡ lead.slot = cc in let further = lead.further in omega (arith, is, further));
+      further = (let e : Some destination ≡ Some hoisted.slot = hoisted.is in let is : destination ≡ hoisted.slot = cc in let further = hoisted.further in omega (arith, is, further));
       limit = refl;
       does = λ choice. refl;
     }
-    by_lead x lead = absurd (let e : None ≡ Some lead.slot = lead.is in cc)
+    by_hoisted x hoisted = absurd (let e : None ≡ Some hoisted.slot = hoisted.is in cc)
 
-    -- the twin does, or the program given cannot go on
+    -- The duplicate computes a word, or the source program gets stuck.
     loaded : (destination offset slot : ℕ) (address : Operand) (o : Option ℕ) → r.slots ≤ slot → i ≡ instructions.Load destination address offset
         → memory_at program c (add_of (operand_word c.active.slots address) offset) ≡ o
         → memory_at inlined here (add_of (operand_word knower.slots address) offset) ≡ o → FindsWord (instructions.Load slot address offset)
@@ -163,27 +164,27 @@ module _ (program inlined : Program) (origins : List (List Origin)) (are : AreOp
         (step_so program pages calls c i (Stuck c.output c.input) at (ordinary_calls i ordinary) (ap (performed program zeros c) is ∙ ap (loads c destination) above) (stuck_within pages calls c.output c.input))
         refl)
 
-    by_twin : (y : Instruction) (slot : ℕ) → r.slots ≤ slot → may_have_twin y ≡ true → i ≡ y → IsInRange program r y → FindsWord (twin slot y)
-    by_twin (instructions.Binary operator destination left right) slot further may is inside = record {
+    by_duplicate : (y : Instruction) (slot : ℕ) → r.slots ≤ slot → may_have_duplicate y ≡ true → i ≡ y → IsInRange program r y → FindsWord (duplicate slot y)
+    by_duplicate (instructions.Binary operator destination left right) slot further may is inside = record {
       slot = slot;
       word = binary_result operator (operand_word knower.slots left) (operand_word knower.slots right);
       further = further;
       limit = refl;
       does = λ choice. divides_not operator slot left right choice (false_from_not (is_division operator) may);
     }
-    by_twin (instructions.LoadGlobal destination global) slot further may is inside =
+    by_duplicate (instructions.LoadGlobal destination global) slot further may is inside =
         record { slot = slot; word = c.globals global; further = further; limit = refl; does = λ choice. refl }
-    by_twin (instructions.Load destination address offset) slot further may is (inside, first) =
+    by_duplicate (instructions.Load destination address offset) slot further may is (inside, first) =
         loaded destination offset slot address (memory_at program c (add_of (operand_word c.active.slots address) offset)) further is refl
         (ap (λ (a : ℕ). memory_at inlined here (add_of a offset)) (operand_same program inlined origins are plain.well_formed c knower gs slotted waiting address first)
         ∙ memory_outside program inlined origins are plain.well_formed c knower gs slotted waiting (add_of (operand_word c.active.slots address) offset))
-    by_twin y slot further may is inside = absurd (let e : false ≡ true = may in cc)
+    by_duplicate y slot further may is inside = absurd (let e : false ≡ true = may in cc)
 
     pub finds_word : (x : Instruction) → Precedes x → FindsWord x
-    finds_word x (inl lead) = by_lead x lead
-    finds_word x (inr it) = subst FindsWord (sym it.is) (by_twin i it.slot it.further it.may refl range)
+    finds_word x (inl hoisted) = by_hoisted x hoisted
+    finds_word x (inr it) = subst FindsWord (sym it.is) (by_duplicate i it.slot it.further it.may refl range)
 
-    -- ---- the instruction itself does the same
+    -- ---- the duplicated instruction has the effect of the source's instruction
 
     module _ (itself : At s.code knower.next j) (falls : knower.next + 1 ≡ place (c.active.next + 1)) where
       itself_at : instruction_at inlined (place_of (Running here)) ≡ Some j
@@ -191,7 +192,7 @@ module _ (program inlined : Program) (origins : List (List Origin)) (are : AreOp
 
       pub goes : (v : State) → HoldsWords (Running (beside program inlined origins are c knower gs)) → Step inlined pages calls (Running (beside program inlined origins are c knower gs)) v
           → IsMatchedStep (machine program pages calls) (machine inlined pages calls) (matching program inlined origins are plain fine pages calls) (Running c)
-          (places_behind b.function b.next (suc (length led.front))) v
+          (places_after b.function b.next (suc (length preceded.front))) v
       goes v words (choice, allowed, is) =
           let next : State = limited_step program pages calls zeros (Running c) in
           let step : Step program pages calls (Running c) next = (zeros, zeros_at program c i at (ordinary_calls i ordinary), refl) in
@@ -222,9 +223,9 @@ module _ (program inlined : Program) (origins : List (List Origin)) (are : AreOp
               (agree_from r.slots c.active.slots knower.slots slotted.slots) (Outside program inlined origins are)
               (bears program inlined origins are plain.well_formed c knower gs slotted waiting) i ordinary range (λ stays. falls))))
 
-  -- ---- the steps
+  -- ---- the steps of the preceding instructions
 
-  -- nothing is seen on the way
+  -- The steps of the preceding instructions have no observable effect.
   way : (knower : Activation) → Way (Running (beside program inlined origins are c knower gs))
   way knower =
       way_before (machine program pages calls) (machine inlined pages calls) (matching program inlined origins are plain fine pages calls) (Running c)
@@ -235,7 +236,7 @@ module _ (program inlined : Program) (origins : List (List Origin)) (are : AreOp
       ap (λ (n : ℕ). nat_le (stores.demand c.store) pages && nat_le (suc n) calls) (as_deep program inlined origins are c.active.function c.frames gs waiting)
       ∙ matches.within
 
-  -- behind one that stands in front
+  -- The state after a preceding instruction.
   abbrev knowing : Activation → (slot word : ℕ) → Activation
   knowing knower slot word = record knower { slots = put knower.slots slot word; next = knower.next + 1 }
 
@@ -250,17 +251,17 @@ module _ (program inlined : Program) (origins : List (List Origin)) (are : AreOp
 
   through : (front : List Instruction) (knower : Activation) → AreSlotted program inlined origins are c.active knower → HoldsWords (Running (beside program inlined origins are c knower gs))
       → HasAt s.code knower.next (front ++ j ∷ []) → AllByRecursion Precedes front → knower.next + suc (length front) ≡ place (c.active.next + 1)
-      → Comes (machine inlined pages calls) Way Goal (places_behind knower.function knower.next (suc (length front))) (Running (beside program inlined origins are c knower gs))
+      → Comes (machine inlined pages calls) Way Goal (places_after knower.function knower.next (suc (length front))) (Running (beside program inlined origins are c knower gs))
   through [] knower slotted words (itself, nothing) each falls = (refl, way knower, λ v step. goes knower slotted itself falls v words step)
   through (x ∷ front) knower slotted words (first, rest) (may, each) falls =
       let found : FindsWord knower slotted x = finds_word knower slotted x may in
-      let behind : Activation = knowing knower found.slot found.word in (
+      let following : Activation = knowing knower found.slot found.word in (
         refl,
         way knower,
         λ u step.
-            let comes_to : u ≡ Running (beside program inlined origins are c behind gs) = arrives knower slotted x found first u step in
-            subst (Comes (machine inlined pages calls) Way Goal (places_behind knower.function (knower.next + 1) (suc (length front)))) (sym comes_to)
-            (through front behind (still knower found.slot found.word found.further slotted)
+            let comes_to : u ≡ Running (beside program inlined origins are c following gs) = arrives knower slotted x found first u step in
+            subst (Comes (machine inlined pages calls) Way Goal (places_after knower.function (knower.next + 1) (suc (length front)))) (sym comes_to)
+            (through front following (still knower found.slot found.word found.further slotted)
             (subst HoldsWords comes_to (words_kept program inlined origins are plain fine pages calls (Running (beside program inlined origins are c knower gs)) u words step))
             rest each (omega (arith, falls))),
       )
@@ -276,16 +277,16 @@ module _ (program inlined : Program) (origins : List (List Origin)) (are : AreOp
 
   own_at : (k : ℕ) → k < count → Contains (own inlined origins (place_at c.active.function c.active.next)) (place_at b.function (b.next + k))
   own_at k below =
-      let long = length-append led.front (j ∷ []) in
-      let (x, there) = has_each s.code (place c.active.next) (led.front ++ j ∷ []) k led.at (omega (arith, below, long)) in
+      let long = length-append preceded.front (j ∷ []) in
+      let (x, there) = has_each s.code (place c.active.next) (preceded.front ++ j ∷ []) k preceded.at (omega (arith, below, long)) in
       subst (Contains (own inlined origins (place_at c.active.function c.active.next))) (λ n. place_at (sym same.slotted.function n) (sym same.next n + k))
-      (own_has inlined origins c.active.function (place c.active.next + k) c.active.function c.active.next x there (led.made k below))
+      (own_has inlined origins c.active.function (place c.active.next + k) c.active.function c.active.next x there (preceded.made k below))
 
-  pub steps_led : IsStepped (machine program pages calls) (machine inlined pages calls) (matching program inlined origins are plain fine pages calls) (Running c) (Running (beside program inlined origins are c b gs))
-  steps_led = record {
+  pub steps_preceded : IsStepped (machine program pages calls) (machine inlined pages calls) (matching program inlined origins are plain fine pages calls) (Running c) (Running (beside program inlined origins are c b gs))
+  steps_preceded = record {
     places = places;
-    distinct = behind-distinct b.function b.next count;
-    inside = behind_inside (own inlined origins (place_at c.active.function c.active.next)) b.function b.next count own_at;
-    comes = through led.front b same.slotted matches.words (subst (λ (n : ℕ). HasAt s.code n (led.front ++ j ∷ [])) (sym same.next) led.at) led.each
-        (let here = same.next in let next = led.next in omega (arith, here, next));
+    distinct = following-distinct b.function b.next count;
+    inside = after_inside (own inlined origins (place_at c.active.function c.active.next)) b.function b.next count own_at;
+    comes = through preceded.front b same.slotted matches.words (subst (λ (n : ℕ). HasAt s.code n (preceded.front ++ j ∷ [])) (sym same.next) preceded.at) preceded.each
+        (let here = same.next in let next = preceded.next in omega (arith, here, next));
   }
