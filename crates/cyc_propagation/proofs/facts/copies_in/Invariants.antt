@@ -1,0 +1,7 @@
+use Rattle.std.proofs.Common.{take}
+use Rattle.cyc_propagation.specs.inside.Copies.{AreMarked}
+use Rattle.cyc_propagation.proofs.facts.copies_in.Given as goal
+
+-- The mask contains the copies among the facts so far.
+abbrev pub invariant-loop-fact : goal.invariant-loop-fact
+invariant-loop-fact l = AreMarked l.copies (take l.fact-index l.facts)

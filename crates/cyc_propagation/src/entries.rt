@@ -1,0 +1,367 @@
+//! Searches for the facts at the places of regions with loops. The search is unverified: the checker validates the found facts.
+ghost use Rattle.std.specs.Prelude.{◌<◌, length};
+
+use crate::entry::{Entry, come_to, enter, no_entries};
+use crate::fact::Fact;
+use crate::facts::Facts;
+use crate::jumps::{is_end, target_of};
+use crate::known::is_unreached;
+use crate::outcomes::made;
+use crate::replacement::put_at;
+use crate::walk::come_after;
+use cyc_plain::{Function, Instruction, Plain};
+use std::alloc::{AllocError, Global};
+
+/// The greatest number of passes over a region with loops.
+const ROUNDS: usize = 4;
+
+/// The backward jumps to a place: a loop header or a handler.
+#[derive(Clone, Copy)]
+struct Head {
+    is_head: bool,
+    /// The furthest place that jumps back to this place, or this place if no jump does.
+    jumped_from: usize,
+}
+
+/// A range of places, up to `end`. No jump enters or leaves the range, except to places where a run ends.
+#[derive(Clone, Copy)]
+pub(crate) struct Region {
+    first: usize,
+    pub(crate) end: usize,
+    /// True if the region contains a loop header, so that its facts are searched.
+    pub(crate) is_searched: bool,
+}
+
+/// The search for the facts at the places of a function.
+#[derive(Drop)]
+pub(crate) struct Search {
+    heads: Vec<Head>,
+    /// The guessed facts at each place; empty if there are no loop headers.
+    pub(crate) guesses: Vec<Entry>,
+    facts: Facts,
+    /// The facts at the beginning of a region.
+    before: Vec<Fact>,
+    /// The current region.
+    pub(crate) region: Region,
+    /// True if only one pass is made, and the facts guessed for loop headers are then right or dropped.
+    is_short: bool,
+}
+
+/// Returns the furthest place to which the code jumps from a place, or from which it jumps back to it.
+fn furthest(heads: &[Head], code: &[Instruction], instruction: Instruction, index: usize) -> usize {
+    let back = match heads.get(index) {
+        Some(head) => head.jumped_from,
+        None => index,
+    };
+    match target_of(instruction) {
+        Some(target) => {
+            if target > back && !is_end(code, target) {
+                target
+            } else {
+                back
+            }
+        }
+        None => back,
+    }
+}
+
+fn is_head(heads: &[Head], place: usize) -> bool {
+    match heads.get(place) {
+        Some(head) => head.is_head,
+        None => false,
+    }
+}
+
+/// Returns the region that begins at a place.
+fn region_at(heads: &[Head], code: &[Instruction], first: usize) -> Region {
+    let mut last = first;
+    let mut has_head = false;
+    for index in first..code.len() {
+        let place = furthest(heads, code, code[index], index);
+        if last < place {
+            last = place;
+        }
+        has_head = has_head || is_head(heads, index);
+        if last <= index {
+            return Region {
+                first,
+                end: index + 1,
+                is_searched: has_head,
+            };
+        }
+    }
+    Region {
+        first,
+        end: code.len(),
+        is_searched: has_head,
+    }
+}
+
+/// Marks a place as the target of a jump from further on.
+fn mark(heads: &mut Vec<Head>, place: usize, from: usize) {
+    if let Some(head) = heads.get_mut(place) {
+        head.is_head = true;
+        head.jumped_from = from;
+    }
+}
+
+/// Returns true if an instruction leads to a loop header or a handler.
+fn has_head(instruction: Instruction, index: usize) -> bool {
+    match instruction {
+        Instruction::Jump { target } => target <= index,
+        Instruction::Branch { target, .. } => target <= index,
+        Instruction::Try { .. } => true,
+        _ => false,
+    }
+}
+
+/// Returns the number of places up to the last instruction that leads to a loop header or a handler.
+fn count_to_declarations(code: &[Instruction]) -> usize {
+    let mut count = 0;
+    for index in 0..code.len() {
+        if has_head(code[index], index) {
+            count = index + 1;
+        }
+    }
+    count
+}
+
+/// Returns for each place up to the last backward jump whether it is a loop header or a handler.
+fn collected_program(alloc: Global, code: &[Instruction]) -> Result<Vec<Head>, AllocError> {
+    let count = count_to_declarations(code);
+    let mut heads = Vec::with_capacity(alloc, count)?;
+    for index in 0..count.min(code.len()) {
+        heads.push(Head {
+            is_head: false,
+            jumped_from: index,
+        })?;
+        if let Some(target) = target_of(code[index]) {
+            if target <= index {
+                mark(&mut heads, target, index);
+            }
+        }
+        if let Instruction::Try { .. } = code[index] {
+            if let Some(head) = heads.get_mut(index) {
+                head.is_head = true;
+            }
+        }
+    }
+    Ok(heads)
+}
+
+/// Returns an upper bound of the number of places up to the end of the last region with a loop header.
+fn count_to_end(heads: &[Head], code: &[Instruction]) -> usize {
+    let mut count = heads.len();
+    for index in 0..code.len() {
+        if count <= index {
+            return count;
+        }
+        let place = furthest(heads, code, code[index], index);
+        if count <= place && place < code.len() {
+            count = place + 1;
+        }
+    }
+    count
+}
+
+/// Marks a place as a handler: exceptions can reach it, so nothing is known there.
+fn close(entries: &mut Vec<Entry>, place: usize) {
+    if let Some(entry) = entries.get_mut(place) {
+        entry.is_target = true;
+    }
+}
+
+/// Returns entries for `count` places: unknown, except that nothing is known at handlers.
+fn unknown(alloc: Global, code: &[Instruction], count: usize) -> Result<Vec<Entry>, AllocError> {
+    let mut guesses = no_entries(alloc, count)?;
+    for index in 0..count.min(code.len()) {
+        if let Instruction::Try { .. } = code[index] {
+            close(&mut guesses, index);
+        }
+    }
+    Ok(guesses)
+}
+
+impl Search {
+    pub(crate) fn new(
+        alloc: Global,
+        code: &[Instruction],
+        is_short: bool,
+    ) -> Result<Search, AllocError> {
+        let heads = collected_program(alloc, code)?;
+        let guesses = unknown(alloc, code, count_to_end(&heads, code))?;
+        Ok(Search {
+            heads,
+            guesses,
+            facts: Facts::new(alloc),
+            before: Vec::new(alloc),
+            region: Region {
+                first: 0,
+                end: 0,
+                is_searched: false,
+            },
+            is_short,
+        })
+    }
+
+    /// Returns true if control may reach a place from elsewhere than the previous instruction.
+    fn is_joined(&self, place: usize) -> bool {
+        match self.guesses.get(place) {
+            Some(guess) => guess.is_target || is_head(&self.heads, place),
+            None => false,
+        }
+    }
+
+    /// Joins the facts after the previous instruction into those of a place, if that instruction is reachable.
+    fn come_next(&mut self, code: &[Instruction], place: usize) -> Result<(), AllocError> {
+        if !self.is_joined(place) {
+            return Ok(());
+        }
+        if is_unreached(self.facts.all()) {
+            self.facts.clear();
+        } else {
+            come_to(&mut self.guesses, code, place, self.facts.all(), None)?;
+        }
+        enter(&self.guesses, place, &mut self.facts)
+    }
+
+    /// Processes one instruction, unless it is unreachable. Returns true if the facts required at the target of its backward jump are known
+    /// before the jump.
+    fn pass(
+        &mut self,
+        plain: &Plain,
+        function: &Function,
+        pinned: &[bool],
+        index: usize,
+    ) -> Result<bool, AllocError>
+        requires { index < length function.now.code.items }
+    {
+        if is_unreached(self.facts.all()) {
+            return Ok(true);
+        }
+        let count = function.code.len();
+        let instruction = put_at(&self.facts, index, count, function.code[index]);
+        let mut is_settled = true;
+        if let Some(target) = target_of(instruction) {
+            let more = made(pinned, instruction, index, target);
+            let facts = self.facts.all();
+            let is_still = come_to(&mut self.guesses, &function.code, target, facts, more)?;
+            is_settled = is_still || target > index;
+        }
+        come_after(plain, pinned, &mut self.facts, instruction, index)?;
+        Ok(is_settled)
+    }
+
+    /// Passes once over a region. Returns true if the facts at each loop header were known at the backward jumps to that header.
+    fn go_through(
+        &mut self,
+        plain: &Plain,
+        function: &Function,
+        pinned: &[bool],
+    ) -> Result<bool, AllocError> {
+        let mut is_settled = true;
+        for index in self.region.first..function.code.len() {
+            if index >= self.region.end {
+                return Ok(is_settled);
+            }
+            if index > self.region.first {
+                self.come_next(&function.code, index)?;
+            }
+            let is_still = self.pass(plain, function, pinned, index)?;
+            is_settled = is_settled && is_still;
+        }
+        Ok(is_settled)
+    }
+
+    /// Resets the facts of a region except at headers and at places where a run ends, to which jumps from elsewhere may lead. Returns true
+    /// if every header is reachable.
+    fn forget(&mut self, code: &[Instruction]) -> bool {
+        let mut are_led_to = true;
+        for index in self.region.first..self.region.end {
+            let is_head = is_head(&self.heads, index);
+            if let Some(guess) = self.guesses.get_mut(index) {
+                are_led_to = are_led_to && (guess.is_target || !is_head);
+                guess.is_target = guess.is_target && (is_head || is_end(code, index));
+            }
+        }
+        are_led_to
+    }
+
+    /// Drops the facts at headers and resets those elsewhere in the region.
+    fn forget_heads(&mut self, code: &[Instruction]) {
+        for index in self.region.first..self.region.end {
+            let is_head = is_head(&self.heads, index);
+            if let Some(guess) = self.guesses.get_mut(index) {
+                guess.is_target = is_head || (guess.is_target && is_end(code, index));
+                guess.facts.clear();
+            }
+        }
+    }
+
+    /// Merges the facts of backward jumps into those at the beginning of a region.
+    fn come_again(&mut self) -> Result<(), AllocError> {
+        self.facts.replace(&self.before)?;
+        if self.region.first > 0 {
+            enter(&self.guesses, self.region.first, &mut self.facts)?;
+        }
+        Ok(())
+    }
+
+    /// Finds the facts at each jump target of a region. A short search leaves everything except the changed headers to the walk.
+    fn settle(
+        &mut self,
+        plain: &Plain,
+        function: &Function,
+        pinned: &[bool],
+    ) -> Result<(), AllocError> {
+        self.before.clear();
+        self.before.extend_from_slice(self.facts.all())?;
+        for _ in 0..ROUNDS {
+            if self.go_through(plain, function, pinned)? {
+                return Ok(());
+            }
+            if self.forget(&function.code) && self.is_short {
+                self.region.is_searched = false;
+                return Ok(());
+            }
+            self.come_again()?;
+        }
+        self.forget_heads(&function.code);
+        self.come_again()?;
+        self.go_through(plain, function, pinned)?;
+        Ok(())
+    }
+
+    /// Returns true if a region begins at a place. Without a header no region is needed.
+    pub(crate) fn begins_at(&self, place: usize) -> bool {
+        place >= self.region.end && !self.heads.is_empty()
+    }
+
+    /// Begins a region at a place with these known facts. After the last header the rest of the code is one region.
+    pub(crate) fn begin(
+        &mut self,
+        plain: &Plain,
+        function: &Function,
+        pinned: &[bool],
+        facts: &[Fact],
+        first: usize,
+    ) -> Result<(), AllocError> {
+        if first >= self.guesses.len() {
+            self.region = Region {
+                first,
+                end: function.code.len(),
+                is_searched: false,
+            };
+            return Ok(());
+        }
+        self.region = region_at(&self.heads, &function.code, first);
+        if !self.region.is_searched {
+            return Ok(());
+        }
+        self.facts.replace(facts)?;
+        if first > 0 {
+            self.come_next(&function.code, first)?;
+        }
+        self.settle(plain, function, pinned)
+    }
+}

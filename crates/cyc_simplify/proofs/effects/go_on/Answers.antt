@@ -1,5 +1,0 @@
--- cyc_simplify/proofs/effects/go_on/Answers.antt
-use Rattle.cyc_simplify.proofs.effects.go_on.Goals as goal
-
-pub returns-in-Binary : goal.returns-in-Binary
-returns-in-Binary c = rw c.in-Binary.is c.compute.ensures

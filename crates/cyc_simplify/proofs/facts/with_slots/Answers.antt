@@ -1,9 +1,0 @@
--- cyc_simplify/proofs/facts/with_slots/Answers.antt
-use Rattle.cyc_simplify.proofs.About.{fact_left, fact_right}
-use Rattle.cyc_simplify.proofs.facts.with_slots.Goals as goal
-
-pub returns-clause-more : goal.returns-clause-more
-returns-clause-more c other is = fact_left c.args.slots c.slots_of.result other is
-
-pub returns-clause-has : goal.returns-clause-has
-returns-clause-has c = fact_right c.args.slots c.slots_of.result c.args.fact.now c.slots_of.ensures

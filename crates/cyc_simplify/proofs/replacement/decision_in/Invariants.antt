@@ -1,9 +1,0 @@
--- cyc_simplify/proofs/replacement/decision_in/Invariants.antt
-use Rattle.std.proofs.Common.{◌≡◌, drop}
-use Rattle.cyc_simplify.specs.inside.Replacement.{decision_in}
-use Rattle.cyc_simplify.proofs.replacement.decision_in.Given as goal
-
--- no fact so far decides it
-abbrev pub invariant-loop-fact : goal.invariant-loop-fact
-invariant-loop-fact l =
-    decision_in (drop l.fact-index l.facts) l.comparison l.left l.right ≡ decision_in l.facts l.comparison l.left l.right

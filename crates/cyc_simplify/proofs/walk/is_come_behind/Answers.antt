@@ -1,9 +1,0 @@
--- cyc_simplify/proofs/walk/is_come_behind/Answers.antt
-use Rattle.cyc_simplify.specs.inside.Entries.{entry_in}
-use Rattle.cyc_simplify.proofs.Entered.{gone_well}
-use Rattle.cyc_simplify.proofs.walk.is_come_behind.Goals as goal
-
-pub returns-then-branch-clause-right : goal.returns-then-branch-clause-right
-returns-then-branch-clause-right c is_right =
-    let a = c.args in
-    gone_well (entry_in c.come_next.new.entries.items) a.behind.now a.instruction a.index (c.in_ok-come_next.ensures.known c.if-branch.true)
