@@ -1,4 +1,4 @@
--- Masks: what a set of chosen slots has, bit by bit.
+-- Masks of candidate slots, bit by bit.
 use Rattle.std.proofs.Common.{◌≡◌, ◌≢◌, ℕ, zero, suc, ◌+◌, ◌-◌, ◌*◌, ◌^◌, ◌%◌, ◌<◌, ◌≤◌, true, false, List, [], ◌∷◌, ◌++◌, length, refl, sym, ap, subst, ◌∙◌, arith, inl, inr}
 use Rattle.std.specs.Prelude.{bit_and, bit_xor, nat_le, nat_lt}
 use Rattle.std.specs.Int.{bit_at}
@@ -11,7 +11,7 @@ use Rattle.cyc_registers.specs.declared.liveness.TheConstants.{ALL_NUMBERS, MOST
 use Rattle.cyc_registers.specs.inside.Masks.{mask_at, HasBit, AreMasks, range_mask}
 use Rattle.cyc_registers.specs.inside.Sharing.{is_single}
 
--- ---- bits
+-- ---- single bits
 
 pub bit_turned : (w j : ℕ) → j < MOST_CHOSEN → bit_at w j ≡ 0 → bit_at (bit_xor ALL_NUMBERS w) j ≡ 1
 bit_turned w j few is =
@@ -31,12 +31,12 @@ one_alone x i j single first second = elim (cases_lt i j) [
   ]
 ]
 
--- ---- ranges
+-- ---- ranges of slots
 
 pub no_mask : (masks : List ℕ) (place : ℕ) → length masks ≤ place → mask_at masks place ≡ 0
-no_mask [] place behind = refl
-no_mask (m ∷ masks) zero behind = absurd (omega (arith, behind))
-no_mask (m ∷ masks) (suc place) behind = no_mask masks place (omega (arith, behind))
+no_mask [] place following = refl
+no_mask (m ∷ masks) zero following = absurd (omega (arith, following))
+no_mask (m ∷ masks) (suc place) following = no_mask masks place (omega (arith, following))
 
 pub range_bit : (masks : List ℕ) (first count slot j : ℕ) → first ≤ slot → slot < first + count → HasBit masks slot j
     → bit_at (range_mask masks first count) j ≡ 1
@@ -62,7 +62,7 @@ no_range_bit masks first (suc count) j none =
     (no_range_bit masks first count j (λ k below. none k (omega (arith, below)))) (none count (omega arith))
 
 module _ (masks : List ℕ) (next : ℕ) (are : AreMasks masks next) (slot j : ℕ) (has : HasBit masks slot j) where
-  -- no other slot has its bit
+  -- No other slot has the bit of this slot.
   pub other_bit : (other : ℕ) → (other ≡ slot → ⊥) → bit_at (mask_at masks other) j ≡ 0
   other_bit other apart = elim (cases_lt (bit_at (mask_at masks other) j) 1) [
     | inl small ↦ omega (arith, small)

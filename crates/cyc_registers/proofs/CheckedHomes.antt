@@ -1,4 +1,4 @@
--- Homes that were checked are right.
+-- Checked homes are correct.
 use Rattle.std.proofs.Common.{◌≡◌, ℕ, zero, suc, ◌+◌, ◌<◌, ◌≤◌, true, false, List, [], ◌∷◌, ◌++◌, length, Some, None, refl, sym, ap, subst, ◌∙◌, arith, inl, inr}
 use Rattle.std.specs.Prelude.{◌⊎◌, ◌==◌, ◌||◌, ◌&&◌, Bool, nat_le, nat_lt, bit_and, bit_or, if◌then◌else◌, sum_by, take, slice_get}
 use Rattle.std.specs.Int.{bit_at}
@@ -17,7 +17,7 @@ use Rattle.cyc_registers.specs.declared.liveness.TheConstants.{MOST_CHOSEN}
 use Rattle.cyc_registers.specs.declared.uses.Uses.{Uses}
 use Rattle.cyc_registers.specs.inside.Interference.{AreHomes, HasRegister, register_of, is_preserved, is_kept, home_of, both_count, saved_count}
 use Rattle.cyc_registers.specs.inside.Liveness.{IsLiveAt, IsLiveLater}
-use Rattle.cyc_registers.specs.inside.LivenessTable.{IsSound, behind_mask, is_within, may_have}
+use Rattle.cyc_registers.specs.inside.LivenessTable.{IsSound, after_mask, is_within, may_have}
 use Rattle.cyc_registers.specs.inside.Masks.{mask_at, HasBit, AreMasks, range_mask, uses_of, write_mask}
 use Rattle.cyc_registers.specs.inside.Sharing.{AllSuit, AreAlone, AreApartAt, AreGroups, AreHolders, NeverMeet, AreSingle, Suits, is_given, is_single, standing_mask, suits, with_group}
 use Rattle.cyc_words.proofs.Lists.{slice_get_last}
@@ -25,18 +25,18 @@ use Rattle.cyc_words.proofs.Items.{slice_get_front}
 use Rattle.cyc_words.proofs.Bits.{apart_bits, bit_left, bit_right, bit_both, bit_within}
 use Rattle.cyc_registers.proofs.Bits.{no_mask, one_alone, range_bit, among_bit}
 use Rattle.cyc_registers.proofs.Meeting.{alone_single}
-use Rattle.cyc_registers.proofs.CheckedLiveness.{live_bit, led_bit, behind_bit, clause_bit, barred_bit, written_bit}
+use Rattle.cyc_registers.proofs.CheckedLiveness.{live_bit, led_bit, after_bit, clause_bit, barred_bit, written_bit}
 
 no_number : (k : ℕ) → None ≡ Some k → ⊥
 no_number k is = let e : None ≡ Some k = is in cc
 
--- behind the last home there is memory
+-- The home after the last listed one is memory.
 past_homes : (hs : List Home) (slot : ℕ) → length hs ≤ slot → home_of hs slot ≡ homes.Memory
 past_homes [] slot past = refl
 past_homes (h ∷ hs) zero past = absurd (omega (arith, past))
 past_homes (h ∷ hs) (suc slot) past = past_homes hs slot (omega (arith, past))
 
--- ---- one by one
+-- ---- one register at a time
 
 pub more_groups : (holders groups : List ℕ) (count : ℕ) → AreGroups holders count groups → AreGroups holders (count + 1) (with_group groups (mask_at holders count))
 more_groups holders groups count so_far = elim (cases_Bool (is_single (mask_at holders count))) [
@@ -70,11 +70,11 @@ module _ (program : Program) (r : Routine) (masks live holders : List ℕ) (call
     (sound : IsSound program r masks live calls clauses barred) (are : AreMasks masks MOST_CHOSEN) where
   -- ---- the home of one slot
 
-  -- it is in a register alone, and not live in a clause, or has the register for itself
+  -- The slot is in a register only and not live in a handler, or it has the register for itself.
   abbrev IsAloneAt : (slot k : ℕ) → Home → Type 0
   IsAloneAt slot k home = ((is_kept home ≡ false) × (bit_and clauses (mask_at masks slot) ≡ 0)) ⊎ (mask_at holders k ≡ mask_at masks slot)
 
-  -- what the check says of a register that a slot has
+  -- The properties that the check ensures of a slot's register.
   record Has (slot k : ℕ) (home : Home) : Type 0 where
     low : FIRST_REGISTER ≤ k
     high : k < FIRST_PRESERVED + saved
@@ -108,7 +108,7 @@ module _ (program : Program) (r : Routine) (masks live holders : List ℕ) (call
         let parts = and_parts (nat_le FIRST_REGISTER k) (nat_lt k (FIRST_PRESERVED + saved)) is in
         (leb-true FIRST_REGISTER k parts.0, ltb-true k (FIRST_PRESERVED + saved) parts.1)
 
-    -- where the table does not have it where the function begins, it is not live there
+    -- A slot that the table does not contain at the entry is not live there.
     only_parameters : (j : ℕ) → HasBit masks slot j → IsEntered → IsLiveAt program r slot 0 → slot < r.parameters
     only_parameters j has (inl below) wanted = below
     only_parameters j has (inr none) wanted =
@@ -173,7 +173,7 @@ module _ (program : Program) (r : Routine) (masks live holders : List ℕ) (call
     suits_of : (home : Home) → Passes home → Suits program r slot home
     suits_of homes.Memory is = record {
       entry = λ k its wanted. absurd (no_number k its);
-      behind = λ index function arguments count result at other wanted. refl;
+      following = λ index function arguments count result at other wanted. refl;
       clause = λ index first handler at wanted. refl;
       barred = λ index i at is. refl;
     }
@@ -183,7 +183,7 @@ module _ (program : Program) (r : Routine) (masks live holders : List ℕ) (call
         let (j, has) = are.some slot some in
         record {
           entry = λ k its wanted. only_parameters j has entered wanted;
-          behind = λ index function arguments count result at other wanted. refl;
+          following = λ index function arguments count result at other wanted. refl;
           clause = λ index first handler at wanted. refl;
           barred = λ index i at is. absurd (apart_bits barred (mask_at masks slot) j free has (barred_bit program r masks live calls clauses barred sound slot j are has index i at is));
         }
@@ -193,17 +193,17 @@ module _ (program : Program) (r : Routine) (masks live holders : List ℕ) (call
         let (j, has) = are.some slot some in
         record {
           entry = λ k its wanted. only_parameters j has entered wanted;
-          behind = λ index function arguments count result at other wanted. elim there [
+          following = λ index function arguments count result at other wanted. elim there [
             | inl preserved ↦ preserved
             | inr none ↦
-                absurd (apart_bits calls (mask_at masks slot) j none has (behind_bit program r masks live calls clauses barred sound slot j are has index function arguments count result at other wanted))
+                absurd (apart_bits calls (mask_at masks slot) j none has (after_bit program r masks live calls clauses barred sound slot j are has index function arguments count result at other wanted))
           ];
           clause = λ index first handler at wanted.
               absurd (apart_bits clauses (mask_at masks slot) j outside has (clause_bit program r masks live calls clauses barred sound slot j are has index first handler at wanted));
           barred = λ index i at is. absurd (apart_bits barred (mask_at masks slot) j free has (barred_bit program r masks live calls clauses barred sound slot j are has index i at is));
         }
 
-  -- ---- the homes of all
+  -- ---- the homes of all slots
 
   module _ (hs : List Home) (all : AllSuit masks live holders calls clauses barred r.parameters saved hs) where
     passes : (slot : ℕ) → Passes slot (home_of hs slot)
@@ -221,18 +221,18 @@ module _ (program : Program) (r : Routine) (masks live holders : List ℕ) (call
     pub are_holders : AreHolders masks holders hs
     are_holders slot k its = ((has slot k its).some, (has slot k its).held)
 
-    -- the slot's bit is one of its register's
+    -- The set of a register contains the bits of its slots.
     held_bit : (slot k j : ℕ) → HasRegister hs slot k → HasBit masks slot j → bit_at (mask_at holders k) j ≡ 1
     held_bit slot k j its bit =
         bit_within (mask_at masks slot) (mask_at holders k) j (eqb-true (bit_or (mask_at masks slot) (mask_at holders k)) (mask_at holders k) (has slot k its).held) bit
 
-    -- a slot that has a register for itself
+    -- A slot that is the only one of its register has it for itself.
     only_holder : (a c k : ℕ) → mask_at holders k ≡ mask_at masks a → HasRegister hs c k → a ≡ c
     only_holder a c k same its =
         let (j, bit) = are.some c (has c k its).some in
         are.one a c j (subst (λ (n : ℕ). bit_at n j ≡ 1) same (held_bit c k j its bit)) bit
 
-    -- a register that has a slot is one of those of the table
+    -- A register with a slot has an entry in `holders`.
     inside : (k j : ℕ) → bit_at (mask_at holders k) j ≡ 1 → k < length holders
     inside k j is = elim (cases_lt k (length holders)) [
       | inl below ↦ below
@@ -240,7 +240,7 @@ module _ (program : Program) (r : Routine) (masks live holders : List ℕ) (call
     ]
 
     module _ (groups : List ℕ) (grouped : AreGroups holders (length holders) groups) where
-      -- two slots of one register are the same where a set has both, of which each group has one at most
+      -- Two slots of one register are equal if a set with at most one slot of each group contains both.
       one_in : (set a c k j l : ℕ) → AreAlone groups set
           → HasRegister hs a k → HasRegister hs c k → HasBit masks a j → HasBit masks c l → bit_at set j ≡ 1 → bit_at set l ≡ 1 → a ≡ c
       one_in set a c k j l alone its_a its_c bit_a bit_c in_a in_c =
@@ -261,11 +261,11 @@ module _ (program : Program) (r : Routine) (masks live holders : List ℕ) (call
           ]
 
       module _ (meet : NeverMeet program r masks live groups (length r.code)) where
-        -- what an instruction does
+        -- The uses and definitions of an instruction, as masks of candidates.
         abbrev used : Instruction → Uses
         used i = uses_of program r.results masks i
 
-        -- an instruction where it is live
+        -- A place where the slot is live has an instruction.
         live_there : (slot index : ℕ) → IsLiveAt program r slot index → (i : Instruction) × At r index i
         live_there slot index (zero, (i, at, is)) = (i, at)
         live_there slot index (suc steps, (i, at, other, next, led, later)) = (i, at)
@@ -278,7 +278,7 @@ module _ (program : Program) (r : Routine) (masks live holders : List ℕ) (call
             bit_left (mask_at live index) (write_mask masks program (instructions.MoveWords destination source count)) j is
         live_stands i index j is = is
 
-        -- two slots of one register that are both live at a place are the same
+        -- Two slots of one register that are both live at a place are equal.
         both_live : (index a c k : ℕ) → HasRegister hs a k → HasRegister hs c k → IsLiveAt program r a index → IsLiveAt program r c index → a ≡ c
         both_live index a c k its_a its_c live_a live_c =
             let (i, at) = live_there a index live_a in
@@ -297,7 +297,7 @@ module _ (program : Program) (r : Routine) (masks live holders : List ℕ) (call
           ]
         ]
           where
-            -- what is in a register alone is not live in a clause
+            -- A slot in a register only is not live in a handler.
             now : (slot k : ℕ) → HasRegister hs slot k → is_kept (home_of hs slot) ≡ false → IsLiveLater program r slot index → IsLiveAt program r slot index
             now slot k its unkept (inl here) = here
             now slot k its unkept (inr (at_try, first, handler, at, wanted)) = absurd (both_ways (is_kept (home_of hs slot)) unkept ((each slot).clause at_try first handler at wanted))
@@ -308,21 +308,21 @@ module _ (program : Program) (r : Routine) (masks live holders : List ℕ) (call
             let (j, bit_a) = are.some a (has a k its_a).some in
             let (l, bit_d) = are.some d (has d k its_d).some in
             let writing = write_mask masks program i in
-            let behind = behind_mask i index live in
+            let following = after_mask i index live in
             let in_written : bit_at writing l ≡ 1 = written_bit masks d l bit_d program i (λ is. no_number k (sym ((each d).barred index i at is) ∙ its_d)) written in
-            let in_behind : bit_at behind j ≡ 1 = led_bit i index next j live led (live_bit program r masks live calls clauses barred sound a j are bit_a next wanted) in
-            one_in_written index i at a d k j l its_a its_d bit_a bit_d in_written in_behind
+            let in_after : bit_at following j ≡ 1 = led_bit i index next j live led (live_bit program r masks live calls clauses barred sound a j are bit_a next wanted) in
+            one_in_written index i at a d k j l its_a its_d bit_a bit_d in_written in_after
           where
-            -- where the register of one is written
+            -- Two slots of one register are equal if one is written and the other is written or live after.
             one_in_written : (index : ℕ) (i : Instruction) → At r index i → (a d k j l : ℕ) → HasRegister hs a k → HasRegister hs d k → HasBit masks a j → HasBit masks d l
-                → bit_at (write_mask masks program i) l ≡ 1 → bit_at (behind_mask i index live) j ≡ 1 → a ≡ d
-            one_in_written index i at a d k j l its_a its_d bit_a bit_d in_written in_behind = are.one a d j bit_a (subst (λ (n : ℕ). HasBit masks d n) (sym same) bit_d)
+                → bit_at (write_mask masks program i) l ≡ 1 → bit_at (after_mask i index live) j ≡ 1 → a ≡ d
+            one_in_written index i at a d k j l its_a its_d bit_a bit_d in_written in_after = are.one a d j bit_a (subst (λ (n : ℕ). HasBit masks d n) (sym same) bit_d)
               where
                 writing : ℕ
                 writing = write_mask masks program i
 
                 either : ℕ
-                either = bit_or writing (behind_mask i index live)
+                either = bit_or writing (after_mask i index live)
 
                 held_a : bit_at (mask_at holders k) j ≡ 1
                 held_a = held_bit a k j its_a bit_a
@@ -339,8 +339,8 @@ module _ (program : Program) (r : Routine) (masks live holders : List ℕ) (call
                         | inl none ↦ absurd (apart_bits writing (mask_at holders k) l (eqb-true (bit_and writing (mask_at holders k)) 0 none) held_d in_written)
                         | inr single ↦
                             one_alone (bit_and either (mask_at holders k)) j l single
-                            (bit_both either (mask_at holders k) j (bit_right writing (behind_mask i index live) j in_behind) held_a)
-                            (bit_both either (mask_at holders k) l (bit_left writing (behind_mask i index live) l in_written) held_d)
+                            (bit_both either (mask_at holders k) j (bit_right writing (after_mask i index live) j in_after) held_a)
+                            (bit_both either (mask_at holders k) l (bit_left writing (after_mask i index live) l in_written) held_d)
                       ]
                 ]
 
@@ -356,7 +356,7 @@ module _ (program : Program) (r : Routine) (masks live holders : List ℕ) (call
             (bit_right (mask_at live index) (write_mask masks program i) l (among_bit masks destination count d l to bit_d))
 
         module _ (arrive : AreSingle groups (range_mask masks 0 r.parameters)) where
-          -- two parameters have no register together
+          -- Two parameters of one register are equal if one is live at the entry.
           two_parameters : (a c k : ℕ) → HasRegister hs a k → HasRegister hs c k → a < r.parameters → c < r.parameters → a ≡ c
           two_parameters a c k its_a its_c below_a below_c =
               let (j, bit_a) = are.some a (has a k its_a).some in
@@ -381,12 +381,12 @@ module _ (program : Program) (r : Routine) (masks live holders : List ℕ) (call
             alone = λ a c k both_a its_c. alone_of a c k both_a its_c (has a k (ap register_of both_a)).alone;
             entry = λ a k its wanted. (each a).entry k its wanted;
             parameters = λ a c k its_a its_c below wanted. two_parameters a c k its_a its_c ((each a).entry k its_a wanted) below;
-            behind = λ index function arguments count result a at other wanted. (each a).behind index function arguments count result at other wanted;
+            following = λ index function arguments count result a at other wanted. (each a).following index function arguments count result at other wanted;
             clause = λ index first handler a at wanted. (each a).clause index first handler at wanted;
             barred = λ index a i at is. (each a).barred index i at is;
           }
             where
-              -- what is in memory too has the register for itself
+              -- A slot with a register and memory shares its register with no slot.
               alone_of : (a c k : ℕ) → home_of hs a ≡ homes.Both k → HasRegister hs c k → IsAloneAt a k (home_of hs a) → a ≡ c
               alone_of a c k both_a its_c (inl (unkept, none)) = absurd (both_ways (is_kept (home_of hs a)) unkept (ap is_kept both_a))
               alone_of a c k both_a its_c (inr only) = only_holder a c k only its_c

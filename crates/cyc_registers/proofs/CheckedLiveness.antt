@@ -1,4 +1,4 @@
--- What a table that was checked says of each chosen slot: it misses no place where the slot is live.
+-- A checked table is right for each candidate: it misses no place where the slot is live.
 use Rattle.std.proofs.Common.{◌≡◌, ℕ, zero, suc, ◌+◌, true, false, ◌||◌, ◌&&◌, List, sym, subst, arith, inl, inr}
 use Rattle.std.specs.Prelude.{◌==◌, Bool, if◌then◌else◌, bit_and, bit_or}
 use Rattle.std.specs.Int.{bit_at}
@@ -16,13 +16,13 @@ use Rattle.cyc_plain.specs.inside.Uses.{At, is_slot, is_among, request_reads, re
 use Rattle.cyc_registers.specs.declared.liveness.TheConstants.{MOST_CHOSEN}
 use Rattle.cyc_registers.specs.declared.uses.Uses.{Uses}
 use Rattle.cyc_registers.specs.inside.Masks.{mask_at, HasBit, AreMasks, operand_mask, range_mask, request_read_mask, read_mask, request_write_mask, write_mask, bar_mask, uses_of}
-use Rattle.cyc_registers.specs.inside.LivenessTable.{behind_mask, unwritten_mask, needed_mask, call_mask, clause_mask, is_within, is_sound_at, IsSound}
+use Rattle.cyc_registers.specs.inside.LivenessTable.{after_mask, unwritten_mask, needed_mask, call_mask, clause_mask, is_within, is_sound_at, IsSound}
 use Rattle.cyc_words.proofs.Bits.{bit_left, bit_right, bit_both, bit_within}
 use Rattle.cyc_registers.proofs.Bits.{bit_turned, among_bit, other_bit, not_among_bit}
 use Rattle.cyc_registers.specs.inside.Bars.{is_crossing, bars}
 use Rattle.cyc_registers.specs.inside.Liveness.{IsLiveWithin, IsLiveAt}
 
--- ---- where a run may stand behind an instruction
+-- ---- successors of an instruction
 
 next_bit : (live : List ℕ) (index next j : ℕ) → (suc index == next) ≡ true → bit_at (mask_at live next) j ≡ 1 → bit_at (mask_at live (index + 1)) j ≡ 1
 next_bit live index next j same is =
@@ -40,7 +40,7 @@ either_bit live index to next j led is = elim (or_cases (suc index == next) (to 
 ]
 
 pub led_bit : (i : Instruction) (index next j : ℕ) (live : List ℕ) → leads i index next ≡ true → bit_at (mask_at live next) j ≡ 1
-    → bit_at (behind_mask i index live) j ≡ 1
+    → bit_at (after_mask i index live) j ≡ 1
 led_bit (instructions.Jump target) index next j live led is = to_bit live target next j led is
 led_bit (instructions.Branch comparison left right target) index next j live led is = either_bit live index target next j led is
 led_bit (instructions.Return value) index next j live led is = absurd (false≢true led)
@@ -50,7 +50,7 @@ led_bit (instructions.Finish value) index next j live led is = absurd (false≢t
 led_bit (instructions.Uncaught tag value) index next j live led is = absurd (false≢true led)
 led_bit i index next j live led is = next_bit live index next j led is
 
--- ---- the masks of an instruction have a slot's bit where it reads or bars the slot
+-- ---- the masks of an instruction contain the slots that it reads or excludes
 
 module _ (masks : List ℕ) (slot j : ℕ) (has : HasBit masks slot j) where
   slot_bit : (number : ℕ) → (number == slot) ≡ true → bit_at (mask_at masks number) j ≡ 1
@@ -119,7 +119,7 @@ module _ (masks : List ℕ) (slot j : ℕ) (has : HasBit masks slot j) where
   request_written_bit (requests.Allocate destination handle words) is = slot_bit destination is
   request_written_bit (requests.Free address) is = absurd (false≢true is)
 
-  -- or writes it, and does not bar it
+  -- The mask of writes contains each slot that the instruction writes and does not exclude.
   pub written_bit : (program : Program) (i : Instruction) → (bars i slot ≡ true → ⊥) → writes program i slot ≡ true → bit_at (write_mask masks program i) j ≡ 1
   written_bit program (instructions.Move destination source) free is = slot_bit destination is
   written_bit program (instructions.MoveWords destination source count) free is = among_bit masks destination count slot j is has
@@ -137,7 +137,7 @@ module _ (masks : List ℕ) (slot j : ℕ) (has : HasBit masks slot j) where
   written_bit program (instructions.Try first handler) free is = absurd (free is)
   written_bit program i free is = absurd (false≢true is)
 
-  -- and that of what it writes has no bit of a slot that it does not write
+  -- The mask of writes contains no slot that the instruction does not write.
   module _ (program : Program) (next : ℕ) (are : AreMasks masks next) where
     other_slot : (number : ℕ) → (number == slot) ≡ false → bit_at (mask_at masks number) j ≡ 0
     other_slot number apart = other_bit masks next are slot j has number (eqb-false number slot apart)
@@ -166,28 +166,28 @@ module _ (masks : List ℕ) (slot j : ℕ) (has : HasBit masks slot j) where
     unwritten_bit (instructions.CountLexical destination) apart = other_slot destination apart
     unwritten_bit i apart = bit_at-zero j
 
--- ---- a table that was checked
+-- ---- a checked table
 
 module _ (program : Program) (r : Routine) (masks live : List ℕ) (calls clauses barred : ℕ) (sound : IsSound program r masks live calls clauses barred) where
-  -- what the table of uses has of an instruction
+  -- The uses and definitions of an instruction, as listed in the table of uses.
   abbrev used : Instruction → Uses
   used i = uses_of program r.results masks i
 
-  -- what the check says of one instruction
+  -- The properties that the check ensures of one instruction.
   checked : (index : ℕ) (i : Instruction) → At r index i
       → (bit_or (needed_mask (used i) i index live) (mask_at live index) ≡ mask_at live index)
       × (bit_or (call_mask (used i) i index live) calls ≡ calls) × (bit_or (clause_mask i live) clauses ≡ clauses) × (bit_or (bar_mask masks i) barred ≡ barred)
   unfolding is_sound_at
   checked index i at =
       let needed = needed_mask (used i) i index live in
-      let behind = call_mask (used i) i index live in
+      let following = call_mask (used i) i index live in
       let in_clause = clause_mask i live in
       let last : Bool = is_within in_clause clauses && is_within (bar_mask masks i) barred in
-      let first = and_parts (is_within needed (mask_at live index)) (is_within behind calls && last) (sound index i at) in
-      let second = and_parts (is_within behind calls) last first.1 in
+      let first = and_parts (is_within needed (mask_at live index)) (is_within following calls && last) (sound index i at) in
+      let second = and_parts (is_within following calls) last first.1 in
       let third = and_parts (is_within in_clause clauses) (is_within (bar_mask masks i) barred) second.1 in (
         eqb-true (bit_or needed (mask_at live index)) (mask_at live index) first.0,
-        eqb-true (bit_or behind calls) calls second.0,
+        eqb-true (bit_or following calls) calls second.0,
         eqb-true (bit_or in_clause clauses) clauses third.0,
         eqb-true (bit_or (bar_mask masks i) barred) barred third.1,
       )
@@ -199,23 +199,23 @@ module _ (program : Program) (r : Routine) (masks live : List ℕ) (calls clause
     live_within : (steps index : ℕ) → IsLiveWithin program r slot steps index → bit_at (mask_at live index) j ≡ 1
     live_within zero index (i, at, is) =
         bit_within (needed_mask (used i) i index live) (mask_at live index) j (checked index i at).0
-        (bit_left (read_mask masks r.results i) (bit_and (behind_mask i index live) (unwritten_mask (used i))) j
+        (bit_left (read_mask masks r.results i) (bit_and (after_mask i index live) (unwritten_mask (used i))) j
         (read_bit masks slot j has r.results i is))
     live_within (suc steps) index (i, at, other, next, led, wanted) =
         let others = unwritten_mask (used i) in
         bit_within (needed_mask (used i) i index live) (mask_at live index) j (checked index i at).0
-        (bit_right (read_mask masks r.results i) (bit_and (behind_mask i index live) others) j
-        (bit_both (behind_mask i index live) others j
+        (bit_right (read_mask masks r.results i) (bit_and (after_mask i index live) others) j
+        (bit_both (after_mask i index live) others j
         (led_bit i index next j live led (live_within steps next wanted))
         (others_bit i other)))
 
-    -- where it is live the table says so
+    -- The table contains the slot at each place where it is live.
     pub live_bit : (index : ℕ) → IsLiveAt program r slot index → bit_at (mask_at live index) j ≡ 1
     live_bit index (steps, wanted) = live_within steps index wanted
 
-    pub behind_bit : (index function arguments count result : ℕ) → At r index (instructions.Call function arguments count result)
+    pub after_bit : (index function arguments count result : ℕ) → At r index (instructions.Call function arguments count result)
         → writes program (instructions.Call function arguments count result) slot ≡ false → IsLiveAt program r slot (suc index) → bit_at calls j ≡ 1
-    behind_bit index function arguments count result at other wanted =
+    after_bit index function arguments count result at other wanted =
         let i : Instruction = instructions.Call function arguments count result in
         bit_within (call_mask (used i) i index live) calls j (checked index i at).1
         (bit_both (mask_at live (index + 1)) (unwritten_mask (used i)) j

@@ -1,4 +1,4 @@
--- The places that are said to be idle are.
+-- The places listed as idle are idle.
 use Rattle.std.proofs.Common.{◌≡◌, ◌≢◌, ℕ, zero, suc, ◌+◌, ◌<◌, Bool, false, true, List, [], ◌∷◌, ◌++◌, length, Some, length-append, refl, sym, ap, subst, ◌∙◌, arith, inl, inr}
 use Rattle.std.specs.Prelude.{◌==◌, ◌&&◌, ◌||◌, not, nat_le, nat_lt, if◌then◌else◌, bit_and, slice_get, slice_set}
 use Rattle.std.proofs.lemmas.Bool.{and_parts, and_from, or_cases, cases_eq, leb-true, ltb-true, lt-ltb, eqb-true, false≢true, not_from_true, not-true}
@@ -23,7 +23,7 @@ use Rattle.cyc_words.proofs.Bits.{apart_bits}
 use Rattle.cyc_registers.proofs.CheckedLiveness.{live_bit}
 use Rattle.cyc_registers.specs.inside.Liveness.{IsLiveAt}
 
--- ---- slots that are not live behind a place
+-- ---- slots that are not live after a place
 
 among_unused : (masks live : List ℕ) (hs : List Home) (index first count : ℕ) → are_unused masks live hs index first count ≡ true
     → (slot : ℕ) → is_among first count slot ≡ true → is_unused masks live hs index slot ≡ true
@@ -40,7 +40,7 @@ among_unused masks live hs index first (suc count) are slot among =
           (and_from (nat_le first slot) (nat_lt slot (first + count)) from (lt-ltb slot (first + count) (omega (arith, apart, ltb-true slot (first + suc count) before))))
     ]
 
--- ---- by the table
+-- ---- correctness of the check by the liveness table
 
 same_slot : (operand : Operand) (slot : ℕ) → is_slot operand slot ≡ true → operand ≡ operands.Slot slot
 same_slot (operands.Slot number) slot is = ap operands.Slot (eqb-true number slot is)
@@ -103,7 +103,7 @@ module _ (program : Program) (r : Routine) (masks live : List ℕ) (calls clause
   ]
   idle i is = absurd (false≢true is)
 
--- ---- one by one
+-- ---- one place at a time
 
 flag_before : (flags : List Bool) (flag : Bool) (index : ℕ) → index ≢ length flags → idle_at (flags ++ flag ∷ []) index ≡ idle_at flags index
 flag_before [] flag zero apart = absurd (apart refl)
@@ -115,7 +115,7 @@ flag_last : (flags : List Bool) (flag : Bool) → idle_at (flags ++ flag ∷ [])
 flag_last [] flag = refl
 flag_last (f ∷ flags) flag = flag_last flags flag
 
--- what is idle where so many places are said to be is so where more are
+-- A place that is idle by some flags is idle by flags that mark more places.
 still_idle : (program : Program) (r : Routine) (hs : List Home) (flags more : List Bool) (index : ℕ) → ((k : ℕ) → idle_at flags k ≡ true → idle_at more k ≡ true)
     → (i : Instruction) → IsIdle program r hs flags index i → IsIdle program r hs more index i
 still_idle program r hs flags more index still (instructions.Move destination source) is = is
@@ -131,7 +131,7 @@ idle_before [] flag k is = absurd (false≢true is)
 idle_before (f ∷ flags) flag zero is = is
 idle_before (f ∷ flags) flag (suc k) is = idle_before flags flag k is
 
--- the places of the first instructions, so many of them
+-- The flags of the first `count` instructions are right.
 abbrev pub AreFirstIdle : Program → Routine → List Home → (count : ℕ) → List Bool → Type 0
 AreFirstIdle program r hs count flags = AreIdle program r hs flags × (length flags ≡ count)
 
@@ -153,14 +153,14 @@ more_idle program r hs count flags flag last (are, many) at idle = (each, omega 
       | inr apart ↦ more index i (are index i at_i (sym (flag_before flags flag index apart) ∙ is))
     ]
 
--- ---- jumps over places that are idle
+-- ---- jumps over idle places
 
--- a place that leads over those that are idle is idle
+-- A jump that skips only idle places is idle.
 pub over_idle : (program : Program) (r : Routine) (hs : List Home) (flags : List Bool) (index : ℕ) (i : Instruction) → LeadsOver flags index i → IsIdle program r hs flags index i
 over_idle program r hs flags index (instructions.Jump target) leads = leads
 over_idle program r hs flags index i leads = absurd leads
 
--- the flags with a place more, where it is one
+-- The flags with one more place marked, if it is idle.
 abbrev pub with_place : (flags : List Bool) (place : ℕ) (is_more : Bool) → List Bool
 with_place flags place is_more = if is_more then slice_set flags place true else flags
 

@@ -1,8 +1,8 @@
--- a table that was checked misses no place where a slot is live
+-- a checked table misses no place where a slot is live
 pub mod Bits
 pub mod UsesTable
 pub mod CheckedLiveness
--- homes of slots are right
+-- the homes of slots are correct
 pub mod Meeting
 pub mod CheckedHomes
 pub mod IdleCode

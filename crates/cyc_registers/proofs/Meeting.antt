@@ -1,4 +1,4 @@
--- Sets of which each group has one slot at most, as one instruction is gone through after another.
+-- Sets with at most one slot of each group, from one instruction to the next.
 use Rattle.std.proofs.Common.{◌≡◌, ℕ, true, List, inl, inr}
 use Rattle.std.specs.Prelude.{◌==◌, bit_and, bit_or}
 use Rattle.std.specs.Int.{bit_at}
@@ -19,26 +19,26 @@ module _ (groups : List ℕ) where
       still k has =
           bit_both known slots k (bit_within set known k (eqb-true (bit_or set known) known within) (bit_before set slots k has)) (bit_between set slots k has)
 
-  -- what stood there and is live behind, and what is written
-  pub alone_behind : (standing written behind : ℕ) → AreAlone groups standing → AreApart groups written behind
-      → AreAlone groups (bit_or (bit_and standing behind) written)
-  alone_behind standing written behind alone apart number slots j l is first second =
-      elim (or_cases (bit_and written slots == 0) (is_single (bit_and (bit_or written behind) slots)) (apart number slots is)) [
+  -- The set after an instruction: the slots that stay live, and the written ones.
+  pub alone_after : (standing written following : ℕ) → AreAlone groups standing → AreApart groups written following
+      → AreAlone groups (bit_or (bit_and standing following) written)
+  alone_after standing written following alone apart number slots j l is first second =
+      elim (or_cases (bit_and written slots == 0) (is_single (bit_and (bit_or written following) slots)) (apart number slots is)) [
         | inl none ↦ alone number slots j l is (stood (eqb-true (bit_and written slots) 0 none) j first) (stood (eqb-true (bit_and written slots) 0 none) l second)
-        | inr single ↦ one_alone (bit_and (bit_or written behind) slots) j l single (goes_on j first) (goes_on l second)
+        | inr single ↦ one_alone (bit_and (bit_or written following) slots) j l single (goes_on j first) (goes_on l second)
       ]
     where
       now : ℕ
-      now = bit_or (bit_and standing behind) written
+      now = bit_or (bit_and standing following) written
 
       stood : bit_and written slots ≡ 0 → (k : ℕ) → bit_at (bit_and now slots) k ≡ 1 → bit_at (bit_and standing slots) k ≡ 1
-      stood none k has = elim (in_either (bit_and standing behind) written k (bit_before now slots k has)) [
-        | inl both ↦ bit_both standing slots k (bit_before standing behind k both) (bit_between now slots k has)
+      stood none k has = elim (in_either (bit_and standing following) written k (bit_before now slots k has)) [
+        | inl both ↦ bit_both standing slots k (bit_before standing following k both) (bit_between now slots k has)
         | inr in_written ↦ absurd (apart_bits written slots k none (bit_between now slots k has) in_written)
       ]
 
-      goes_on : (k : ℕ) → bit_at (bit_and now slots) k ≡ 1 → bit_at (bit_and (bit_or written behind) slots) k ≡ 1
-      goes_on k has = elim (in_either (bit_and standing behind) written k (bit_before now slots k has)) [
-        | inl both ↦ bit_both (bit_or written behind) slots k (bit_right written behind k (bit_between standing behind k both)) (bit_between now slots k has)
-        | inr in_written ↦ bit_both (bit_or written behind) slots k (bit_left written behind k in_written) (bit_between now slots k has)
+      goes_on : (k : ℕ) → bit_at (bit_and now slots) k ≡ 1 → bit_at (bit_and (bit_or written following) slots) k ≡ 1
+      goes_on k has = elim (in_either (bit_and standing following) written k (bit_before now slots k has)) [
+        | inl both ↦ bit_both (bit_or written following) slots k (bit_right written following k (bit_between standing following k both)) (bit_between now slots k has)
+        | inr in_written ↦ bit_both (bit_or written following) slots k (bit_left written following k in_written) (bit_between now slots k has)
       ]

@@ -1,10 +1,10 @@
--- what the contract of `allocate` rests on
+-- the results that the contract of `allocate` rests on
 pub mod Bars
 pub mod Liveness
 pub mod Interference
 pub mod Idle
 pub mod Fills
--- the functions inside the crate
+-- the contracts of the functions inside the crate
 pub mod Masks
 pub mod LivenessTable
 pub mod IdlePlaces

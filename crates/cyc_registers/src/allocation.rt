@@ -1,4 +1,4 @@
-//! Register allocation: spill costs and liveness, and by these the assignment of registers, and what is idle then.
+//! Register allocation: spill costs, liveness, the assignment of registers, and the instructions that then need no code.
 ghost use Rattle.std.specs.Prelude.{◌≡◌, ◌≤◌, IfOk};
 ghost use Rattle.cyc_plain.specs.inside.Program.{routine_of};
 ghost use Rattle.cyc_registers.specs.inside.Interference.{AreHomes};
@@ -10,7 +10,7 @@ use crate::fills::fills_of;
 use crate::home::{Home, MOST_SAVED};
 use crate::idle::idle_places;
 use crate::interference::Interference;
-use crate::liveness::{is_sound, liveness_of};
+use crate::liveness::{Analysis, is_sound, liveness_of};
 use crate::numbering::masks_of;
 use crate::sharing::{are_right, groups_of, holders_of};
 use crate::spill_costs::spill_costs_of;
@@ -18,28 +18,28 @@ use crate::uses::all_uses;
 use cyc_plain::{Function, Plain};
 use std::alloc::{AllocError, Global};
 
-/// Where the words of a function's slots live, and where nothing is to be done.
+/// The homes of a function's slots, and the places that need no machine code.
 #[derive(Drop)]
 pub struct Allocation {
     /// The home of each slot.
     pub homes: Vec<Home>,
-    /// How many of the registers that calls preserve slots have: the first of them.
+    /// The number of callee-saved registers assigned to slots: the first ones.
     pub saved: usize,
-    /// Whether each place of the code is idle. Those behind the last are not.
+    /// True for each place of the code that is idle. Places after the last are not.
     pub idle: Vec<bool>,
-    /// Whether what each place makes may be made in front of the branches that lead there, and fill their slots. What those
-    /// behind the last make may not.
+    /// True for each place whose word may be computed before the branches to it, in their delay slots. Places after the last do not
+    /// qualify.
     pub fills: Vec<bool>,
 }
 
-/// Every slot in memory.
+/// Returns homes in memory for all slots.
 fn in_memory(alloc: Global, plain: &Plain, function: &Function) -> Result<Vec<Home>, AllocError>
     ensures { IfOk result (λ homes. AreHomes plain.now (routine_of function.now) 0 homes.items) }
 {
     Ok(vec![in alloc; Home::Memory; function.slots]?)
 }
 
-/// Every slot in memory, no place idle and none that fills slots: that is right whatever the code does.
+/// Returns all slots in memory, with no idle place and no filled delay slot. An allocation of all slots in memory is correct for any code.
 fn memory_alone(alloc: Global, plain: &Plain, function: &Function) -> Result<Allocation, AllocError>
     ensures homes { IfOk result (λ given. AreHomes plain.now (routine_of function.now) given.saved given.homes.items) }
     ensures saved { IfOk result (λ given. given.saved ≡ 0) }
@@ -54,9 +54,8 @@ fn memory_alone(alloc: Global, plain: &Plain, function: &Function) -> Result<All
     })
 }
 
-/// A home for each slot of a function, and the places that are idle by them. Those slots that cost most in memory get registers,
-/// while there are some, which they share where they are never live at once. Of those that calls preserve slots have so many at
-/// most.
+/// Returns a home for each slot of a function, and the idle places that follow from them. The slots with the highest spill costs get
+/// registers, which slots may share if they are never live at once. At most `most` callee-saved registers are used.
 pub fn allocate(
     alloc: Global,
     plain: &Plain,
@@ -73,19 +72,23 @@ pub fn allocate(
     let masks = masks_of(alloc, &costs)?;
     let uses = all_uses(alloc, plain, function, &masks)?;
     let lives = liveness_of(alloc, function, &uses, &costs.backward)?;
-    let mut interference = Interference::of_parameters(function, &masks);
-    if !is_sound(plain, function, &masks, &uses, &lives, &mut interference) {
+    if !is_sound(plain, function, &masks, &uses, &lives) {
         return memory_alone(alloc, plain, function);
     }
-    interference.complete();
+    let interference = Interference::of_code(function, &masks, &uses, &lives.live);
     let chosen = choose(alloc, function, &costs, &masks, &lives, &interference, most)?;
     let homes = &chosen.homes;
     let holders = holders_of(&masks, homes);
     let groups = groups_of(alloc, &holders)?;
     let saved = chosen.saved;
-    if !are_right(
-        plain, function, &masks, &uses, &lives, &holders, &groups, saved, homes,
-    ) {
+    let analysis = Analysis {
+        plain,
+        function,
+        masks: &masks,
+        uses: &uses,
+        lives: &lives,
+    };
+    if !are_right(&analysis, &holders, &groups, saved, homes) {
         return memory_alone(alloc, plain, function);
     }
     let idle = idle_places(alloc, plain, function, &masks, &lives, homes)?;

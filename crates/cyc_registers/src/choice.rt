@@ -1,4 +1,4 @@
-//! The choice of slots that get registers, and of which ones. Nothing is promised of it: homes are checked, whatever is chosen.
+//! Chooses the slots that get registers, and their registers. Unverified: the checker validates the homes.
 ghost use Rattle.std.specs.Prelude.{◌≤◌, IfOk};
 
 use crate::home::{FIRST_PRESERVED, FIRST_REGISTER, Home, MOST_BOTH, MOST_SAVED, REGISTERS_END};
@@ -9,49 +9,48 @@ use crate::spill_costs::SpillCosts;
 use cyc_plain::Function;
 use std::alloc::{AllocError, Global};
 
-/// How many registers slots may have of those that calls lose.
+/// The number of caller-saved registers that slots may have.
 const MOST_LOST: usize = (FIRST_PRESERVED - FIRST_REGISTER) as usize;
 
-/// A place for each register, and one for each number that a slot may be chosen as.
+/// The size of tables indexed by register.
 const REGISTERS: usize = REGISTERS_END as usize;
 
 const SLOTS: usize = MOST_CHOSEN as usize;
 
-/// What a register that calls preserve costs: it is saved and restored once for each call of the function, and other functions
-/// find fewer that they need not save.
+/// The cost of using a callee-saved register: each call of the function saves and restores it, and a caller may have to save it too.
 const PRESERVED_PRICE: u64 = 4;
 
-/// What it costs more for a parameter, which comes in memory and is loaded from there.
+/// The extra cost for a parameter, which is passed in memory and loaded from there.
 const ARRIVAL_PRICE: u64 = 2;
 
-/// How often a slot is looked at at most: once for each kind of register, and once more.
+/// The most times that a slot is considered: once for each kind of register, and once more.
 const MOST_LOOKS: u32 = 4;
 
-/// What stands for a register where there is none.
+/// Stands for the absence of a register.
 const NO_REGISTER: u8 = 0;
 
-/// A slot that is looked at, and what a register of each kind would save.
+/// A slot under consideration, with the savings of each kind of register.
 #[derive(Clone, Copy)]
 struct Candidate {
     slot: usize,
     mask: u64,
-    /// Those that it meets.
+    /// The slots that interfere with the candidate.
     meets: u64,
-    /// Those that are moved to it, or it to them, and that it does not meet.
+    /// The slots connected with the candidate by moves that do not interfere with it.
     moves: u64,
-    /// One that calls lose.
+    /// The savings of a caller-saved register.
     lost: u64,
-    /// Whether that one would stand beside memory.
+    /// True if the caller-saved register would be an addition to memory.
     is_both: bool,
-    /// One that calls preserve, and that is saved for another slot already.
+    /// The savings of a callee-saved register that is already saved for another slot.
     preserved: u64,
-    /// Whether it wants a register that calls lose, and may find none to share.
+    /// True if the candidate needs a caller-saved register and may find none to share.
     is_wide: bool,
-    /// What is to be gained at most, as far as is known; once it has a home, nothing.
+    /// An upper bound of the candidate's savings; 0 once it has a home.
     gain: u64,
 }
 
-/// A home that a slot may have, and what that would save.
+/// A possible home of a slot, with its savings.
 #[derive(Clone, Copy)]
 struct Offer {
     home: Home,
@@ -59,30 +58,30 @@ struct Offer {
     gain: u64,
 }
 
-/// The registers that are given so far.
+/// The registers assigned so far.
 #[derive(Drop)]
 struct Registers {
-    /// The slots of each, by its number.
+    /// The slots of each register, indexed by register.
     slots: [u64; REGISTERS],
-    /// That of each slot, by the slot's number.
+    /// The register of each candidate, indexed by candidate number.
     given: [u8; SLOTS],
-    /// The one that each slot is handed over in, so that nothing is to be done for that.
+    /// The register in which each candidate is passed, so that passing needs no move.
     wanted: [u8; SLOTS],
-    /// The slots that are handed over in each register.
+    /// The candidates that are passed in each register.
     handed: [u64; REGISTERS],
-    /// How many of those that calls lose no slot has.
+    /// The number of caller-saved registers without a slot.
     free: usize,
-    /// How many of those that calls preserve are given: the first of them.
+    /// The number of callee-saved registers assigned: the first ones.
     saved: usize,
-    /// How many there may be.
+    /// The most callee-saved registers that may be assigned.
     most: usize,
-    /// How many slots have one beside memory.
+    /// The number of slots with a register in addition to memory.
     both: usize,
-    /// How many are left that may find none to share, for which free ones are kept.
+    /// The number of remaining slots that may find no register to share, for which free ones are reserved.
     wide: usize,
 }
 
-/// Homes, and how many registers are to be saved for them.
+/// Homes, and the number of callee-saved registers to save for them.
 #[derive(Drop)]
 pub(crate) struct Chosen {
     pub(crate) homes: Vec<Home>,
@@ -95,7 +94,7 @@ const NO_OFFER: Offer = Offer {
     gain: 0,
 };
 
-/// The register in a list of the slot with the lowest number of these.
+/// Returns the register listed for the candidate with the lowest number among these.
 fn register_at(list: &[u8], slots: u64) -> u8 {
     match list.get(slots.trailing_zeros() as usize) {
         Some(register) => *register,
@@ -149,13 +148,13 @@ impl Candidate {
 }
 
 impl Registers {
-    /// Whether it is a register of those that calls lose, which none of these slots has.
+    /// Returns true if the register is caller-saved and has none of these slots.
     fn is_open(&self, register: u8, others: u64) -> bool {
         (FIRST_REGISTER..FIRST_PRESERVED).contains(&register)
             && mask_at(&self.slots, register as usize) & others == 0
     }
 
-    /// The first of the registers of these slots, as they stand in this list, that none of the others has.
+    /// Returns the first caller-saved register listed for one of these candidates that has no interfering slot.
     fn first_open(&self, list: &[u8], slots: u64, others: u64) -> Option<u8> {
         let mut left = slots;
         for _ in 0..MOST_CHOSEN {
@@ -171,7 +170,7 @@ impl Registers {
         None
     }
 
-    /// The first of these that a slot has to which this one is moved, and none that it meets.
+    /// Returns the first register of a range that has a slot connected with the candidate by a move and no interfering slot.
     fn moved(&self, first: u8, end: u8, candidate: &Candidate) -> Option<u8> {
         if candidate.moves == 0 {
             return None;
@@ -185,8 +184,8 @@ impl Registers {
         None
     }
 
-    /// One of these that others have, none of which the slot meets: that of a slot to which it is moved, or else that whose slots
-    /// are fewest, since instructions on one register cannot change places.
+    /// Returns a register that has other slots but no interfering one. Prefers a slot connected by a move, else the register with the
+    /// fewest slots, since instructions on one register cannot be reordered.
     fn shared(&self, first: u8, end: u8, candidate: &Candidate) -> Option<u8> {
         let mut found = self.moved(first, end, candidate);
         if found.is_some() {
@@ -204,7 +203,7 @@ impl Registers {
         found
     }
 
-    /// One of those that calls lose which no slot has: if may be, one in which none is handed over that the slot meets.
+    /// Returns a caller-saved register without a slot, if possible one in which no interfering slot is passed.
     fn free(&self, candidate: &Candidate) -> Option<u8> {
         let mut found = None;
         for register in FIRST_REGISTER..FIRST_PRESERVED {
@@ -218,8 +217,9 @@ impl Registers {
         found
     }
 
-    /// One of those that calls lose, which none of these others has: that of a slot to which this one is moved, or the one that this
-    /// one is handed over in, or one to which it is moved; or else a free one, while there are more than are kept.
+    /// Returns a caller-saved register that has none of the interfering slots. Tries the register of a slot connected by a move first. If
+    /// that register is not free, it tries the registers in which this slot, or a slot connected by a move, is passed. Returns another free
+    /// register only while more than the reserved ones are left.
     fn lost(&self, candidate: &Candidate, others: u64) -> Option<u8> {
         let moved = self.first_open(&self.given, candidate.moves, others);
         if moved.is_some() {
@@ -242,7 +242,7 @@ impl Registers {
         }
     }
 
-    /// One of those that calls lose. What is live behind a call is in memory too, and shares none.
+    /// Returns the best caller-saved register. A slot live after a call keeps its word in memory too, and shares its register with no slot.
     fn lost_offer(&self, candidate: &Candidate) -> Offer {
         let is_both = candidate.is_both;
         if is_both && self.both >= MOST_BOTH {
@@ -267,12 +267,12 @@ impl Registers {
         }
     }
 
-    /// The next of those that calls preserve: those before it are saved for some slots already.
+    /// Returns the next callee-saved register; those before it are already saved.
     fn next_preserved(&self) -> u8 {
         FIRST_PRESERVED + self.saved.min(MOST_SAVED) as u8
     }
 
-    /// One of those that calls preserve: one that is saved for another slot already, or the next one.
+    /// Returns a callee-saved register: one that is already saved for another slot, or the next one.
     fn preserved_offer(&self, candidate: &Candidate) -> Offer {
         let next = self.next_preserved();
         match self.shared(FIRST_PRESERVED, next, candidate) {
@@ -308,8 +308,8 @@ impl Registers {
         }
     }
 
-    /// Whether a slot had better have a register that calls preserve, though it needs none: one to which it is moved has one, and
-    /// none of those that calls lose.
+    /// Returns true if a slot should take a callee-saved register without needing it: a slot connected by a move has one, and none
+    /// connected has a caller-saved one.
     fn is_near_preserved(&self, candidate: &Candidate) -> bool {
         candidate.preserved >= candidate.gain
             && self
@@ -320,7 +320,7 @@ impl Registers {
                 .is_none()
     }
 
-    /// The best home that is left for a slot.
+    /// Returns the best home left for a slot.
     fn offer(&self, candidate: &Candidate) -> Offer {
         if self.is_near_preserved(candidate) {
             return self.preserved_offer(candidate);
@@ -332,7 +332,7 @@ impl Registers {
         better(lost, self.preserved_offer(candidate))
     }
 
-    /// Gives a slot the best home that is left, if that is as good as was hoped. Answers what it might gain still.
+    /// Gives a slot the best home left, if that saves as much as was expected. Returns what the slot may still save, or 0.
     fn settle(&mut self, homes: &mut Vec<Home>, candidate: &Candidate) -> u64 {
         let offer = self.offer(candidate);
         if offer.gain < candidate.gain {
@@ -349,7 +349,7 @@ impl Registers {
     }
 }
 
-/// The place of the slot that would gain most.
+/// Returns the index of the candidate with the greatest expected savings.
 fn next_of(candidates: &[Candidate]) -> usize {
     let mut next = 0;
     let mut gain = 0;
@@ -363,7 +363,7 @@ fn next_of(candidates: &[Candidate]) -> usize {
 }
 
 impl Registers {
-    /// All registers, which no slot has so far.
+    /// Returns all registers, without slots.
     fn new(most: usize) -> Registers {
         Registers {
             slots: [0; REGISTERS],
@@ -378,7 +378,7 @@ impl Registers {
         }
     }
 
-    /// Slots that are handed over at one place among arguments, or parameters, want one register.
+    /// Notes that slots passed at one position, as arguments or parameters, should share a register.
     fn want(&mut self, mask: u64, place: Option<usize>) {
         match place {
             Some(place) if place < MOST_LOST => {
@@ -394,7 +394,7 @@ impl Registers {
         }
     }
 
-    /// The slots of a function that may have a register. What each chosen one wants is noted.
+    /// Returns the candidates of a function that may have a register, and notes the preferred register of each.
     fn candidates(
         &mut self,
         alloc: Global,
@@ -429,7 +429,7 @@ impl Registers {
     }
 }
 
-/// Homes for the slots of a function, which may save so many registers: those that gain most come first.
+/// Returns homes for the slots of a function that may save `most` registers. Slots with the greatest savings are served first.
 pub(crate) fn choose(
     alloc: Global,
     function: &Function,

@@ -1,4 +1,4 @@
-//! Places whose words may be made in front of the branches that lead there.
+//! The places whose word may be computed before the branches that lead to these places.
 ghost use Rattle.std.specs.Prelude.{◌≡◌, ◌<◌, length, slice_get, IfOk};
 ghost use Rattle.cyc_plain.specs.inside.Program.{routine_of};
 ghost use Rattle.cyc_registers.specs.inside.Fills.{AreFillable};
@@ -13,7 +13,7 @@ use crate::masks::mask_at;
 use cyc_plain::{Function, Instruction, Plain};
 use std::alloc::{AllocError, Global};
 
-/// Whether a slot has no register, or none is live behind this place that has the same.
+/// Returns true if a slot has no register, or no slot with its register is live after this place.
 fn is_free(holders: &[u64], live: &[u64], homes: &[Home], index: usize, slot: usize) -> bool
     requires { index < length live.now }
     ensures { result ≡ checks.is_free holders.now live.now homes.now index slot }
@@ -26,7 +26,7 @@ fn is_free(holders: &[u64], live: &[u64], homes: &[Home], index: usize, slot: us
     }
 }
 
-/// Whether a word that is made at this target may be made in front of the branch of this index.
+/// Returns true if the instruction at the branch target may be executed in the delay slot of the branch at `index`.
 fn may_fill(
     holders: &[u64],
     live: &[u64],
@@ -48,7 +48,7 @@ fn may_fill(
     }
 }
 
-/// Bars the target of the instruction of this index, where it is a branch whose slot may not be filled from there.
+/// Excludes the target of the branch at `index` if the target may not fill its delay slot.
 fn bar(
     holders: &[u64],
     live: &[u64],
@@ -68,7 +68,7 @@ fn bar(
     }
 }
 
-/// Which places of a function's code fill slots.
+/// Returns the places of a function's code that fill delay slots.
 pub(crate) fn fills_of(
     alloc: Global,
     plain: &Plain,

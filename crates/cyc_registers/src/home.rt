@@ -1,29 +1,29 @@
-//! Where the words of slots live.
+//! The homes of slots: memory or registers.
 
-/// The first of the registers that slots may have.
+/// The first register that slots may have.
 pub const FIRST_REGISTER: u8 = 6;
 
-/// The register behind the last of them.
+/// The register after the last one that slots may have.
 pub const REGISTERS_END: u8 = 24;
 
-/// The first of those that calls preserve: a function that gives some of them to slots saves them where it begins, and restores
-/// them where it returns. The registers before them are lost by calls.
+/// The first callee-saved register. A function that assigns callee-saved registers to slots saves those registers at its entry and restores
+/// them when it returns. The registers before them are caller-saved.
 pub const FIRST_PRESERVED: u8 = 17;
 
-/// At most so many registers are saved by a function.
+/// The most callee-saved registers that a function saves.
 pub const MOST_SAVED: usize = (REGISTERS_END - FIRST_PRESERVED) as usize;
 
-/// At most so many slots of a function have a register beside their word in memory: each is read again behind each call,
-/// and the size of a call's code has room for so many.
+/// The most slots of a function that may have a register in addition to memory. Each such slot is reloaded after each call, and the size of
+/// a call's code allows for this many slots.
 pub const MOST_BOTH: usize = 6;
 
-/// Where the word of a slot is kept while the slot is live.
+/// The location of a slot's word while the slot is live.
 #[derive(Clone, Copy)]
 pub enum Home {
-    /// In memory alone.
+    /// In memory only.
     Memory,
-    /// In memory, and in this register, which no other slot has.
+    /// In memory and in this register, which no other slot has.
     Both { register: u8 },
-    /// In this register alone.
+    /// The slot's value is in this register only.
     Register { register: u8 },
 }

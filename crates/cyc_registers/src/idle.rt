@@ -1,4 +1,4 @@
-//! Places where nothing is to be done.
+//! The places that need no machine code.
 ghost use Rattle.std.specs.Prelude.{◌≡◌, ◌+◌, ◌<◌, true, length, not, if◌then◌else◌, slice_set, IfOk};
 ghost use Rattle.cyc_plain.specs.inside.Program.{routine_of};
 ghost use Rattle.cyc_plain.specs.inside.Uses.{is_slot};
@@ -15,14 +15,14 @@ use crate::masks::mask_at;
 use cyc_plain::{BinaryOperator, Comparison, Function, Instruction, Operand, Plain};
 use std::alloc::{AllocError, Global};
 
-/// Whether an operator has a result whatever the words are.
+/// Returns true if an operator has a result for all words.
 fn always_has_result(operator: BinaryOperator) -> bool
     ensures { result ≡ always_has_result operator }
 {
     !matches!(operator, BinaryOperator::Divide | BinaryOperator::Remainder)
 }
 
-/// Whether a branch says of a word that it is another than itself. So it is never taken.
+/// Returns true if a branch compares a word with that word in a way that never holds. A branch whose comparison never holds is never taken.
 fn never_holds(comparison: Comparison, left: Operand, right: Operand) -> bool
     ensures { result ≡ checks.never_holds comparison left right }
 {
@@ -42,14 +42,14 @@ fn is_slot(operand: Operand, slot: usize) -> bool
     }
 }
 
-/// Whether a slot lives in a register alone.
+/// Returns true if a slot is in a register only.
 fn is_unkept(homes: &[Home], slot: usize) -> bool
     ensures { result ≡ not (right.is_kept (right.home_of homes.now slot)) }
 {
     matches!(homes.get(slot), Some(Home::Register { .. }))
 }
 
-/// Whether a slot whose word is in a register alone is not live behind this place.
+/// Returns true if a slot in a register only is not live after this place.
 fn is_unused(masks: &[u64], live: &[u64], homes: &[Home], index: usize, slot: usize) -> bool
     requires { index < length live.now }
     ensures { result ≡ checks.is_unused masks.now live.now homes.now index slot }
@@ -58,8 +58,8 @@ fn is_unused(masks: &[u64], live: &[u64], homes: &[Home], index: usize, slot: us
     0 < mask && (mask_at(live, index + 1) & mask == 0 && is_unkept(homes, slot))
 }
 
-/// Whether the slot so many behind the first is such a one.
-fn is_unused_behind(
+/// Returns true if the slot at this offset from the first is unused.
+fn is_unused_after(
     masks: &[u64],
     live: &[u64],
     homes: &[Home],
@@ -76,7 +76,7 @@ fn is_unused_behind(
     is_unused(masks, live, homes, index, first + offset)
 }
 
-/// Whether so many slots from this one on are such ones.
+/// Returns true if `count` slots from `first` on are unused.
 fn are_unused(
     masks: &[u64],
     live: &[u64],
@@ -90,12 +90,12 @@ fn are_unused(
 {
     let mut are = true;
     for offset in 0..count {
-        are = are && is_unused_behind(masks, live, homes, index, first, offset);
+        are = are && is_unused_after(masks, live, homes, index, first, offset);
     }
     are
 }
 
-/// Whether the first home is a register alone, which is the second one's too.
+/// Returns true if the first home is a register only, and the second home has that register.
 fn shares_register(home: Home, other: Home) -> bool
     ensures { result ≡ checks.shares_register home other }
 {
@@ -115,7 +115,7 @@ fn home_at(homes: &[Home], slot: usize) -> Home
     }
 }
 
-/// Whether what is moved is in the register that the slot has alone.
+/// Returns true if the moved word is already in the slot's register, which is its only home.
 fn is_there(homes: &[Home], slot: usize, source: Operand) -> bool
     ensures { result ≡ checks.is_there homes.now slot source }
 {
@@ -163,7 +163,7 @@ fn is_idle(
     }
 }
 
-/// Whether a place is idle; where nothing is said of it, it is not.
+/// Returns true if a place is idle. A place without an entry is not.
 fn idle_at(idle: &[bool], index: usize) -> bool
     ensures { result ≡ rules.idle_at idle.now index }
 {
@@ -173,7 +173,7 @@ fn idle_at(idle: &[bool], index: usize) -> bool
     }
 }
 
-/// Whether the places from one on, up to another, are idle.
+/// Returns true if the places from `first` up to `end` are idle.
 fn are_idle(idle: &[bool], first: usize, end: usize) -> bool
     ensures { result ≡ true → rules.AreIdleFrom idle.now first end }
 {
@@ -185,7 +185,7 @@ fn are_idle(idle: &[bool], first: usize, end: usize) -> bool
     true
 }
 
-/// Whether an instruction leads over idle places alone.
+/// Returns true if an instruction jumps forward over idle places only.
 fn leads_over(idle: &[bool], instruction: Instruction, index: usize) -> bool
     ensures { result ≡ true → rules.LeadsOver idle.now index instruction }
 {
@@ -195,7 +195,7 @@ fn leads_over(idle: &[bool], instruction: Instruction, index: usize) -> bool
     }
 }
 
-/// Which places of a function's code are idle, but for jumps over others.
+/// Returns the idle places of a function's code, except jumps over idle places.
 fn idle_alone(
     alloc: Global,
     plain: &Plain,
@@ -217,7 +217,7 @@ fn idle_alone(
     Ok(idle)
 }
 
-/// Says that a place is idle, where it is one more.
+/// Marks a place as idle, if it is one.
 fn say(idle: &mut Vec<bool>, index: usize, is_more: bool)
     requires { index < length idle.old.items }
     ensures { idle.new.items ≡ (if is_more then slice_set idle.old.items index true else idle.old.items) }
@@ -227,8 +227,7 @@ fn say(idle: &mut Vec<bool>, index: usize, is_more: bool)
     }
 }
 
-/// Which places of a function's code are idle. A jump leads over those behind it, of which no jump over others is known to be idle so
-/// far.
+/// Returns the idle places of a function's code. A jump is idle if it skips only idle places, not counting later jumps over idle places.
 pub(crate) fn idle_places(
     alloc: Global,
     plain: &Plain,

@@ -1,27 +1,29 @@
-//! Which of the chosen slots are live at once, and which are moved to each other. Nothing is promised of it: homes are checked.
-use crate::liveness::MOST_CHOSEN;
+//! The interference graph of the candidates, and the moves between them. Unverified: the checker validates the homes.
+ghost use Rattle.std.specs.Prelude.{◌≡◌, length};
+
+use crate::liveness::{MOST_CHOSEN, after_mask};
 use crate::masks::{mask_at, range_mask};
 use crate::spill_costs::goes_on;
 use crate::uses::Uses;
 use cyc_plain::{Function, Instruction};
 
-/// A row for each number that a slot may be chosen as.
+/// The number of rows: one for each candidate.
 const ROWS: usize = MOST_CHOSEN as usize;
 
-/// For each chosen slot, by its number, which of them it meets, and to which it is moved, or they to it.
+/// For each candidate, by its number, the candidates that interfere with it and those connected with it by moves.
 #[derive(Drop)]
 pub(crate) struct Interference {
-    /// Those that are live where it is, so that no register is for both.
+    /// The candidates that are live simultaneously, so that they must not share a register.
     meets: [u64; ROWS],
-    /// Those with which it had better share a register, so that nothing is to be done for the move.
+    /// The candidates that should share a register, so that the move needs no machine code.
     moves: [u64; ROWS],
-    /// Those that may have a row that is not empty.
+    /// The candidates whose rows may be non-empty.
     met: u64,
-    /// Whether the code goes on behind the instruction that was looked at last.
+    /// True if control can continue after the last visited instruction.
     goes: bool,
 }
 
-/// Adds these slots to the rows of those.
+/// Adds slots to each row of a set.
 fn add(rows: &mut [u64; ROWS], to: u64, slots: u64) {
     let mut left = to;
     for _ in 0..MOST_CHOSEN {
@@ -35,7 +37,7 @@ fn add(rows: &mut [u64; ROWS], to: u64, slots: u64) {
     }
 }
 
-/// Where a slot has another in its row, that one has it too. Rows behind these, so many of them, are empty.
+/// Makes the first `count` rows symmetric. The rows after them are empty.
 fn mirror(rows: &mut [u64; ROWS], count: usize) {
     let mut mask: u64 = 1;
     for number in 0..count {
@@ -46,8 +48,8 @@ fn mirror(rows: &mut [u64; ROWS], count: usize) {
 }
 
 impl Interference {
-    /// That of a function of which nothing has been looked at. Parameters meet each other.
-    pub(crate) fn of_parameters(function: &Function, masks: &[u64]) -> Interference {
+    /// Returns the graph of a function before any instruction is visited. The parameters of a function interfere with each other.
+    fn of_parameters(function: &Function, masks: &[u64]) -> Interference {
         let parameters = range_mask(masks, 0, function.parameters);
         let mut interference = Interference {
             meets: [0; ROWS],
@@ -59,20 +61,40 @@ impl Interference {
         interference
     }
 
-    /// Those that the slot of this mask meets.
+    /// Returns the interference graph of a function's code, given the uses of its instructions and the slots live at each.
+    pub(crate) fn of_code(
+        function: &Function,
+        masks: &[u64],
+        uses: &[Uses],
+        live: &[u64],
+    ) -> Interference
+        requires all { length uses.now ≡ length function.now.code.items }
+        requires table { length live.now ≡ length function.now.code.items }
+    {
+        let mut interference = Interference::of_parameters(function, masks);
+        for index in 0..function.code.len() {
+            let instruction = function.code[index];
+            let following = after_mask(instruction, index, live);
+            interference.look_at(uses[index], instruction, live[index], following);
+        }
+        interference.complete();
+        interference
+    }
+
+    /// Returns the candidates that interfere with the one of this mask.
     pub(crate) fn meets(&self, mask: u64) -> u64 {
         mask_at(&self.meets, mask.trailing_zeros() as usize)
     }
 
-    /// Those that are moved to it, or it to them.
+    /// Returns the candidates connected by moves with the one of this mask.
     pub(crate) fn moves(&self, mask: u64) -> u64 {
         mask_at(&self.moves, mask.trailing_zeros() as usize)
     }
 
-    /// Looks at the next instruction, where and behind which these slots are live. What is live where the code begins, or where the
-    /// instruction before does not go on, meets. So does what is written and what is live behind it, and what is moved beside other
-    /// words meets all of those.
-    pub(crate) fn look_at(&mut self, uses: Uses, instruction: Instruction, live: u64, behind: u64) {
+    /// Adds the next instruction, with the slots live at it and after it. Slots interfere if they are live at the entry or after an
+    /// instruction that never falls through. A written slot interferes with those live after it. A slot moved along with other words
+    /// interferes with all of their sources.
+    fn look_at(&mut self, uses: Uses, instruction: Instruction, live: u64, following: u64) {
         if !self.goes {
             add(&mut self.meets, live, live);
             self.met = self.met | live;
@@ -83,7 +105,7 @@ impl Interference {
             return;
         }
         self.met = self.met | written;
-        add(&mut self.meets, written, behind | written);
+        add(&mut self.meets, written, following | written);
         match instruction {
             Instruction::Move { .. } => add(&mut self.moves, written, uses.reads),
             Instruction::MoveWords { .. } => add(&mut self.meets, written, uses.reads),
@@ -91,8 +113,8 @@ impl Interference {
         }
     }
 
-    /// Makes rows complete when all instructions have been looked at.
-    pub(crate) fn complete(&mut self) {
+    /// Makes the rows symmetric after all instructions have been visited.
+    fn complete(&mut self) {
         let count = ROWS.saturating_sub(self.met.leading_zeros() as usize);
         mirror(&mut self.meets, count);
         mirror(&mut self.moves, count);

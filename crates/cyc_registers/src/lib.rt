@@ -1,4 +1,4 @@
-//! Register allocation: which slots of a function live in registers, by where they are live and what they cost in memory.
+//! Register allocation: assigns a function's slots to registers, by liveness and spill costs.
 #![tactic(auto)]
 
 mod allocation;

@@ -1,28 +1,27 @@
-//! Liveness of the chosen slots: a table of where each may be live, made by rounds backward over the code, and its check.
+//! Liveness of the candidate slots: a table of where each may be live, computed by backward passes over the code, and its check.
 ghost use Rattle.std.specs.Prelude.{◌≡◌, ◌<◌, ◌≤◌, length, true, bit_and, bit_or, IfOk};
 ghost use Rattle.cyc_plain.specs.inside.Program.{routine_of};
 ghost use Rattle.cyc_registers.specs.inside.LivenessTable as checks;
 ghost use Rattle.cyc_registers.specs.inside.Masks.{AreUses};
 
-use crate::interference::Interference;
 use crate::masks::mask_at;
 use crate::uses::Uses;
 use cyc_plain::{Function, Instruction, Plain};
 use std::alloc::{AllocError, Global};
 
-/// So many slots of a function are chosen at most, to be looked at: a mask has so many bits.
+/// The most candidate slots of a function: a mask has this many bits.
 pub(crate) const MOST_CHOSEN: u32 = 64;
 
-/// The mask of all numbers that a slot may be chosen as.
+/// The mask of all candidate numbers.
 pub(crate) const ALL_NUMBERS: u64 = 0xffff_ffff_ffff_ffff;
 
-/// How often the table is gone through once more at most. Each loop that stands in another takes one round.
+/// The maximum number of further passes over the table. Each level of nested loops takes one pass.
 const ROUNDS: usize = 16;
 
-/// What the table has where the run may stand behind an instruction.
-pub(crate) fn behind_mask(instruction: Instruction, index: usize, live: &[u64]) -> u64
+/// Returns the table's entry for the successors of an instruction.
+pub(crate) fn after_mask(instruction: Instruction, index: usize, live: &[u64]) -> u64
     requires { index < length live.now }
-    ensures { result ≡ checks.behind_mask instruction index live.now }
+    ensures { result ≡ checks.after_mask instruction index live.now }
 {
     match instruction {
         Instruction::Jump { target } => mask_at(live, target),
@@ -36,21 +35,21 @@ pub(crate) fn behind_mask(instruction: Instruction, index: usize, live: &[u64]) 
     }
 }
 
-/// All but what an instruction writes.
+/// Returns all candidates except those that an instruction writes.
 fn unwritten_mask(uses: Uses) -> u64
     ensures { result ≡ checks.unwritten_mask uses }
 {
     ALL_NUMBERS ^ uses.writes
 }
 
-/// What is to be in the table at an instruction: what it reads, and what is live behind it and not written by it.
-fn needed_mask(uses: Uses, behind: u64) -> u64
-    ensures { result ≡ bit_or uses.reads (bit_and behind (checks.unwritten_mask uses)) }
+/// Returns the slots that the table must contain at an instruction: those that it reads, and those live after it that it does not write.
+fn needed_mask(uses: Uses, following: u64) -> u64
+    ensures { result ≡ bit_or uses.reads (bit_and following (checks.unwritten_mask uses)) }
 {
-    uses.reads | behind & unwritten_mask(uses)
+    uses.reads | following & unwritten_mask(uses)
 }
 
-/// What is to be there again behind a call: what is live there, and the call does not return it.
+/// Returns the slots that must survive a call: those live after it that it does not return.
 fn call_mask(uses: Uses, instruction: Instruction, index: usize, live: &[u64]) -> u64
     requires { index < length live.now }
     ensures { result ≡ checks.call_mask uses instruction index live.now }
@@ -61,7 +60,7 @@ fn call_mask(uses: Uses, instruction: Instruction, index: usize, live: &[u64]) -
     }
 }
 
-/// What is to be in memory too: what is live in the clause of a handler.
+/// Returns the slots that must be in memory too: those live in the handler that an instruction opens.
 fn clause_mask(instruction: Instruction, live: &[u64]) -> u64
     ensures { result ≡ checks.clause_mask instruction live.now }
 {
@@ -77,17 +76,27 @@ pub(crate) fn is_within(part: u64, whole: u64) -> bool
     part | whole == whole
 }
 
-/// Where the chosen slots of a function are live.
+/// The places where the candidates of a function are live.
 #[derive(Drop)]
 pub(crate) struct Lives {
-    /// For each place in the code, which of them may be live there.
+    /// For each place in the code, the candidates that may be live there.
     pub(crate) live: Vec<u64>,
-    /// Which are live behind a call that does not return them.
+    /// Slots that are live after a call that does not return them.
     pub(crate) calls: u64,
-    /// Which are live in a clause.
+    /// Slots that are live in a handler.
     pub(crate) clauses: u64,
-    /// Which are barred from registers.
+    /// Slots that are excluded from registers.
     pub(crate) barred: u64,
+}
+
+/// A function of a program, the masks of its slots, the slots that its instructions use, and the places at which slots are live.
+#[derive(Clone, Copy)]
+pub(crate) struct Analysis<'a> {
+    pub(crate) plain: &'a Plain,
+    pub(crate) function: &'a Function,
+    pub(crate) masks: &'a [u64],
+    pub(crate) uses: &'a [Uses],
+    pub(crate) lives: &'a Lives,
 }
 
 #[tactic(auto, unfolding(crate::specs::inside::LivenessTable::is_sound_at))]
@@ -95,52 +104,45 @@ fn is_sound_at(
     uses: Uses,
     instruction: Instruction,
     index: usize,
-    behind: u64,
+    following: u64,
     lives: &Lives,
 ) -> bool
     requires table { index < length lives.now.live.items }
-    requires behind { behind ≡ checks.behind_mask instruction index lives.now.live.items }
+    requires following { following ≡ checks.after_mask instruction index lives.now.live.items }
     ensures { result ≡ checks.is_sound_at uses instruction index lives.now.live.items lives.now.calls lives.now.clauses lives.now.barred }
 {
     let live = &lives.live;
-    is_within(needed_mask(uses, behind), mask_at(live, index))
+    is_within(needed_mask(uses, following), mask_at(live, index))
         && (is_within(call_mask(uses, instruction, index, live), lives.calls)
             && (is_within(clause_mask(instruction, live), lives.clauses)
                 && is_within(uses.bars, lives.barred)))
 }
 
-/// Whether the table misses no place where a chosen slot is live, and none that is live behind a call or in
-/// a clause, or is barred. By the table the same round over the code notes which slots meet.
+/// Returns true if the table misses no place where a chosen slot is live, and none that is live after a call or in a clause, or is barred.
 pub(crate) fn is_sound(
     plain: &Plain,
     function: &Function,
     masks: &[u64],
     uses: &[Uses],
     lives: &Lives,
-    interference: &mut Interference,
 ) -> bool
     requires table { length lives.now.live.items ≡ length function.now.code.items }
     requires uses { AreUses plain.now (routine_of function.now) masks.now uses.now }
     requires all { length uses.now ≡ length function.now.code.items }
-    ensures { result ≡ true → checks.IsSound plain.now (routine_of function.now) masks.now lives.now.live.items lives.now.calls lives.now.clauses lives.now.barred }
+    ensures { result ≡ true → checks.IsSound plain.now (routine_of function.now) masks.now lives.now.live.items lives.now.calls lives.now.clauses
+        lives.now.barred }
 {
     for index in 0..function.code.len() {
         let instruction = function.code[index];
-        let behind = behind_mask(instruction, index, &lives.live);
-        if !is_sound_at(uses[index], instruction, index, behind, lives) {
+        let following = after_mask(instruction, index, &lives.live);
+        if !is_sound_at(uses[index], instruction, index, following, lives) {
             return false;
         }
-        interference.look_at(
-            uses[index],
-            instruction,
-            mask_at(&lives.live, index),
-            behind,
-        );
     }
     true
 }
 
-/// One round, backward, over the instructions before this place. Nothing is promised of it: the table is checked.
+/// Makes one backward pass over the instructions before this place. The pass is unverified: the resulting table is checked.
 fn sweep(function: &Function, uses: &[Uses], end: usize, lives: &mut Lives)
     requires table { length lives.old.live.items ≡ length function.now.code.items }
     requires all { length uses.now ≡ length function.now.code.items }
@@ -153,7 +155,7 @@ fn sweep(function: &Function, uses: &[Uses], end: usize, lives: &mut Lives)
     let mut barred = lives.barred;
     for index in (0..end).rev() {
         let used = uses[index];
-        let behind = match function.code[index] {
+        let following = match function.code[index] {
             Instruction::Jump { target } => mask_at(&lives.live, target),
             Instruction::Branch { target, .. } => next | mask_at(&lives.live, target),
             Instruction::Call { .. } => {
@@ -170,7 +172,7 @@ fn sweep(function: &Function, uses: &[Uses], end: usize, lives: &mut Lives)
             | Instruction::Uncaught { .. } => 0,
             _ => next,
         };
-        next = needed_mask(used, behind);
+        next = needed_mask(used, following);
         barred = barred | used.bars;
         lives.live[index] = next;
     }
@@ -179,14 +181,14 @@ fn sweep(function: &Function, uses: &[Uses], end: usize, lives: &mut Lives)
     lives.barred = barred;
 }
 
-/// Whether the table has what is live where the code jumps backward.
+/// Returns true if the table contains the slots live at the targets of backward jumps.
 fn is_settled(function: &Function, backward: &[usize], live: &[u64]) -> bool
     requires { length live.now ≡ length function.now.code.items }
 {
     for index in backward {
         if *index < function.code.len() {
-            let behind = behind_mask(function.code[*index], *index, live);
-            if !is_within(behind, live[*index]) {
+            let following = after_mask(function.code[*index], *index, live);
+            if !is_within(following, live[*index]) {
                 return false;
             }
         }
@@ -194,7 +196,7 @@ fn is_settled(function: &Function, backward: &[usize], live: &[u64]) -> bool
     true
 }
 
-/// The place behind the last from which the code jumps backward: behind it, one round is enough.
+/// Returns the place after the last backward jump: from there on, one pass is enough.
 fn loops_end(function: &Function, backward: &[usize]) -> usize
     ensures { result ≤ length function.now.code.items }
 {
@@ -210,7 +212,7 @@ fn loops_end(function: &Function, backward: &[usize]) -> usize
     }
 }
 
-/// Where the chosen slots may be live. The places from which the code jumps backward rise.
+/// Returns where the candidates may be live. `backward` lists the places of backward jumps in ascending order.
 pub(crate) fn liveness_of(
     alloc: Global,
     function: &Function,
@@ -236,7 +238,7 @@ pub(crate) fn liveness_of(
     Ok(lives)
 }
 
-/// Whether a slot may have a register: it is chosen, nothing bars it, and where the function begins it is not live, or is a
+/// Returns true if a slot may have a register: it is a candidate, no instruction excludes it, and at the entry it is not live or is a
 /// parameter.
 pub(crate) fn may_have(function: &Function, masks: &[u64], lives: &Lives, slot: usize) -> bool
     ensures { result ≡ checks.may_have masks.now lives.now.live.items lives.now.barred function.now.parameters slot }

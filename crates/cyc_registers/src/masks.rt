@@ -1,5 +1,5 @@
-//! What an instruction does with the chosen slots, all of them at once: bit j of a mask is for the slot that was chosen as
-//! number j, and `masks` has the bit of each slot.
+//! Uses and definitions of the candidates by an instruction, as bit masks: bit j stands for candidate number j, and `masks` maps each slot
+//! to its bit.
 ghost use Rattle.std.specs.Prelude.{◌≡◌, ◌+◌};
 ghost use Rattle.cyc_plain.specs.inside.Program.{routine_at};
 ghost use Rattle.cyc_registers.specs.inside.Masks as masks_of;
@@ -7,7 +7,7 @@ ghost use Rattle.cyc_registers.specs.inside.Masks as masks_of;
 use crate::moves::is_crossing;
 use cyc_plain::{Instruction, Operand, Plain, RECORD_WORDS, Request};
 
-/// The mask of a slot, or of a place in the code. Where there is none, 0.
+/// Returns the mask of a slot or of a place in the code, or 0 if there is none.
 pub(crate) fn mask_at(masks: &[u64], place: usize) -> u64
     ensures { result ≡ masks_of.mask_at masks.now place }
 {
@@ -26,8 +26,8 @@ fn operand_mask(masks: &[u64], operand: Operand) -> u64
     }
 }
 
-/// The mask of the slot so many behind the first.
-fn mask_behind(masks: &[u64], first: usize, offset: usize) -> u64
+/// Returns the mask of the slot at this offset from the first.
+fn mask_after(masks: &[u64], first: usize, offset: usize) -> u64
     ensures { result ≡ masks_of.mask_at masks.now (first + offset) }
 {
     if first > masks.len() || offset >= masks.len() - first {
@@ -41,12 +41,12 @@ pub(crate) fn range_mask(masks: &[u64], first: usize, count: usize) -> u64
 {
     let mut mask = 0;
     for offset in 0..count {
-        mask = mask | mask_behind(masks, first, offset);
+        mask = mask | mask_after(masks, first, offset);
     }
     mask
 }
 
-/// How many words the function of this number returns.
+/// Returns the number of words that a function returns.
 fn results_of(plain: &Plain, function: usize) -> usize
     ensures { result ≡ (routine_at plain.now function).results }
 {
@@ -70,7 +70,7 @@ fn request_read_mask(masks: &[u64], request: Request) -> u64
     }
 }
 
-/// What an instruction reads, in a function that returns so many words.
+/// Returns the slots that an instruction reads, in a function with `results` results.
 pub(crate) fn read_mask(masks: &[u64], results: usize, instruction: Instruction) -> u64
     ensures { result ≡ masks_of.read_mask masks.now results instruction }
 {
@@ -122,7 +122,7 @@ fn request_write_mask(masks: &[u64], request: Request) -> u64
     }
 }
 
-/// What it writes of the slots that it does not bar.
+/// Returns the slots that an instruction writes and does not exclude from registers.
 pub(crate) fn write_mask(masks: &[u64], plain: &Plain, instruction: Instruction) -> u64
     ensures { result ≡ masks_of.write_mask masks.now plain.now instruction }
 {
@@ -151,7 +151,7 @@ pub(crate) fn write_mask(masks: &[u64], plain: &Plain, instruction: Instruction)
     }
 }
 
-/// What it bars from registers.
+/// Returns the slots that an instruction excludes from registers.
 pub(crate) fn bar_mask(masks: &[u64], instruction: Instruction) -> u64
     ensures { result ≡ masks_of.bar_mask masks.now instruction }
 {

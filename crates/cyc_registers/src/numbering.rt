@@ -1,4 +1,4 @@
-//! The numbers of the slots that are looked at, as masks.
+//! The numbers of the candidate slots, as masks.
 ghost use Rattle.std.specs.Prelude.{◌≤◌, IfOk};
 ghost use Rattle.cyc_registers.specs.inside.Masks.{AreMasks};
 
@@ -6,7 +6,8 @@ use crate::liveness::MOST_CHOSEN;
 use crate::spill_costs::SpillCosts;
 use std::alloc::{AllocError, Global};
 
-/// A mask for one slot more: where it is chosen the bit of the next number, while there is one. Answers the number after it.
+/// Appends the mask of one more slot: the next free bit if the slot is chosen and a bit is left, else 0. Returns the number of the next
+/// free bit.
 fn number(masks: &mut Vec<u64>, next: u32, is_chosen: bool) -> Result<u32, AllocError>
     requires numbered { AreMasks masks.old.items next }
     requires few { next ≤ MOST_CHOSEN }
@@ -21,7 +22,7 @@ fn number(masks: &mut Vec<u64>, next: u32, is_chosen: bool) -> Result<u32, Alloc
     Ok(next + 1)
 }
 
-/// The masks of slots: those that cost most in memory are chosen, and get numbers in order.
+/// Returns the masks of all slots: those with the highest spill costs become candidates and get numbers in order.
 pub(crate) fn masks_of(alloc: Global, costs: &SpillCosts) -> Result<Vec<u64>, AllocError>
     ensures { IfOk result (λ masks. AreMasks masks.items MOST_CHOSEN) }
 {

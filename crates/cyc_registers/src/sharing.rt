@@ -1,4 +1,4 @@
-//! The check of homes: slots may share a register only where no two of them are live at once.
+//! The check of homes: slots may share a register only if no two of the slots are live simultaneously.
 ghost use Rattle.std.specs.Prelude.{◌≡◌, ◌<◌, ◌≤◌, length, true, sum_by, take, IfOk};
 ghost use Rattle.cyc_plain.specs.inside.Program.{routine_of};
 ghost use Rattle.cyc_registers.specs.inside.Interference.{AreHomes, both_count, home_of, saved_count};
@@ -7,23 +7,23 @@ ghost use Rattle.cyc_registers.specs.inside.Masks.{AreMasks, AreUses, range_mask
 ghost use Rattle.cyc_registers.specs.inside.Sharing as checks;
 
 use crate::home::{FIRST_PRESERVED, FIRST_REGISTER, Home, MOST_BOTH, MOST_SAVED, REGISTERS_END};
-use crate::liveness::{Lives, MOST_CHOSEN, behind_mask, is_within, may_have};
+use crate::liveness::{Analysis, MOST_CHOSEN, after_mask, is_within, may_have};
 use crate::masks::{mask_at, range_mask};
 use crate::uses::Uses;
 use cyc_plain::{Function, Instruction, Plain};
 use std::alloc::{AllocError, Global};
 
-/// A place for each register.
+/// The size of tables indexed by register.
 const REGISTERS: usize = REGISTERS_END as usize;
 
-/// Whether a set has one slot at most.
+/// Returns true if a set has at most one slot.
 fn is_single(slots: u64) -> bool
     ensures { result ≡ checks.is_single slots }
 {
     slots & slots.saturating_sub(1) == 0
 }
 
-/// The slots of each register, by its number. Nothing is promised of them: they are checked with the homes.
+/// Returns the slots of each register, indexed by register. Unverified: they are checked together with the homes.
 pub(crate) fn holders_of(masks: &[u64], homes: &[Home]) -> [u64; REGISTERS] {
     let mut holders = [0; REGISTERS];
     for slot in 0..homes.len() {
@@ -39,7 +39,7 @@ pub(crate) fn holders_of(masks: &[u64], homes: &[Home]) -> [u64; REGISTERS] {
     holders
 }
 
-/// A set more, if more than one slot is in it.
+/// Appends a set to the groups if it has more than one slot.
 fn add_group(groups: &mut Vec<u64>, slots: u64) -> Result<(), AllocError>
     ensures { IfOk result (λ done. groups.new.items ≡ checks.with_group groups.old.items slots) }
 {
@@ -50,7 +50,7 @@ fn add_group(groups: &mut Vec<u64>, slots: u64) -> Result<(), AllocError>
     Ok(())
 }
 
-/// The sets of more than one slot that have the same register.
+/// Returns the sets of more than one slot that share a register.
 pub(crate) fn groups_of(alloc: Global, holders: &[u64]) -> Result<Vec<u64>, AllocError>
     ensures { IfOk result (λ groups. checks.AreGroups holders.now (length holders.now) groups.items) }
 {
@@ -68,19 +68,14 @@ fn is_given(saved: usize, register: u8) -> bool
     FIRST_REGISTER <= register && (register as usize) < FIRST_PRESERVED as usize + saved
 }
 
-/// Whether the home of a slot is right by itself, and its register has it among its slots.
-fn suits(
-    function: &Function,
-    masks: &[u64],
-    lives: &Lives,
-    holders: &[u64],
-    saved: usize,
-    slot: usize,
-    home: Home,
-) -> bool
+/// Returns true if the home of a slot is correct in isolation, and the slots of its register include it.
+fn suits(analysis: &Analysis, holders: &[u64], saved: usize, slot: usize, home: Home) -> bool
     requires { saved ≤ MOST_SAVED }
-    ensures { result ≡ checks.suits masks.now lives.now.live.items holders.now lives.now.calls lives.now.clauses lives.now.barred function.now.parameters saved slot home }
+    ensures { result ≡ checks.suits analysis.now.masks.now analysis.now.lives.now.live.items holders.now analysis.now.lives.now.calls
+        analysis.now.lives.now.clauses
+        analysis.now.lives.now.barred analysis.now.function.now.parameters saved slot home }
 {
+    let (function, masks, lives) = (analysis.function, analysis.masks, analysis.lives);
     let mask = mask_at(masks, slot);
     match home {
         Home::Memory => true,
@@ -98,20 +93,15 @@ fn suits(
     }
 }
 
-/// Whether all homes are right by themselves.
-fn all_suit(
-    function: &Function,
-    masks: &[u64],
-    lives: &Lives,
-    holders: &[u64],
-    saved: usize,
-    homes: &[Home],
-) -> bool
+/// Returns true if each home is correct in isolation.
+fn all_suit(analysis: &Analysis, holders: &[u64], saved: usize, homes: &[Home]) -> bool
     requires { saved ≤ MOST_SAVED }
-    ensures { result ≡ true → checks.AllSuit masks.now lives.now.live.items holders.now lives.now.calls lives.now.clauses lives.now.barred function.now.parameters saved homes.now }
+    ensures { result ≡ true → checks.AllSuit analysis.now.masks.now analysis.now.lives.now.live.items holders.now analysis.now.lives.now.calls
+        analysis.now.lives.now.clauses
+        analysis.now.lives.now.barred analysis.now.function.now.parameters saved homes.now }
 {
     for slot in 0..homes.len() {
-        if !suits(function, masks, lives, holders, saved, slot, homes[slot]) {
+        if !suits(analysis, holders, saved, slot, homes[slot]) {
             return false;
         }
     }
@@ -138,7 +128,7 @@ fn saved_in(home: Home) -> usize
     }
 }
 
-/// How many slots have a register beside memory.
+/// Returns the number of slots with a register in addition to memory.
 fn both_in_all(homes: &[Home]) -> usize
     ensures { result ≡ sum_by both_count homes.now }
 {
@@ -149,7 +139,7 @@ fn both_in_all(homes: &[Home]) -> usize
     both
 }
 
-/// How many of the first slots, so many of them, have a register that calls preserve.
+/// Returns the number of callee-saved registers among the homes of the first `count` slots.
 fn saved_in_first(homes: &[Home], count: usize) -> usize
     ensures { result ≡ sum_by saved_count (take count homes.now) }
 {
@@ -160,7 +150,7 @@ fn saved_in_first(homes: &[Home], count: usize) -> usize
     saved
 }
 
-/// Whether of each group one slot at most is in a set.
+/// Returns true if a set contains at most one slot of each group.
 fn are_single(groups: &[u64], set: u64) -> bool
     ensures { result ≡ true → checks.AreSingle groups.now set }
 {
@@ -172,7 +162,8 @@ fn are_single(groups: &[u64], set: u64) -> bool
     true
 }
 
-/// Whether of each group one slot at most is in a set. It is so where the set is within one of which that is known.
+/// Returns true if a set contains at most one slot of each group. A subset of a set with at most one slot of each group has at most one
+/// slot of each group.
 fn are_alone(groups: &[u64], known: u64, set: u64) -> bool
     requires { checks.AreAlone groups.now known }
     ensures { result ≡ true → checks.AreAlone groups.now set }
@@ -180,28 +171,28 @@ fn are_alone(groups: &[u64], known: u64, set: u64) -> bool
     is_within(set, known) || are_single(groups, set)
 }
 
-/// Whether of a set of slots that share a register none is in the first of these masks, or one at most in both of them.
-fn is_apart(written: u64, behind: u64, slots: u64) -> bool
-    ensures { result ≡ checks.is_apart written behind slots }
+/// Returns true if none of the slots that share a register is written, or at most one is written or live after.
+fn is_apart(written: u64, following: u64, slots: u64) -> bool
+    ensures { result ≡ checks.is_apart written following slots }
 {
-    written & slots == 0 || is_single((written | behind) & slots)
+    written & slots == 0 || is_single((written | following) & slots)
 }
 
-fn are_apart(groups: &[u64], written: u64, behind: u64) -> bool
-    ensures { result ≡ true → checks.AreApart groups.now written behind }
+fn are_apart(groups: &[u64], written: u64, following: u64) -> bool
+    ensures { result ≡ true → checks.AreApart groups.now written following }
 {
     if written == 0 {
         return true;
     }
     for number in 0..groups.len() {
-        if !is_apart(written, behind, groups[number]) {
+        if !is_apart(written, following, groups[number]) {
             return false;
         }
     }
     true
 }
 
-/// What is live at an instruction, and where it moves several words what it writes too.
+/// Returns the slots live at an instruction; for a move of several words, also the destinations.
 fn standing_mask(uses: Uses, instruction: Instruction, index: usize, live: &[u64]) -> u64
     requires { index < length live.now }
     ensures { result ≡ checks.standing_mask uses instruction index live.now }
@@ -212,8 +203,8 @@ fn standing_mask(uses: Uses, instruction: Instruction, index: usize, live: &[u64
     }
 }
 
-/// Whether no two slots of a group meet anywhere. Where the run goes on behind an instruction none meet that did not meet there,
-/// but what it writes and what is live behind it.
+/// Returns true if no two slots of a group interfere anywhere. After an instruction only the written slots and those live after it need a
+/// new check.
 fn never_meet(
     plain: &Plain,
     function: &Function,
@@ -232,19 +223,19 @@ fn never_meet(
         let instruction = function.code[index];
         let used = uses[index];
         let standing = standing_mask(used, instruction, index, live);
-        let behind = behind_mask(instruction, index, live);
+        let following = after_mask(instruction, index, live);
         if !are_alone(groups, known, standing) {
             return false;
         }
-        if !are_apart(groups, used.writes, behind) {
+        if !are_apart(groups, used.writes, following) {
             return false;
         }
-        known = standing & behind | used.writes;
+        known = standing & following | used.writes;
     }
     true
 }
 
-/// Whether no two slots that share a register meet, of which one at most is a parameter.
+/// Returns true if no two slots that share a register interfere, and at most one of them is a parameter.
 fn may_share(
     plain: &Plain,
     function: &Function,
@@ -264,32 +255,31 @@ fn may_share(
             && never_meet(plain, function, masks, uses, live, groups))
 }
 
-/// Whether homes are right for a function that saves so many registers.
+/// Returns true if the homes are correct for a function that saves `saved` registers.
 pub(crate) fn are_right(
-    plain: &Plain,
-    function: &Function,
-    masks: &[u64],
-    uses: &[Uses],
-    lives: &Lives,
+    analysis: &Analysis,
     holders: &[u64],
     groups: &[u64],
     saved: usize,
     homes: &[Home],
 ) -> bool
-    requires numbered { AreMasks masks.now MOST_CHOSEN }
-    requires uses { AreUses plain.now (routine_of function.now) masks.now uses.now }
-    requires all { length uses.now ≡ length function.now.code.items }
-    requires sound { IsSound plain.now (routine_of function.now) masks.now lives.now.live.items lives.now.calls lives.now.clauses lives.now.barred }
-    requires table { length lives.now.live.items ≡ length function.now.code.items }
+    requires numbered { AreMasks analysis.now.masks.now MOST_CHOSEN }
+    requires uses { AreUses analysis.now.plain.now (routine_of analysis.now.function.now) analysis.now.masks.now analysis.now.uses.now }
+    requires all { length analysis.now.uses.now ≡ length analysis.now.function.now.code.items }
+    requires sound { IsSound analysis.now.plain.now (routine_of analysis.now.function.now) analysis.now.masks.now analysis.now.lives.now.live.items
+        analysis.now.lives.now.calls
+        analysis.now.lives.now.clauses analysis.now.lives.now.barred }
+    requires table { length analysis.now.lives.now.live.items ≡ length analysis.now.function.now.code.items }
     requires groups { checks.AreGroups holders.now (length holders.now) groups.now }
     requires saved { saved ≤ MOST_SAVED }
-    ensures homes { result ≡ true → AreHomes plain.now (routine_of function.now) saved homes.now }
-    ensures holders { result ≡ true → checks.AreHolders masks.now holders.now homes.now }
+    ensures homes { result ≡ true → AreHomes analysis.now.plain.now (routine_of analysis.now.function.now) saved homes.now }
+    ensures holders { result ≡ true → checks.AreHolders analysis.now.masks.now holders.now homes.now }
 {
+    let function = analysis.function;
     if homes.len() != function.slots {
         return false;
     }
-    if !all_suit(function, masks, lives, holders, saved, homes) {
+    if !all_suit(analysis, holders, saved, homes) {
         return false;
     }
     if both_in_all(homes) > MOST_BOTH {
@@ -298,5 +288,13 @@ pub(crate) fn are_right(
     if saved_in_first(homes, function.parameters) > saved {
         return false;
     }
-    may_share(plain, function, masks, uses, &lives.live, groups)
+    let live = &analysis.lives.live;
+    may_share(
+        analysis.plain,
+        function,
+        analysis.masks,
+        analysis.uses,
+        live,
+        groups,
+    )
 }

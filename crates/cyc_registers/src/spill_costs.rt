@@ -1,46 +1,46 @@
-//! Spill costs: what each slot costs where it stays in memory, and so which are worth a register. Nothing is promised of the choice:
-//! homes are right whatever is chosen.
+//! Spill costs: the cost of keeping each slot in memory, used to select the candidates for registers. Unverified: the checker validates the
+//! homes, whatever is selected.
 use crate::liveness::MOST_CHOSEN;
 use cyc_plain::{Function, Instruction, Operand, Request};
 use std::alloc::{AllocError, Global};
 
-/// How many bits a gain has, and the highest of them.
+/// The number of bits of a gain, and its highest bit.
 const GAIN_BITS: usize = 64;
 
 const HIGHEST_GAIN_BIT: u64 = 1 << 63;
 
-/// How often the code reads and writes a slot, by a guess of how often each place is executed.
+/// The estimated number of executed reads and writes of a slot.
 #[derive(Clone, Copy)]
 struct SpillCost {
     reads: u64,
     writes: u64,
-    /// The place among the arguments of a call, or among the parameters, at which it is handed over most.
+    /// The position among arguments or parameters at which the slot is passed most often.
     place: usize,
-    /// How often it is handed over there.
+    /// The estimated number of times that the slot is passed at this position.
     handed: u64,
 }
 
-/// What registers for the slots of a function would gain.
+/// The savings of registers for the slots of a function.
 #[derive(Drop)]
 pub(crate) struct SpillCosts {
     slots: Vec<SpillCost>,
     calls: u64,
-    /// The places from which the code jumps backward, in order.
+    /// The places of backward jumps, in ascending order.
     pub(crate) backward: Vec<usize>,
 }
 
 /// A place in the code.
 #[derive(Clone, Copy)]
 struct Place {
-    /// Where the code jumps backward to it, the place behind the last such jump, else 0.
+    /// The place after the last backward jump to this place, or 0.
     end: usize,
-    /// How many loops end before it.
+    /// The number of loops that end just before this place.
     closing: u64,
-    /// Whether a jump further in front, to which a way leads, leads there.
+    /// True if a reachable jump from an earlier place leads to this place.
     is_reached: bool,
 }
 
-/// Where an instruction leads, but for the next one and to clauses.
+/// Returns the jump target of an instruction, not counting handlers.
 fn target_of(instruction: Instruction) -> Option<usize> {
     match instruction {
         Instruction::Jump { target } => Some(target),
@@ -49,7 +49,7 @@ fn target_of(instruction: Instruction) -> Option<usize> {
     }
 }
 
-/// Whether the code may go on behind an instruction.
+/// Returns true if control may continue at the next instruction.
 pub(crate) fn goes_on(instruction: Instruction) -> bool {
     match instruction {
         Instruction::Jump { .. }
@@ -118,13 +118,13 @@ impl SpillCosts {
         }
     }
 
-    /// A slot that gets a word so often, which is made of an operand.
+    /// Counts a write of a slot whose word is computed from an operand.
     fn change(&mut self, slot: usize, operand: Operand, weight: u64) {
         self.read_operand(operand, weight);
         self.write(slot, weight);
     }
 
-    /// A slot that is handed over so often as the argument, or the parameter, of this place.
+    /// Counts the passing of a slot as the argument or parameter at this position.
     fn hand_over(&mut self, slot: usize, place: usize, weight: u64) {
         if let Some(cost) = self.slots.get_mut(slot) {
             if place == cost.place {
@@ -149,8 +149,8 @@ impl SpillCosts {
         }
     }
 
-    /// An instruction that is executed so often: what it reads that it may have from registers, what it writes, and to where it
-    /// jumps. Answers whether the code may go on behind it.
+    /// Counts the reads that registers can serve, the writes and the jump target of an instruction that is executed `weight` times. Returns
+    /// true if control may continue after the instruction.
     fn look_at(&mut self, places: &mut Vec<Place>, instruction: Instruction, weight: u64) -> bool {
         match instruction {
             Instruction::Move {
@@ -189,7 +189,7 @@ impl SpillCosts {
         true
     }
 
-    /// The same of those that neither compute nor branch.
+    /// Counts the uses of an instruction that neither computes nor branches. Returns true if control may continue after the instruction.
     fn look_at_other(
         &mut self,
         places: &mut Vec<Place>,
@@ -228,7 +228,7 @@ impl SpillCosts {
         true
     }
 
-    /// What an instruction reads and writes that loads, stores, or asks the store.
+    /// Counts the uses of an instruction that loads, stores, or makes a request to the store.
     fn look_at_memory(&mut self, instruction: Instruction, weight: u64) {
         match instruction {
             Instruction::Load {
@@ -263,7 +263,7 @@ impl SpillCosts {
         }
     }
 
-    /// The places of a function's code, with where its loops begin and end.
+    /// Returns the places of a function's code with the beginnings and ends of its loops.
     fn places(&mut self, alloc: Global, code: &[Instruction]) -> Result<Vec<Place>, AllocError> {
         let place = Place {
             end: 0,
@@ -284,12 +284,12 @@ impl SpillCosts {
         Ok(places)
     }
 
-    /// What each slot costs: a place counts ten times for each loop round it, and nothing where no way leads. To where the
-    /// code jumps backward, a way is taken for granted.
+    /// Computes the cost of each slot. Each enclosing loop multiplies the weight of a place by ten, and unreachable places count nothing.
+    /// Targets of backward jumps count as reachable.
     fn weigh(&mut self, code: &[Instruction], places: &mut Vec<Place>) {
         let mut depth: u64 = 0;
         let mut weight = weight_in(depth);
-        // whether the code may come there from the place before
+        // True if control may fall through from the previous place.
         let mut goes = true;
         for index in 0..code.len() {
             let place = match places.get(index) {
@@ -311,7 +311,7 @@ impl SpillCosts {
         }
     }
 
-    /// What a register alone would save at most.
+    /// Returns the savings of a register as the only home.
     pub(crate) fn most_at(&self, slot: usize) -> u64 {
         match self.slots.get(slot) {
             Some(gain) => gain.reads.saturating_add(gain.writes),
@@ -319,7 +319,7 @@ impl SpillCosts {
         }
     }
 
-    /// What a register beside memory would save, which is read again behind each call.
+    /// Returns the savings of a register in addition to memory, which is reloaded after each call.
     pub(crate) fn beside_at(&self, slot: usize) -> u64 {
         match self.slots.get(slot) {
             Some(gain) => gain.reads.saturating_sub(self.calls),
@@ -327,7 +327,7 @@ impl SpillCosts {
         }
     }
 
-    /// Where it is handed over most, if anywhere.
+    /// Returns the position at which the slot is passed most often, if it is passed.
     pub(crate) fn place_at(&self, slot: usize) -> Option<usize> {
         match self.slots.get(slot) {
             Some(cost) if cost.handed > 0 => Some(cost.place),
@@ -335,12 +335,12 @@ impl SpillCosts {
         }
     }
 
-    /// How many slots there are.
+    /// Returns the number of slots.
     pub(crate) fn count(&self) -> usize {
         self.slots.len()
     }
 
-    /// How many slots there are for each number of zero bits in front of what they gain.
+    /// Returns the number of slots for each number of leading zero bits of the savings.
     fn counts(&self, alloc: Global) -> Result<Vec<u32>, AllocError> {
         let mut counts: Vec<u32> = vec![in alloc; 0; GAIN_BITS]?;
         for slot in 0..self.slots.len() {
@@ -351,7 +351,7 @@ impl SpillCosts {
         Ok(counts)
     }
 
-    /// Which slots are looked at: those that gain most.
+    /// Returns the choice of the candidates: the slots with the greatest savings.
     pub(crate) fn choice(&self, alloc: Global) -> Result<Choice, AllocError> {
         let mut choice = Choice {
             least: 1,
@@ -374,7 +374,7 @@ impl SpillCosts {
     }
 }
 
-/// Which slots are looked at: those with the least gain or more, and of those with half of it as many as are left.
+/// The choice of candidates: slots whose savings are at least `least`, and up to `left` slots with at least half of it.
 #[derive(Clone, Copy)]
 pub(crate) struct Choice {
     least: u64,
@@ -382,7 +382,7 @@ pub(crate) struct Choice {
 }
 
 impl Choice {
-    /// Whether a slot that gains so much is looked at.
+    /// Returns true if a slot with these savings becomes a candidate.
     pub(crate) fn takes(&mut self, gain: u64) -> bool {
         if gain >= self.least {
             return true;
@@ -395,7 +395,7 @@ impl Choice {
     }
 }
 
-/// What registers for the slots of a function would gain.
+/// Returns the savings of registers for the slots of a function.
 pub(crate) fn spill_costs_of(alloc: Global, function: &Function) -> Result<SpillCosts, AllocError> {
     let none = SpillCost {
         reads: 0,

@@ -1,4 +1,4 @@
-//! What each instruction of a function does with the chosen slots. It is asked once of each, and then looked up by its place.
+//! The uses and definitions of the candidates by each instruction of a function, computed once and then looked up by place.
 ghost use Rattle.std.specs.Prelude.{◌≡◌, length, IfOk};
 ghost use Rattle.cyc_plain.specs.inside.Program.{routine_of};
 ghost use Rattle.cyc_registers.specs.inside.Masks as masks_of;
@@ -7,18 +7,18 @@ use crate::masks::{bar_mask, read_mask, write_mask};
 use cyc_plain::{Function, Instruction, Plain};
 use std::alloc::{AllocError, Global};
 
-/// What an instruction does with the chosen slots, as masks.
+/// The effect of an instruction on the candidates, as masks.
 #[derive(Clone, Copy)]
 pub(crate) struct Uses {
-    /// What it reads.
+    /// The slots that the instruction reads.
     pub(crate) reads: u64,
-    /// What it writes of the slots that it does not bar.
+    /// The slots that the instruction writes and does not exclude from registers.
     pub(crate) writes: u64,
-    /// What it bars from registers.
+    /// The slots that the instruction excludes from registers.
     pub(crate) bars: u64,
 }
 
-/// What an instruction does, in a function that returns so many words.
+/// Returns the effect of an instruction, in a function with `results` results.
 fn uses_of(plain: &Plain, results: usize, masks: &[u64], instruction: Instruction) -> Uses
     ensures { result ≡ masks_of.uses_of plain.now results masks.now instruction }
 {
@@ -29,7 +29,7 @@ fn uses_of(plain: &Plain, results: usize, masks: &[u64], instruction: Instructio
     }
 }
 
-/// What each instruction of a function does.
+/// Returns the effect of each instruction of a function.
 pub(crate) fn all_uses(
     alloc: Global,
     plain: &Plain,

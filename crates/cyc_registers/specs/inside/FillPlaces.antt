@@ -1,4 +1,4 @@
--- Which places are taken to fill slots, by homes and by a table of where chosen slots are live.
+-- The places chosen to fill delay slots, by the homes and a table of the live candidate slots.
 use Rattle.std.specs.Prelude.{◌≡◌, ℕ, ◌+◌, ◌<◌, Bool, true, false, ◌==◌, ◌&&◌, not, nat_lt, if◌then◌else◌, List, length, Option, Some, slice_get, slice_set, bit_and}
 use Rattle.cyc_plain.specs.declared.instruction.Comparison.{Comparison}
 use Rattle.cyc_plain.specs.declared.instruction.Instruction.{Instruction}
@@ -10,17 +10,17 @@ use Rattle.cyc_registers.specs.inside.Fills.{fills_at}
 use Rattle.cyc_registers.specs.inside.Interference.{home_of}
 use Rattle.cyc_registers.specs.inside.Masks.{mask_at}
 
--- the slots that have the register of this home, of which `holders` has those of each
+-- The slots that share the register of this home. `holders` lists the slots of each register.
 abbrev pub holders_of : (holders : List ℕ) → Home → ℕ
 holders_of holders homes.Memory = 0
 holders_of holders (homes.Both register) = mask_at holders register
 holders_of holders (homes.Register register) = mask_at holders register
 
--- the slot has no register, or none that has it is in the table behind the instruction of this index
+-- The slot has no register, or no slot with its register is live after the instruction at `index`.
 abbrev pub is_free : (holders live : List ℕ) → List Home → (index slot : ℕ) → Bool
 is_free holders live hs index slot = bit_and (mask_at live (index + 1)) (holders_of holders (home_of hs slot)) == 0
 
--- an instruction to which the branch of this index leads
+-- The target of the branch at `index` is an instruction that may fill its delay slot.
 abbrev pub may_fill : (holders live : List ℕ) → List Home → (index : ℕ) → Option Instruction → Bool
 may_fill holders live hs index (Some (instructions.Move destination source)) = is_free holders live hs index destination
 may_fill holders live hs index (Some (instructions.Unary operator destination operand)) =
@@ -29,7 +29,7 @@ may_fill holders live hs index (Some (instructions.Binary operator destination l
     is_free holders live hs index destination
 may_fill holders live hs index other = false
 
--- The places that are left when the instruction of this index has barred its target, where that may not fill its slot.
+-- The places left after the branch at `index` has excluded its target, unless the target may fill its delay slot.
 abbrev pub barring : (holders live : List ℕ) → List Home → List Instruction → (index : ℕ) → Instruction
     → (fills : List Bool) → List Bool
 barring holders live hs code index (instructions.Branch comparison left right target) fills =
@@ -38,7 +38,7 @@ barring holders live hs code index (instructions.Branch comparison left right ta
     else fills
 barring holders live hs code index i fills = fills
 
--- what is left of all places when so many instructions have barred theirs
+-- The places left after the first `count` instructions have excluded their targets.
 pub record AreLeft (holders live : List ℕ) (hs : List Home) (code : List Instruction) (count : ℕ) (fills : List Bool) : Type 0 where
   pub as_many : length fills ≡ length code
   pub each : (index target : ℕ) (comparison : Comparison) (left right : Operand) (i : Instruction) → index < count

@@ -1,5 +1,5 @@
--- Delay slots that are filled from the target of a branch: at which places a word may be made in front of each branch that leads
--- there, so that it is made whichever way the branch goes.
+-- Delay slots filled from the branch target: the places whose word may be computed before each branch to them, whether the branch is taken
+-- or not.
 use Rattle.std.specs.Prelude.{◌≡◌, ℕ, suc, Bool, true, false, List, slice_index_or}
 use Rattle.cyc_plain.specs.declared.instruction.Comparison.{Comparison}
 use Rattle.cyc_plain.specs.declared.instruction.Instruction.{Instruction}
@@ -11,12 +11,12 @@ use Rattle.cyc_registers.specs.declared.home.Home.{Home}
 use Rattle.cyc_registers.specs.inside.Interference.{HasRegister}
 use Rattle.cyc_registers.specs.inside.Liveness.{IsLiveAt}
 
--- whether the place of this index fills slots; where nothing is said of it, it does not
+-- The place at `target` fills delay slots. A place without an entry does not.
 abbrev pub fills_at : List Bool → (target : ℕ) → Bool
 fills_at fills target = slice_index_or fills target false
 
--- Of a place that fills slots: where a branch leads there, the register of what is written there has no word that is live on the
--- branch's other way. Others may be so too.
+-- At each branch to a place that fills delay slots, the register written there holds no word that is live if the branch is not taken. Other
+-- places than the listed ones may qualify too.
 abbrev pub AreFillable : Program → Routine → List Home → (fills : List Bool) → Type 0
 AreFillable program r hs fills =
     (index target d a k : ℕ) (comparison : Comparison) (left right : Operand) (i : Instruction)

@@ -1,5 +1,5 @@
--- Idle instructions: the run goes on behind them whatever is in the slots, and what they change nothing asks for later, or a
--- register has it already. So a machine has nothing to do for them.
+-- Idle instructions: control always continues after them, and what they write is dead or already in its register. Idle instructions need no
+-- machine code.
 use Rattle.std.specs.Prelude.{◌≡◌, ℕ, suc, ◌<◌, ◌≤◌, ◌⊎◌, Bool, true, false, List, slice_index_or}
 use Rattle.cyc_plain.specs.declared.instruction.BinaryOperator.{BinaryOperator}
 use Rattle.cyc_plain.specs.declared.instruction.BinaryOperator.TheVariants as operators
@@ -16,41 +16,41 @@ use Rattle.cyc_registers.specs.declared.home.Home.TheVariants as homes
 use Rattle.cyc_registers.specs.inside.Interference.{HasRegister, is_kept, home_of}
 use Rattle.cyc_registers.specs.inside.Liveness.{IsLiveAt}
 
--- it has a result whatever the words are
+-- An operator that has a result for all words.
 abbrev pub always_has_result : BinaryOperator → Bool
 always_has_result operators.Divide = false
 always_has_result operators.Remainder = false
 always_has_result operator = true
 
--- the comparison of two words does not hold
+-- The comparison of the two operands never holds.
 abbrev pub NeverHolds : Comparison → (left right : Operand) → Type 0
 NeverHolds comparison (operands.Word left) (operands.Word right) = compares comparison left right ≡ false
 NeverHolds comparison left right = ⊥
 
--- a slot whose word is in a register alone, and that is not live behind the instruction of this index
+-- The slot is in a register only and is not live after the instruction at `index`.
 abbrev pub IsUnused : Program → Routine → List Home → (index slot : ℕ) → Type 0
 IsUnused program r hs index slot = (is_kept (home_of hs slot) ≡ false) × (IsLiveAt program r slot (suc index) → ⊥)
 
--- what is moved is in the register that the slot has alone
+-- The moved word is already in the slot's register, which is its only home.
 abbrev pub IsThere : List Home → (slot : ℕ) → Operand → Type 0
 IsThere hs slot (operands.Slot number) =
     (register : ℕ) × (home_of hs slot ≡ homes.Register register) × HasRegister hs number register
 IsThere hs slot (operands.Word word) = ⊥
 
--- whether the place of this index is idle; where nothing is said of it, it is not
+-- The place at `index` is idle. A place without an entry is not.
 abbrev pub idle_at : List Bool → (index : ℕ) → Bool
 idle_at idle index = slice_index_or idle index false
 
--- the places from one on, up to another, are idle
+-- The places from `first` up to `end` are idle.
 abbrev pub AreIdleFrom : (idle : List Bool) → (first end : ℕ) → Type 0
 AreIdleFrom idle first end = (k : ℕ) → first ≤ k → k < end → idle_at idle k ≡ true
 
--- an instruction leads over idle places alone
+-- An instruction falls through, or jumps forward over idle places only.
 abbrev pub LeadsOver : (idle : List Bool) → (index : ℕ) → Instruction → Type 0
 LeadsOver idle index (instructions.Jump target) = (suc index ≤ target) × AreIdleFrom idle (suc index) target
 LeadsOver idle index i = ⊥
 
--- A jump is idle that leads over idle places alone, or to the next one.
+-- A jump is idle if it leads to the next place or skips only idle places.
 abbrev pub IsIdle : Program → Routine → List Home → (idle : List Bool) → (index : ℕ) → Instruction → Type 0
 IsIdle program r hs idle index (instructions.Move destination source) =
     (source ≡ operands.Slot destination) ⊎ (IsUnused program r hs index destination ⊎ IsThere hs destination source)
@@ -64,7 +64,7 @@ IsIdle program r hs idle index (instructions.Branch comparison left right target
     (target ≡ suc index) ⊎ NeverHolds comparison left right
 IsIdle program r hs idle index i = ⊥
 
--- The places that are said to be idle are. Others may be too.
+-- Each place listed as idle is idle. Places outside this definition may also be idle.
 abbrev pub AreIdle : Program → Routine → List Home → (idle : List Bool) → Type 0
 AreIdle program r hs idle =
     (index : ℕ) (i : Instruction) → At r index i → idle_at idle index ≡ true → IsIdle program r hs idle index i

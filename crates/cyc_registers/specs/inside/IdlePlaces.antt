@@ -1,4 +1,4 @@
--- Which places are taken for idle, by homes and by a table of where chosen slots are live.
+-- The places listed as idle, by the homes and a table of the live candidate slots.
 use Rattle.std.specs.Prelude.{ℕ, zero, suc, ◌+◌, Bool, true, false, ◌==◌, ◌&&◌, ◌||◌, not, nat_lt, List, bit_and}
 use Rattle.cyc_plain.specs.declared.instruction.Comparison.{Comparison}
 use Rattle.cyc_plain.specs.declared.instruction.Comparison.TheVariants as comparisons
@@ -13,30 +13,30 @@ use Rattle.cyc_registers.specs.inside.Interference.{is_kept, home_of}
 use Rattle.cyc_registers.specs.inside.Idle.{always_has_result}
 use Rattle.cyc_registers.specs.inside.Masks.{mask_at}
 
--- a word is said to be another than itself
+-- A branch compares a word with that word in a way that never holds.
 abbrev pub never_holds : Comparison → (left right : Operand) → Bool
 never_holds comparisons.NotEqual (operands.Word left) (operands.Word right) = left == right
 never_holds comparison left right = false
 
--- the first home is a register alone, which is the second one's too
+-- The first home is a register only, and the second home has that register.
 abbrev pub shares_register : (home other : Home) → Bool
 shares_register (homes.Register register) (homes.Register other) = register == other
 shares_register (homes.Register register) (homes.Both other) = register == other
 shares_register home other = false
 
--- the slot is one of those in the table, which does not have it behind the instruction of this index
+-- The slot is a candidate that is not live, by the table, after the instruction at `index`.
 abbrev pub is_unused : (masks live : List ℕ) → List Home → (index slot : ℕ) → Bool
 is_unused masks live hs index slot =
     nat_lt 0 (mask_at masks slot)
     && (bit_and (mask_at live (index + 1)) (mask_at masks slot) == 0 && not (is_kept (home_of hs slot)))
 
--- so many slots from this one on are such ones
+-- `count` slots from `first` on are unused.
 abbrev pub are_unused : (masks live : List ℕ) → List Home → (index first count : ℕ) → Bool
 are_unused masks live hs index first zero = true
 are_unused masks live hs index first (suc count) =
     are_unused masks live hs index first count && is_unused masks live hs index (first + count)
 
--- what is moved is in the register that the slot has alone
+-- The moved word is already in the slot's register, which is its only home.
 abbrev pub is_there : List Home → (slot : ℕ) → Operand → Bool
 is_there hs slot (operands.Slot number) = shares_register (home_of hs slot) (home_of hs number)
 is_there hs slot (operands.Word word) = false

@@ -1,4 +1,4 @@
--- Liveness: a slot is live at a place where there is a way through the code to an instruction that reads it, with none before that
+-- Liveness: a slot is live at a place if some path from there reaches an instruction that reads it, and no instruction before on the path
 -- writes it.
 use Rattle.std.specs.Prelude.{◌≡◌, ℕ, zero, suc, ◌⊎◌, true, false}
 use Rattle.cyc_plain.specs.declared.instruction.Instruction.{Instruction}
@@ -6,7 +6,7 @@ use Rattle.cyc_plain.specs.declared.instruction.Instruction.TheVariants as instr
 use Rattle.cyc_plain.specs.inside.Program.{Routine, Program}
 use Rattle.cyc_plain.specs.inside.Uses.{At, reads, writes, leads}
 
--- an instruction so many later reads the slot, and none before writes it
+-- An instruction that reads the slot is reached after `steps` instructions, and none before it writes the slot.
 abbrev pub IsLiveWithin : Program → Routine → (slot steps index : ℕ) → Type 0
 IsLiveWithin program r slot zero index = (i : Instruction) × At r index i × (reads r.results i slot ≡ true)
 IsLiveWithin program r slot (suc steps) index =
@@ -16,7 +16,7 @@ IsLiveWithin program r slot (suc steps) index =
 abbrev pub IsLiveAt : Program → Routine → (slot index : ℕ) → Type 0
 IsLiveAt program r slot index = (steps : ℕ) × IsLiveWithin program r slot steps index
 
--- it is live where a clause of the function begins, to which an exception may come from any call
+-- The slot is live at the start of a handler of the function. An exception can reach it from any call.
 abbrev pub IsLiveInClause : Program → Routine → (slot : ℕ) → Type 0
 IsLiveInClause program r slot =
     (index first handler : ℕ) × At r index (instructions.Try first handler) × IsLiveAt program r slot handler

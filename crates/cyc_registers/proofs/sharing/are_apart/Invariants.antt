@@ -3,7 +3,7 @@ use Rattle.std.specs.Prelude.{slice_get}
 use Rattle.cyc_registers.specs.inside.Sharing.{is_apart}
 use Rattle.cyc_registers.proofs.sharing.are_apart.Given as goal
 
--- the groups so far
+-- No two slots of the groups so far interfere at this instruction.
 abbrev pub invariant-loop-number : goal.invariant-loop-number
 invariant-loop-number l =
-    (k slots : ℕ) → slice_get l.groups k ≡ Some slots → k < l.number → is_apart l.written l.behind slots ≡ true
+    (k slots : ℕ) → slice_get l.groups k ≡ Some slots → k < l.number → is_apart l.written l.following slots ≡ true

@@ -6,7 +6,7 @@ use Rattle.cyc_registers.specs.declared.uses.Uses.{Uses}
 use Rattle.cyc_registers.specs.inside.Masks.{uses_of}
 use Rattle.cyc_registers.specs.inside.Sharing.{AreAlone, AreApart, AreApartAt}
 use Rattle.cyc_registers.proofs.CheckedHomes.{more_meet}
-use Rattle.cyc_registers.proofs.Meeting.{alone_behind}
+use Rattle.cyc_registers.proofs.Meeting.{alone_after}
 use Rattle.cyc_registers.proofs.sharing.never_meet.Goals as goal
 
 pub loop-index-preserved : goal.loop-index-preserved
@@ -26,7 +26,7 @@ loop-index-preserved c =
     let apart = c.are_apart.ensures c.if-not-are_apart.false in (
       more_meet c.args.plain.now r c.args.masks.now live groups loop.index instruction at
           (subst (λ (u : Uses). AreApartAt u live groups instruction loop.index) same
-          (subst (AreAlone groups) c.standing_mask-standing.ensures alone, subst (AreApart groups used.writes) c.behind_mask-behind.ensures apart))
+          (subst (AreAlone groups) c.standing_mask-standing.ensures alone, subst (AreApart groups used.writes) c.after_mask-following.ensures apart))
           loop.invariant.0,
-      alone_behind groups c.standing_mask-standing.result used.writes c.behind_mask-behind.result alone apart,
+      alone_after groups c.standing_mask-standing.result used.writes c.after_mask-following.result alone apart,
     )
