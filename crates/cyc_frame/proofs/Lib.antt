@@ -1,2 +1,2 @@
--- frames are frames, and what is refused is the first that is too large
+-- the frames are correct, and the reported function is the first whose frame is too large
 pub mod Sound

@@ -1,4 +1,4 @@
--- Frames are frames, and what is refused is the first that is too large.
+-- The frames are correct, and the reported function is the first whose frame is too large.
 use Rattle.std.proofs.Common.{◌≡◌, ℕ, zero, suc, ◌+◌, ◌<◌, ◌≤◌, Bool, false, List, [], ◌∷◌, ◌++◌, length, map, Some, None, Result, Ok, Err, refl, sym, ap, subst, ◌∙◌, arith, inl, inr}
 use Rattle.std.specs.Prelude.{if◌then◌else◌, slice_index_or, slice_set, true, ◌⊎◌, Option}
 use Rattle.std.proofs.lemmas.Bool.{cases_eq, cases_lt, lt-ltb}
@@ -21,28 +21,28 @@ use Rattle.cyc_registers.specs.inside.Idle.{AreIdle}
 use Rattle.cyc_registers.specs.inside.Fills.{AreFillable}
 use Rattle.cyc_frame.specs.inside.Layout.{AllReturn, AreFirstFrames, AreFrames, AreRaised, HasSmallFrames, IsAccepted, IsFrame, IsTooLarge, first_too_large, frame_at, is_too_large, opens_any, returns_any}
 
--- ---- the first that is too large
+-- ---- the first frame that is too large
 
 abbrev count_at : List Routine → ℕ → ℕ
 count_at routines k = (slice_index_or routines k no_routine).frame_count
 
--- the function of this index is the first with a frame that is too large
+-- The function at this index is the first whose frame is too large.
 abbrev IsFirst : List Routine → ℕ → Type 0
 IsFirst routines k =
     (k < length routines) × (MOST_FRAME_WORDS < count_at routines k) × ((j : ℕ) → j < k → count_at routines j ≤ MOST_FRAME_WORDS)
 
--- what the search finds
+-- The result of the search for a frame that is too large.
 abbrev Found : List Routine → Option Span → Type 0
 Found routines None = (k : ℕ) → k < length routines → count_at routines k ≤ MOST_FRAME_WORDS
 Found routines (Some place) = (k : ℕ) × IsFirst routines k × ((slice_index_or routines k no_routine).name ≡ place)
 
-found_behind_small : (r : Routine) (routines : List Routine) → r.frame_count ≤ MOST_FRAME_WORDS → (o : Option Span) → Found routines o → Found (r ∷ routines) o
-found_behind_small r routines small None all = go
+found_after_small : (r : Routine) (routines : List Routine) → r.frame_count ≤ MOST_FRAME_WORDS → (o : Option Span) → Found routines o → Found (r ∷ routines) o
+found_after_small r routines small None all = go
   where
     go : (k : ℕ) → k < length (r ∷ routines) → count_at (r ∷ routines) k ≤ MOST_FRAME_WORDS
     go zero below = small
     go (suc k) below = all k (omega arith)
-found_behind_small r routines small (Some place) (k, (below, large, first), name) = (suc k, ((omega arith), large, go), name)
+found_after_small r routines small (Some place) (k, (below, large, first), name) = (suc k, ((omega arith), large, go), name)
   where
     go : (j : ℕ) → j < suc k → count_at (r ∷ routines) j ≤ MOST_FRAME_WORDS
     go zero before = small
@@ -56,8 +56,8 @@ found (r ∷ routines) = elim (cases_lt MOST_FRAME_WORDS r.frame_count) [
       ap (λ (b : Bool). if b then Some r.name else first_too_large routines) (lt-ltb MOST_FRAME_WORDS r.frame_count large) in
       subst (Found (r ∷ routines)) (sym here) (0, ((omega arith), large, (λ j before. absurd (omega arith))), refl)
   | inr small ↦
-      let behind : first_too_large (r ∷ routines) ≡ first_too_large routines = ap (λ (b : Bool). if b then Some r.name else first_too_large routines) (not_large small) in
-      subst (Found (r ∷ routines)) (sym behind) (found_behind_small r routines small (first_too_large routines) (found routines))
+      let following : first_too_large (r ∷ routines) ≡ first_too_large routines = ap (λ (b : Bool). if b then Some r.name else first_too_large routines) (not_large small) in
+      subst (Found (r ∷ routines)) (sym following) (found_after_small r routines small (first_too_large routines) (found routines))
 ]
   where
     not_large : r.frame_count ≤ MOST_FRAME_WORDS → is_too_large r ≡ false
@@ -80,21 +80,21 @@ some_large program place fault some code line column =
       column = column ∙ sym (ap (λ (s : Span). s.column) name);
     }
 
--- a program with small frames has none that is too large
+-- A program with small frames has no function whose frame is too large.
 pub not_small_and_large : (program : Program) (fault : Fault) → HasSmallFrames program → IsTooLarge program fault → ⊥
 not_small_and_large program fault small large = omega (arith, small large.function large.is_function, large.large)
 
 same_fault : (f g : Fault) → f.code ≡ g.code → f.line ≡ g.line → f.column ≡ g.column → f ≡ g
 same_fault f g code line column = λ i. record { code = code i; line = line i; column = column i }
 
--- there is one first
+-- The first function whose frame is too large is unique.
 pub one_first : (program : Program) (f g : Fault) → IsTooLarge program f → IsTooLarge program g → f ≡ g
 one_first program f g a b = elim (cases_lt a.function b.function) [
   | inl before ↦ absurd (omega (arith, b.first a.function before, a.large))
   | inr not_before ↦ elim (cases_lt b.function a.function) [
     | inl before ↦ absurd (omega (arith, a.first b.function before, b.large))
-    | inr not_behind ↦
-        let same : a.function ≡ b.function = omega (arith, not_before, not_behind) in
+    | inr not_after ↦
+        let same : a.function ≡ b.function = omega (arith, not_before, not_after) in
         let code : f.code ≡ g.code = a.code ∙ sym b.code in
         let line : f.line ≡ g.line = a.line ∙ ap (λ (k : ℕ). (routine_at program k).name.line) same ∙ sym b.line in
         let column : f.column ≡ g.column = a.column ∙ ap (λ (k : ℕ). (routine_at program k).name.column) same ∙ sym b.column in
@@ -113,13 +113,13 @@ frame_last : (frames : List Frame) (frame : Frame) → frame_at (frames ++ frame
 frame_last [] frame = refl
 frame_last (f ∷ frames) frame = frame_last frames frame
 
--- a frame that is there, whatever stands for one that is not
+-- A listed frame is found, whatever the default is.
 pub frame_there : (frames : List Frame) (k : ℕ) (other : Frame) → k < length frames → slice_index_or frames k other ≡ frame_at frames k
 frame_there [] k other below = absurd (omega arith)
 frame_there (f ∷ frames) zero other below = refl
 frame_there (f ∷ frames) (suc k) other below = frame_there frames k other (omega arith)
 
--- a frame more
+-- Adding one correct frame keeps the invariant.
 pub more_frames : (program : Program) (count before most : ℕ) (frames : List Frame) (frame : Frame) (r : Routine) → AreFirstFrames program count before frames → before ≤ most → frame.saved ≤ most
     → r ≡ routine_at program count → IsFrame r frame → AreHomes program r frame.saved frame.homes → AreIdle program r frame.homes frame.idle → AreFillable program r frame.homes frame.fills → AreFirstFrames program (count + 1) most (frames ++ frame ∷ [])
 more_frames program count before most frames frame r are rises saved is framed homes idle fills = record {
@@ -141,13 +141,13 @@ more_frames program count before most frames frame r are rises saved is framed h
           (subst (P (length frames)) (sym (frame_last frames frame)) (subst (λ (j : ℕ). P j frame) (sym are.as_many) last))
     ]
 
--- ---- frames that are raised
+-- ---- frames that save more registers
 
--- where there is none
+-- The default frame for a function without a listed frame.
 abbrev no_frame : Frame
 no_frame = record { return_address = 0; saves = false; first_saved = 0; saved = 0; first_slot = 0; parameters = 0; homes = []; idle = []; fills = [] }
 
--- a frame that saves more registers, as many as these
+-- Homes stay correct if the frame saves more registers.
 module _ (program : Program) (most : ℕ) (few : most ≤ MOST_SAVED) where
   more_homes : (r : Routine) (saved : ℕ) (homes : List Home) → saved ≤ most → AreHomes program r saved homes → AreHomes program r most homes
   more_homes r saved homes fewer are = record {
@@ -164,7 +164,7 @@ module _ (program : Program) (most : ℕ) (few : most ≤ MOST_SAVED) where
     alone = are.alone;
     entry = are.entry;
     parameters = are.parameters;
-    behind = are.behind;
+    following = are.following;
     clause = are.clause;
     barred = are.barred;
   }
@@ -186,7 +186,7 @@ module _ (program : Program) (most : ℕ) (few : most ≤ MOST_SAVED) where
     returning = returns;
   }
 
-  -- the frame of this function is raised
+  -- The frames after the one of this function is made to save `most` registers.
   module _ (all : 0 < most → AllReturn program) (frames : List Frame) (are : AreFirstFrames program (length program.functions) most frames) where
     abbrev raising : (n : ℕ) → List Frame
     raising n = slice_set frames n (record (frame_at frames n) { saved = most })
@@ -194,7 +194,7 @@ module _ (program : Program) (most : ℕ) (few : most ≤ MOST_SAVED) where
     at_raised : (n k : ℕ) → n < length frames → k ≡ n → frame_at (raising n) k ≡ record (frame_at frames n) { saved = most }
     at_raised n k below same = ap (frame_at (raising n)) same ∙ get_or-set_same frames n (record (frame_at frames n) { saved = most }) no_frame below
 
-    -- what holds of each frame, and of that one when it is raised
+    -- A property of all frames still holds after a frame is made to save more registers.
     still : (P : ℕ → Frame → Type 0) (n : ℕ) → n < length program.functions → ((k : ℕ) → k < length program.functions → P k (frame_at frames k)) → P n (record (frame_at frames n) { saved = most })
         → (k : ℕ) → k < length program.functions → P k (frame_at (raising n) k)
     still P n known each one k below = elim (cases_eq k n) [
@@ -222,7 +222,7 @@ module _ (program : Program) (most : ℕ) (few : most ≤ MOST_SAVED) where
           omega (arith, before, ap (λ (f : Frame). f.saved) (get_or-set_other frames n k (record (frame_at frames n) { saved = most }) no_frame other))
     ]
 
-    -- one that opens no handlers is as it was
+    -- The frame of a function that opens no handler is unchanged.
     pub raised_past : (n : ℕ) → opens_any (routine_at program n).code ≡ false → AreRaised program n most frames → AreRaised program (n + 1) most frames
     raised_past n none so_far k below opens = elim (cases_eq k n) [
       | inl same ↦ absurd (let e : false ≡ true = sym none ∙ (sym (ap (λ (j : ℕ). opens_any (routine_at program j).code) same) ∙ opens) in cc)
@@ -239,7 +239,7 @@ module _ (program : Program) (most : ℕ) (few : most ≤ MOST_SAVED) where
       fills = are.fills;
     }
 
--- ---- answers
+-- ---- the answer is determined
 
 layout_is_decided : (program : Program) → IsDecided (IsAccepted program) (IsTooLarge program) (IsTooLarge program)
 layout_is_decided program =

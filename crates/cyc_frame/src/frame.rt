@@ -7,27 +7,27 @@ ghost use Rattle.cyc_registers.specs.inside.Idle.{idle_at};
 use cyc_registers::Home;
 use std::marker::Model;
 
-/// How the words of a function's frame are used, and where its slots live. A word is named by its number from the frame's
-/// lowest address on.
+/// The use of the words of a function's frame, and the homes of its slots. Words are numbered from the frame's lowest address.
 #[derive(Drop)]
 pub struct Frame {
-    /// The word that keeps the way back while the function calls another.
+    /// The word that keeps the return address while the function calls another.
     pub return_address: usize,
-    /// Whether the function keeps its way back there from its beginning on. Elsewhere it never loses the register.
+    /// True if the function saves its return address in the frame at its entry. A function that does not save its return address never
+    /// overwrites the return address register.
     pub saves: bool,
-    /// The word of the first of the registers that calls preserve, where the function saves it. The others follow it in order.
+    /// The word of the first saved callee-saved register. The other saved registers follow in order.
     pub first_saved: usize,
-    /// How many of them it saves.
+    /// The number of callee-saved registers that the function saves.
     pub saved: usize,
-    /// The word of the function's slot 0. The other slots follow it in order.
+    /// The word of the function's slot 0. The other slots follow slot 0 in order.
     pub first_slot: usize,
-    /// How many of the first slots are the function's parameters.
+    /// The number of parameters, which are the first slots.
     pub parameters: usize,
-    /// The home of each slot, by its number.
+    /// The home of each slot, indexed by slot number.
     pub homes: Vec<Home>,
-    /// Whether each place of the function's code is idle. Nothing is to be done there.
+    /// True for each place of the function's code that is idle: it needs no machine code.
     pub idle: Vec<bool>,
-    /// Whether what each place makes may be made in front of the branches that lead there, and fill their slots.
+    /// True for each place whose word may be computed in the delay slots of the branches to it.
     pub fills: Vec<bool>,
 }
 
@@ -50,7 +50,7 @@ impl Model for Frame {
 }
 
 impl Frame {
-    /// The home of this slot. Where there is no such slot, memory.
+    /// Returns the home of a slot; memory if there is no such slot.
     pub fn home(&self, slot: usize) -> Home
         ensures { result ≡ home_of self.now.homes slot }
     {
@@ -60,7 +60,7 @@ impl Frame {
         }
     }
 
-    /// Whether the place of this index is idle.
+    /// Returns true if the place at this index is idle.
     pub fn is_idle(&self, index: usize) -> bool
         ensures { result ≡ idle_at self.now.idle index }
     {
@@ -70,7 +70,7 @@ impl Frame {
         }
     }
 
-    /// Whether the place of this index fills slots.
+    /// Returns true if the place at this index fills delay slots.
     pub fn fills_slots(&self, index: usize) -> bool
         ensures { result ≡ fills_at self.now.fills index }
     {

@@ -26,7 +26,7 @@ impl Frames {
         Frames { frames }
     }
 
-    /// The frames.
+    /// Returns the frames of all functions as a slice.
     pub fn as_slice(&self) -> &[Frame]
         ensures { result.now ≡ self.now }
     {

@@ -1,4 +1,4 @@
-//! The layout of a program's frames.
+//! Lays out the frames of a program.
 
 ghost use Rattle.std.specs.Prelude.{◌≡◌, ◌+◌, ◌<◌, ◌≤◌, ◌⊎◌, true, length, map, IfOk};
 ghost use Rattle.cyc_words.specs.Decision.{Decides};
@@ -6,7 +6,8 @@ ghost use Rattle.cyc_plain.specs.inside.Program.{routine_of};
 ghost use Rattle.cyc_registers.specs.inside.Interference.{AreHomes};
 ghost use Rattle.cyc_registers.specs.inside.Fills.{AreFillable};
 ghost use Rattle.cyc_registers.specs.inside.Idle.{AreIdle};
-ghost use Rattle.cyc_frame.specs.inside.Layout.{AllReturn, AreFirstFrames, AreFrames, HasSmallFrames, IsAccepted, IsFrame, IsTooLarge, first_too_large, loses, loses_any, opens, opens_any, returns, returns_any};
+ghost use Rattle.cyc_frame.specs.inside.Layout.{AllReturn, AreFirstFrames, AreFrames, HasSmallFrames, IsAccepted, IsFrame, IsTooLarge};
+ghost use Rattle.cyc_frame.specs.inside.Layout.{first_too_large, loses, loses_any, opens, opens_any, returns, returns_any};
 
 use crate::frame::Frame;
 use crate::frames::Frames;
@@ -15,7 +16,7 @@ use cyc_registers::{MOST_SAVED, allocate};
 use cyc_words::{Code, Fault, Span};
 use std::alloc::{AllocError, Global};
 
-/// Where the name stands of the first function whose frame is too large.
+/// Returns the position of the name of the first function whose frame is too large.
 fn first_too_large(functions: &[Function]) -> Option<Span>
     ensures { result ≡ first_too_large (map routine_of functions.now) }
 {
@@ -27,7 +28,7 @@ fn first_too_large(functions: &[Function]) -> Option<Span>
     None
 }
 
-/// Whether an instruction loses the register of return addresses: a call, and the opening of a handler.
+/// Returns true if an instruction overwrites the return address register: a call, or the opening of a handler.
 fn loses(instruction: Instruction) -> bool
     ensures { result ≡ loses instruction }
 {
@@ -37,7 +38,7 @@ fn loses(instruction: Instruction) -> bool
     )
 }
 
-/// Whether code has such an instruction.
+/// Returns true if some instruction of the code opens a handler.
 fn loses_any(code: &[Instruction]) -> bool
     ensures { result ≡ loses_any code.now }
 {
@@ -49,7 +50,7 @@ fn loses_any(code: &[Instruction]) -> bool
     false
 }
 
-/// Whether an instruction is a return, whose code has room for the lines that save and restore registers.
+/// Returns true if an instruction is a return, whose code has room to save and restore registers.
 fn returns(instruction: Instruction) -> bool
     ensures { result ≡ returns instruction }
 {
@@ -59,7 +60,7 @@ fn returns(instruction: Instruction) -> bool
     )
 }
 
-/// Whether code has such an instruction.
+/// Returns true if some instruction of the code opens a handler.
 fn returns_any(code: &[Instruction]) -> bool
     ensures { result ≡ returns_any code.now }
 {
@@ -71,7 +72,7 @@ fn returns_any(code: &[Instruction]) -> bool
     false
 }
 
-/// Whether each function returns.
+/// Returns true if each function contains a return.
 fn all_return(plain: &Plain) -> bool
     ensures { result ≡ true → AllReturn plain.now }
 {
@@ -84,14 +85,14 @@ fn all_return(plain: &Plain) -> bool
     true
 }
 
-/// Whether an instruction opens a handler.
+/// Returns true if an instruction opens a handler.
 fn opens(instruction: Instruction) -> bool
     ensures { result ≡ opens instruction }
 {
     matches!(instruction, Instruction::Try { .. })
 }
 
-/// Whether code has such an instruction.
+/// Returns true if some instruction of the code opens a handler.
 fn opens_any(code: &[Instruction]) -> bool
     ensures { result ≡ opens_any code.now }
 {
@@ -103,8 +104,8 @@ fn opens_any(code: &[Instruction]) -> bool
     false
 }
 
-/// The frame of a function, which may save so many registers: the words that are kept for the layout, of which the first is for the
-/// return address and the others for those registers, and then the slots in order.
+/// Returns the frame of a function that may save `most` registers. The return address comes first, then the saved registers, then the slots
+/// in order.
 fn frame_of(
     alloc: Global,
     plain: &Plain,
@@ -135,7 +136,7 @@ fn frame_of(
     })
 }
 
-/// This number, or that of the registers that a frame saves, where it is greater.
+/// Returns the greater of `most` and the number of registers that a frame saves.
 fn greatest(most: usize, frame: &Frame) -> usize
     ensures rises { most ≤ result }
     ensures covers { frame.now.saved ≤ result }
@@ -148,7 +149,8 @@ fn greatest(most: usize, frame: &Frame) -> usize
     }
 }
 
-/// An exception leaves calls that restore nothing: a function that opens handlers saves as many registers as any function does.
+/// Makes each function that opens handlers save as many registers as any function does, since an exception leaves calls without restoring
+/// registers.
 fn raise(plain: &Plain, most: usize, frames: &mut Vec<Frame>)
     requires first { AreFirstFrames plain.now (length plain.now.functions) most frames.old.items }
     requires most { most ≤ MOST_SAVED }
@@ -179,10 +181,10 @@ fn frames_of(alloc: Global, plain: &Plain) -> Result<Vec<Frame>, AllocError>
     Ok(frames)
 }
 
-/// The frame of each function of a program.
+/// Returns the frame of each function of a program.
 ///
-/// Where a function says that its frame may have more than `MOST_FRAME_WORDS` words, the answer is `FrameTooLarge`, at the
-/// name of the first such function. Any other program has frames, unless memory runs out.
+/// If some function's frame has more than `MOST_FRAME_WORDS` words, the error is `FrameTooLarge`, at the name of the first such function.
+/// The function returns frames for any other program, unless memory runs out.
 pub fn layout(alloc: Global, plain: &Plain) -> Result<Frames, Fault>
     ensures { Decides (IsAccepted plain.now) AreFrames (IsTooLarge plain.now) (IsTooLarge plain.now) result }
 {

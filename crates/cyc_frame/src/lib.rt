@@ -1,4 +1,4 @@
-//! Frame layout: which word of a function's frame each of its slots has, and how large a frame may be.
+//! Frame layout: the word of each slot in a function's frame, and the limit of a frame's size.
 #![tactic(auto)]
 
 mod frame;

@@ -1,4 +1,4 @@
--- What a word decodes to has that word, and fits its fields.
+-- A decoded instruction encodes to its word, and fits its fields.
 use Rattle.std.proofs.Common.{◌≡◌, ℕ, ◌^◌, ◌<◌, ◌==◌, true, false, List, [], ◌∷◌, Option, Some, None, option_and_then, IsSome, ◌↔◌, if◌then◌else◌, lit<, refl, subst}
 use Rattle.std.proofs.Math.Nat.{mod-lt}
 use Rattle.std.proofs.lemmas.Bool.{eqb-true, eq-eqb, ne_eqb}
@@ -9,7 +9,7 @@ use Rattle.cyc_isa.proofs.Instances.{Decodes-from_instruction}
 use Rattle.cyc_isa.proofs.Listed.{IsInstruction-word_of}
 use Rattle.cyc_isa.specs.declared.instr.Instr.{Instr}
 
--- each entry of a table makes an instruction that fits its fields
+-- Each entry of a table yields an instruction that fits its fields.
 abbrev AllEncodable : List Entry → ℕ → Type 0
 AllEncodable [] w = Unit {0}
 AllEncodable (e ∷ rest) w = IsEncodable (e.1 w) × AllEncodable rest w
@@ -46,7 +46,7 @@ selected_of-encodable w i e =
       ]
     ]) e
 
--- what `decode_of` makes of what was selected
+-- The last check of `decode_of` on the selected instruction.
 abbrev confirmed : ℕ → Option Instr → Option Instr
 confirmed w o = option_and_then (λ i. if word_of i == w then Some i else None) o
 
@@ -64,14 +64,14 @@ word_of-decoded w i e = (confirmed-some w (selected_of w) i e).1
 pub IsEncodable-decoded : (w : ℕ) (i : Instr) → decode_of w ≡ Some i → IsEncodable i
 IsEncodable-decoded w i e = selected_of-encodable w i (confirmed-some w (selected_of w) i e).0
 
--- a word decodes exactly where it is an instance of a row
+-- A word decodes exactly if it is an instance of a row.
 pub IsSome-decode_of : (w : ℕ) → IsSome (decode_of w) ↔ IsInstruction w
 IsSome-decode_of w = (go (decode_of w) refl, λ h. let found = Decodes-from_instruction w h in rw found.1 refl) where
   go : (o : Option Instr) → decode_of w ≡ o → IsSome o → IsInstruction w
   go None e h = cc
   go (Some i) e h = rw (← word_of-decoded w i e) (IsInstruction-word_of i (IsEncodable-decoded w i e))
 
--- ---- what was selected is the instruction of its own word alone
+-- ---- the selected instruction is the only one of its word
 
 pub decode_of-same : (w : ℕ) (i : Instr) → selected_of w ≡ Some i → word_of i ≡ w → decode_of w ≡ Some i
 decode_of-same w i e same = rw (e, eq-eqb (word_of i) w same)

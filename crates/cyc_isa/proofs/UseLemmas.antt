@@ -1,4 +1,4 @@
--- Which registers an instruction may set.
+-- Laws of the registers that an instruction may write.
 use Rattle.std.proofs.Common.{◌≡◌, ◌≢◌, ℕ, Bool, true, false, not, ◌==◌, ◌&&◌, refl, sym, ◌∙◌}
 use Rattle.std.proofs.lemmas.Bool.{eqb-true}
 use Rattle.cyc_words.proofs.Booleans.{and_right}

@@ -4,9 +4,10 @@ pub mod Table
 pub mod Encoding
 pub mod Decoding
 pub mod Text
--- what each operation computes, for the machine to cite
+-- the result of each operation, for the machine to cite
 pub mod Effect
--- and which registers it reads and sets
+-- the registers that an instruction reads and writes
 pub mod Uses
--- What the functions of this crate promise each other and what its proofs say: no public contract of the product means it.
+-- Contracts between this crate's functions, and statements of its proofs. No public contract of the product depends on these internal
+-- definitions.
 pub mod inside

@@ -18,11 +18,11 @@ use Rattle.cyc_isa.specs.declared.instr.Instr.TheVariants.{Immediate, LoadUpper,
 abbrev pub register_text : Register → List ℕ
 register_text r = codes "$" ++ decimal r.number
 
--- the 16 bits of an immediate or an offset, as a signed number
+-- The 16 bits of an immediate or an offset, as a signed number.
 abbrev pub signed_text : ℕ → List ℕ
 signed_text half = signed_decimal (signed_half half)
 
--- the immediate of an operation that extends it by its sign is a signed number, that of a bit operation is not
+-- A sign-extended immediate is written as a signed number, that of a bit operation as an unsigned one.
 abbrev pub immediate_text : ImmediateOp → ℕ → List ℕ
 immediate_text AddUnsigned half = signed_text half
 immediate_text SetLess half = signed_text half
@@ -31,15 +31,15 @@ immediate_text And half = decimal half
 immediate_text Or half = decimal half
 immediate_text Xor half = decimal half
 
--- a signed offset from a base register
+-- The text of an address operand: a signed offset and a base register.
 abbrev pub based_text : ℕ → Register → List ℕ
 based_text offset base = signed_text offset ++ codes "(" ++ register_text base ++ codes ")"
 
--- a hexadecimal digit, in lower case: 48 is `0`, and 87 + 10 is `a`
+-- A hexadecimal digit, in lower case: 48 is `0`, and 87 + 10 is `a`.
 abbrev pub hex_digit_of : ℕ → ℕ
 hex_digit_of d = if nat_lt d 10 then 48 + d else 87 + d
 
--- the eight hexadecimal digits of a word
+-- The eight hexadecimal digits of a word.
 unfoldable pub hex_digits_of : ℕ → List ℕ
 hex_digits_of w =
     hex_digit_of (w / 2 ^ 28 % 16)
@@ -57,7 +57,7 @@ address_text addr = codes "0x" ++ hex_digits_of addr
 
 -- ---- instructions
 
--- a name, and its operands with commas between them
+-- A name and its operands, separated by commas.
 abbrev pub listed : List (List ℕ) → List ℕ
 listed [] = []
 listed (x ∷ []) = x
@@ -66,7 +66,7 @@ listed (x ∷ y ∷ rest) = x ++ codes ", " ++ listed (y ∷ rest)
 abbrev pub line : List ℕ → List (List ℕ) → List ℕ
 line name operands = name ++ codes " " ++ listed operands
 
--- an instruction's operands, where it stands at an address
+-- The operands of an instruction at an address.
 abbrev pub operand_texts : Instr → ℕ → List (List ℕ)
 operand_texts (Immediate op target source immediate) addr =
     register_text target ∷ register_text source ∷ immediate_text op immediate ∷ []
@@ -89,6 +89,6 @@ operand_texts (MultiplyDivide op left right) addr = register_text left ∷ regis
 operand_texts (Arithmetic op destination left right) addr =
     register_text destination ∷ register_text left ∷ register_text right ∷ []
 
--- the text of the instruction that stands at an address
+-- The text of the instruction at an address.
 abbrev pub text_of : Instr → ℕ → List ℕ
 text_of i addr = line (row_of i).name (operand_texts i addr)

@@ -1,10 +1,12 @@
-//! The instruction of a word.
+//! Decodes machine words to instructions.
 
 ghost use Rattle.std.specs.Prelude.{◌≡◌, ◌↔◌, IsSome, IfSome};
 ghost use Rattle.cyc_isa.specs.Field.{Opcode, Rt, Function, Half, Sa, Target, Trap, field_of};
 ghost use Rattle.cyc_isa.specs.Encoding.{word_of, IsInstruction};
-ghost use Rattle.cyc_isa.specs.Decoding.{rs_of, rt_of, rd_of, shift_amount_of, jump_index_of, trap_code_of, immediate_in, load_upper_in, memory_in, branch_in, branch_zero_in, jump_in, shift_in, shift_variable_in};
-ghost use Rattle.cyc_isa.specs.Decoding.{jump_register_in, jump_register_link_in, exception_in, move_from_in, multiply_divide_in, arithmetic_in, opcodes, sign_branches, functions, entry_at, selected_of, decode_of};
+ghost use Rattle.cyc_isa.specs.Decoding.{rs_of, rt_of, rd_of, shift_amount_of, jump_index_of, trap_code_of, immediate_in, load_upper_in, memory_in};
+ghost use Rattle.cyc_isa.specs.Decoding.{branch_in, branch_zero_in, jump_in, shift_in, shift_variable_in};
+ghost use Rattle.cyc_isa.specs.Decoding.{jump_register_in, jump_register_link_in, exception_in, move_from_in, multiply_divide_in, arithmetic_in};
+ghost use Rattle.cyc_isa.specs.Decoding.{opcodes, sign_branches, functions, entry_at, selected_of, decode_of};
 
 use crate::encoding::encode;
 use crate::instr::{
@@ -13,7 +15,7 @@ use crate::instr::{
 };
 use crate::operand::{JumpIndex, Register, ShiftAmount, TrapCode};
 
-// ---- the operands that stand in a word
+// ---- the operands in a word
 
 fn rs(word: u32) -> Register
     ensures { result ≡ rs_of word }
@@ -69,7 +71,7 @@ fn trap_code(word: u32) -> TrapCode
     }
 }
 
-// ---- an operation with the operands that stand in a word
+// ---- an operation with the operands from a word
 
 fn immediate(op: ImmediateOp, word: u32) -> Instr
     ensures { result ≡ immediate_in op word }
@@ -210,7 +212,7 @@ fn arithmetic(op: ArithmeticOp, word: u32) -> Instr
 
 // ---- the architecture's encoding tables
 
-/// The operation under opcode 0.
+/// Returns the operation under opcode 0.
 fn by_function(word: u32) -> Option<Instr>
     ensures { result ≡ entry_at functions (field_of Function word) word }
 {
@@ -242,7 +244,7 @@ fn by_function(word: u32) -> Option<Instr>
     Some(instr)
 }
 
-/// The operation of a word, by its opcode and what that leaves to tell.
+/// Returns the operation of a word, by its opcode and the fields that the opcode leaves open.
 fn selected(word: u32) -> Option<Instr>
     ensures { result ≡ selected_of word }
 {
@@ -275,10 +277,9 @@ fn selected(word: u32) -> Option<Instr>
     Some(instr)
 }
 
-/// The instruction whose word this is.
+/// Returns the instruction that this word encodes.
 ///
-/// `None` where the word is no instance of a row of the table: its operation is not there, or a field that the
-/// operation does not use is not 0.
+/// Returns `None` if the word is no instance of a row of the table: its operation does not exist, or an unused field is not 0.
 pub fn decode(word: u32) -> Option<Instr>
     ensures instruction { IsSome result ↔ IsInstruction word }
     ensures encodes { IfSome result (λ instr. word_of instr ≡ word) }

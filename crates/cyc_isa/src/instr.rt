@@ -13,7 +13,7 @@ pub enum ImmediateOp {
     Xor,
 }
 
-/// A load or a store, of a word or of a byte; `LoadByte` has zeros above the byte, `StoreByte` stores the low byte.
+/// A load or a store of a word or a byte. `LoadByte` zero-extends the byte, and `StoreByte` stores the low byte.
 #[derive(Clone, Copy, Debug, PartialEq, Eq)]
 pub enum MemoryOp {
     LoadWord,
@@ -45,7 +45,7 @@ pub enum JumpOp {
     AndLink,
 }
 
-/// A shift; `RightLogical` shifts zeros in, `RightArithmetic` the sign.
+/// A shift; `RightLogical` shifts zeros in, `RightArithmetic` copies of the sign bit.
 #[derive(Clone, Copy, Debug, PartialEq, Eq)]
 pub enum ShiftOp {
     Left,
@@ -60,21 +60,21 @@ pub enum ExceptionOp {
     Break,
 }
 
-/// Which half of a product, or which result of a division, is read.
+/// The part of a product or a division that is read: HI or LO.
 #[derive(Clone, Copy, Debug, PartialEq, Eq)]
 pub enum MoveFromOp {
     High,
     Low,
 }
 
-/// A signed operation whose two words of result go to the registers HI and LO.
+/// A signed operation whose two result words are written to the registers HI and LO.
 #[derive(Clone, Copy, Debug, PartialEq, Eq)]
 pub enum MultiplyDivideOp {
     Multiply,
     Divide,
 }
 
-/// An operation on two registers whose result goes to a third.
+/// An operation on two registers whose result is written to a third.
 #[derive(Clone, Copy, Debug, PartialEq, Eq)]
 pub enum ArithmeticOp {
     AddUnsigned,
@@ -87,8 +87,8 @@ pub enum ArithmeticOp {
     SetLessUnsigned,
 }
 
-/// An instruction. An immediate, and the offset of a load, a store or a branch, is the 16 bits of its field; whether
-/// they are read as a signed number is the operation's.
+/// An instruction. An immediate, or the offset of a load, store or branch, is the 16 bits of its field. The operation determines whether
+/// the 16 bits are signed.
 #[derive(Clone, Copy, Debug, PartialEq, Eq)]
 pub enum Instr {
     Immediate {

@@ -1,12 +1,13 @@
-//! Laws of the definitions in `specs/`. Each function does nothing: its contract is the law, and so it is proved with
-//! the crate. The lemmas behind them stand in `proofs/` for other proofs to cite.
+//! Laws of the definitions in `specs/`. Each function of this file is empty, and its contract states one law, which is proved with the
+//! crate. The lemmas that other proofs cite are in `proofs/`.
 
 ghost use Rattle.std.specs.Prelude.{◌≡◌, ◌≢◌, ℕ, true, false, ◌+◌, ◌*◌, ◌/◌, ◌%◌, ◌^◌, ◌<◌, pos, ◌+ℤ◌, ◌*ℤ◌, ◌++◌, ◌↔◌, Some, IsSome};
 ghost use Rattle.cyc_words.specs.Word.{IsWord, IsHalf, unsigned, signed_half};
 ghost use Rattle.cyc_isa.specs.Field.{HasFields};
 ghost use Rattle.cyc_isa.specs.Encoding.{row_of, operands_of, word_of, IsEncodable, IsInstance, IsInstruction};
 ghost use Rattle.cyc_isa.specs.Decoding.{decode_of};
-ghost use Rattle.cyc_isa.specs.Effect.{immediate_result, load_upper_result, arithmetic_result, shift_result, high_result, low_result, memory_address, slot_address, branch_target, jump_target};
+ghost use Rattle.cyc_isa.specs.Effect.{immediate_result, load_upper_result, arithmetic_result, shift_result, high_result, low_result, memory_address};
+ghost use Rattle.cyc_isa.specs.Effect.{slot_address, branch_target, jump_target};
 ghost use Rattle.cyc_isa.specs.Uses.{writes};
 ghost use Rattle.cyc_isa.specs.declared.instr.Instr.{Instr};
 ghost use Rattle.cyc_isa.specs.declared.instr.Instr.TheVariants.{Exception};
@@ -17,7 +18,7 @@ ghost use Rattle.cyc_isa.specs.declared.instr.ArithmeticOp.{ArithmeticOp};
 ghost use Rattle.cyc_isa.specs.declared.instr.ShiftOp.{ShiftOp};
 ghost use Rattle.cyc_isa.specs.declared.instr.MultiplyDivideOp.{MultiplyDivideOp};
 
-/// An instruction whose operands fit has one word, an instance of its row, and no other instruction has that word.
+/// An instruction whose operands fit has one word, which is an instance of its row and encodes no other instruction.
 pub fn words_of_instructions()
     ensures is_word { (i : Instr) → IsEncodable i → word_of i < 2 ^ 32 }
     ensures fields { (i : Instr) → IsEncodable i → HasFields ((row_of i).fixed ++ operands_of i) (word_of i) }
@@ -26,15 +27,15 @@ pub fn words_of_instructions()
     ensures distinct { (i j : Instr) → IsEncodable i → IsEncodable j → word_of i ≡ word_of j → i ≡ j }
 {}
 
-/// A word decodes exactly where it is an instance of a row of the table, and then to an instruction whose word it is.
+/// A word decodes exactly if it is an instance of a row of the table, and then to an instruction that it encodes.
 pub fn instructions_of_words()
     ensures instruction { (w : ℕ) → IsSome (decode_of w) ↔ IsInstruction w }
     ensures encodes { (w : ℕ) (i : Instr) → decode_of w ≡ Some i → word_of i ≡ w }
     ensures fits { (w : ℕ) (i : Instr) → decode_of w ≡ Some i → IsEncodable i }
 {}
 
-/// The target of a branch is its slot's address plus four times its signed offset, modulo 2^32. That of a jump has the
-/// upper four bits of its slot's address, and below them the index times four.
+/// The target of a branch is its slot's address plus four times its signed offset, modulo 2^32. The target of a jump has the upper four
+/// bits of its slot's address, and below them the index times four.
 pub fn targets()
     ensures branch { (addr offset : ℕ) → IsWord addr →
         branch_target addr offset ≡ unsigned ((pos addr +ℤ pos 4) +ℤ (pos 4 *ℤ signed_half offset)) }
@@ -43,7 +44,7 @@ pub fn targets()
     ensures jump_lower { (addr index : ℕ) → index < 2 ^ 26 → jump_target addr index % 2 ^ 28 ≡ index * 4 }
 {}
 
-/// What an operation computes of words is a word.
+/// The result of an operation on words is a word.
 pub fn results_are_words()
     ensures immediate { (op : ImmediateOp) (s h : ℕ) → IsWord s → IsHalf h → IsWord (immediate_result op s h) }
     ensures load_upper { (h : ℕ) → IsHalf h → IsWord (load_upper_result h) }
@@ -56,7 +57,7 @@ pub fn results_are_words()
     ensures jump { (addr x : ℕ) → x < 2 ^ 26 → IsWord (jump_target addr x) }
 {}
 
-/// Register 0 is never set, and no instruction but `syscall` sets two registers.
+/// Register 0 is never written, and only `syscall` writes two registers.
 pub fn registers_are_set_alone()
     ensures zero { (i : Instr) → writes i 0 ≡ false }
     ensures alone { (i : Instr) (m n : ℕ) → ((op : ExceptionOp) (code : TrapCode) → i ≢ Exception op code)

@@ -1,4 +1,4 @@
-//! The instruction set: what an instruction is, its word, and its text.
+//! The instruction set: instructions, their words, and their text.
 #![tactic(auto)]
 
 mod decoding;

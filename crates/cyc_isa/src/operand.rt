@@ -1,5 +1,4 @@
-//! What an instruction names besides its operation: registers and the numbers that stand in a field of fewer bits
-//! than a Rust type has.
+//! The operands of an instruction: registers, and numbers in fields of fewer bits than a Rust type has.
 
 ghost use Rattle.std.specs.Prelude.{◌<◌, ◌^◌};
 
@@ -10,21 +9,21 @@ pub struct Register {
     pub ghost in_range: { number < 32 },
 }
 
-/// How many bits a shift by a constant moves: 0 to 31, the five bits of the field `sa`.
+/// The number of bits of a shift by a constant: 0 to 31, the five bits of the field `sa`.
 #[derive(Clone, Copy, Debug, PartialEq, Eq)]
 pub struct ShiftAmount {
     pub bits: u8,
     pub ghost in_range: { bits < 32 },
 }
 
-/// The low 26 bits of a jump: the target's words from the start of its region of 256 megabytes.
+/// The low 26 bits of a jump: the target's position in words within its region of 256 megabytes.
 #[derive(Clone, Copy, Debug, PartialEq, Eq)]
 pub struct JumpIndex {
     pub index: u32,
     pub ghost in_range: { index < 2 ^ 26 },
 }
 
-/// The 20 bits of a system call or a breakpoint that the machine hands to software and does not read itself.
+/// The 20 bits of a system call or a breakpoint that the machine passes to software and ignores.
 #[derive(Clone, Copy, Debug, PartialEq, Eq)]
 pub struct TrapCode {
     pub code: u32,

@@ -8,7 +8,7 @@ use crate::instr::{
     MultiplyDivideOp, ShiftOp,
 };
 
-/// What tells an operation from the others of its format.
+/// The field that distinguishes an operation from the other operations of its format.
 #[derive(Clone, Copy)]
 pub struct Code {
     pub name: &'static str,
@@ -24,7 +24,7 @@ impl Code {
     }
 }
 
-/// The name of an operation with an immediate operand, and its primary opcode.
+/// Returns the name of an operation with an immediate operand, and its primary opcode.
 pub fn immediate(op: ImmediateOp) -> Code
     ensures name { result.name.now ≡ (immediate op).name }
     ensures number { result.number ≡ (immediate op).number }
@@ -40,7 +40,7 @@ pub fn immediate(op: ImmediateOp) -> Code
     }
 }
 
-/// The name of a load or store, and its primary opcode.
+/// Returns the name of a load or store, and its primary opcode.
 pub fn memory(op: MemoryOp) -> Code
     ensures name { result.name.now ≡ (memory op).name }
     ensures number { result.number ≡ (memory op).number }
@@ -54,7 +54,7 @@ pub fn memory(op: MemoryOp) -> Code
     }
 }
 
-/// The name of a branch that compares two registers, and its primary opcode.
+/// Returns the name of a branch that compares two registers, and its primary opcode.
 pub fn branch(op: BranchOp) -> Code
     ensures name { result.name.now ≡ (branch op).name }
     ensures number { result.number ≡ (branch op).number }
@@ -66,7 +66,7 @@ pub fn branch(op: BranchOp) -> Code
     }
 }
 
-/// The name of a branch that compares a register with zero, and its primary opcode: two of them share that one.
+/// Returns the name of a branch that compares a register with zero, and its primary opcode. Two of these branches share one opcode.
 pub fn branch_zero(op: BranchZeroOp) -> Code
     ensures name { result.name.now ≡ (branch_zero op).0.name }
     ensures number { result.number ≡ (branch_zero op).0.number }
@@ -80,7 +80,7 @@ pub fn branch_zero(op: BranchZeroOp) -> Code
     }
 }
 
-/// The name of a jump, and its primary opcode.
+/// Returns the name of a jump, and its primary opcode.
 pub fn jump(op: JumpOp) -> Code
     ensures name { result.name.now ≡ (jump op).name }
     ensures number { result.number ≡ (jump op).number }
@@ -92,7 +92,7 @@ pub fn jump(op: JumpOp) -> Code
     }
 }
 
-/// The name of a shift by a constant, and its function field.
+/// Returns the name of a shift by a constant, and its function field.
 pub fn shift(op: ShiftOp) -> Code
     ensures name { result.name.now ≡ (shift op).name }
     ensures number { result.number ≡ (shift op).number }
@@ -105,7 +105,7 @@ pub fn shift(op: ShiftOp) -> Code
     }
 }
 
-/// The name of a shift by a register, and its function field.
+/// Returns the name of a shift by a register, and its function field.
 pub fn shift_variable(op: ShiftOp) -> Code
     ensures name { result.name.now ≡ (shift_variable op).name }
     ensures number { result.number ≡ (shift_variable op).number }
@@ -118,7 +118,7 @@ pub fn shift_variable(op: ShiftOp) -> Code
     }
 }
 
-/// The name of an instruction that raises an exception, and its function field.
+/// Returns the name of an instruction that raises an exception, and its function field.
 pub fn exception(op: ExceptionOp) -> Code
     ensures name { result.name.now ≡ (exception op).name }
     ensures number { result.number ≡ (exception op).number }
@@ -130,7 +130,7 @@ pub fn exception(op: ExceptionOp) -> Code
     }
 }
 
-/// The name of a move from `hi` or `lo`, and its function field.
+/// Returns the name of a move from `hi` or `lo`, and its function field.
 pub fn move_from(op: MoveFromOp) -> Code
     ensures name { result.name.now ≡ (move_from op).name }
     ensures number { result.number ≡ (move_from op).number }
@@ -142,7 +142,7 @@ pub fn move_from(op: MoveFromOp) -> Code
     }
 }
 
-/// The name of a multiplication or division, and its function field.
+/// Returns the name of a multiplication or division, and its function field.
 pub fn multiply_divide(op: MultiplyDivideOp) -> Code
     ensures name { result.name.now ≡ (multiply_divide op).name }
     ensures number { result.number ≡ (multiply_divide op).number }
@@ -154,7 +154,7 @@ pub fn multiply_divide(op: MultiplyDivideOp) -> Code
     }
 }
 
-/// The name of an operation of three registers, and its function field.
+/// Returns the name of an operation of three registers, and its function field.
 pub fn arithmetic(op: ArithmeticOp) -> Code
     ensures name { result.name.now ≡ (arithmetic op).name }
     ensures number { result.number ≡ (arithmetic op).number }
@@ -172,7 +172,7 @@ pub fn arithmetic(op: ArithmeticOp) -> Code
     }
 }
 
-/// The number in the field `rt` that tells a branch on a sign from the others with its opcode.
+/// Returns the number in the field `rt` that distinguishes branches on a sign that share an opcode.
 pub fn branch_zero_rt(op: BranchZeroOp) -> u8
     ensures number { result ≡ (branch_zero op).1 }
     ensures small { result < 32 }

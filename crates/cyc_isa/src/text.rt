@@ -1,4 +1,4 @@
-//! The text of an instruction.
+//! Writes the text of an instruction.
 
 ghost use Rattle.std.specs.Prelude.{◌≡◌, ◌<◌, [], ◌∷◌, ◌++◌, true, codes, is_err, IsTrue, IsErr, OnOk, OnErr};
 ghost use Rattle.cyc_words.specs.Word.{sign_extended};
@@ -13,7 +13,7 @@ use crate::table;
 use cyc_words::{ByteOut, Failed, add, shl};
 use itoa::Buffer;
 
-/// An operand as it is written.
+/// An operand of an instruction, for printing.
 #[derive(Clone, Copy)]
 enum Operand {
     General(Register),
@@ -85,8 +85,7 @@ fn hex_digits(word: u32) -> [u8; 8]
     ]
 }
 
-// The `put_` functions below write a text in order, up to the first failure, and leave the device working where it
-// worked.
+// The `put_` functions below write a text in order, up to the first failure. On success a working device still works.
 
 fn put_two<W: ByteOut>(first: &[u8], second: &[u8], out: &mut W) -> Result<(), Failed>
     ensures bytes { TakesText (W.written out.old) (first.now ++ second.now) result (W.written out.new) }
@@ -125,7 +124,7 @@ fn put_operand<W: ByteOut>(operand: Operand, out: &mut W) -> Result<(), Failed>
     }
 }
 
-/// The name and the space behind it.
+/// Writes an instruction's name and the space after it.
 fn put_name<W: ByteOut>(name: &str, out: &mut W) -> Result<(), Failed>
     ensures bytes { TakesText (W.written out.old) (name.now ++ codes " ") result (W.written out.new) }
     ensures fails { W.failed out.new ≡ is_err result }
@@ -144,7 +143,7 @@ fn put_one<W: ByteOut>(name: &str, operand: Operand, out: &mut W) -> Result<(), 
     put_operand(operand, out)
 }
 
-/// A further operand, with the comma before it.
+/// Writes a further operand, with the preceding comma.
 fn put_further<W: ByteOut>(operand: Operand, out: &mut W) -> Result<(), Failed>
     ensures bytes { TakesText (W.written out.old) (codes ", " ++ operand_text operand) result (W.written out.new) }
     ensures works { OnOk result (W.failed out.new ≡ W.failed out.old) }
@@ -186,9 +185,9 @@ fn put_triple<W: ByteOut>(
     put_further(third, out)
 }
 
-/// Writes the text of the instruction that stands at an address.
+/// Writes the text of the instruction at an address.
 ///
-/// A branch or a jump shows its target, which depends on the address. A failure leaves the bytes before it written.
+/// A branch or a jump shows its target, which depends on the address. After a failed write, the bytes before the failure stay written.
 pub fn write_text<W: ByteOut>(instr: Instr, addr: u32, out: &mut W) -> Result<(), Failed>
     ensures bytes { TakesText (W.written out.old) (text_of instr addr) result (W.written out.new) }
     ensures fails { W.failed out.new ≡ is_err result }

@@ -1,4 +1,4 @@
-//! Which registers an instruction reads, and which it sets.
+//! The registers that an instruction reads and writes.
 
 ghost use Rattle.std.specs.Prelude.{◌≡◌, ◌<◌};
 ghost use Rattle.cyc_isa.specs.Uses.{reads, names_result, writes};
@@ -8,9 +8,9 @@ use crate::instr::{ExceptionOp, Instr, JumpOp, MemoryOp};
 /// The register in which `jal` leaves its return address.
 const RETURN_ADDRESS: u8 = 31;
 
-/// Whether an instruction reads the general register of this number: whether its row has it as a source.
+/// Returns true if an instruction reads the general register of this number: its row has the register as a source.
 ///
-/// `syscall` reads 2, 4 and 5. HI and LO, memory and the program counter are no registers here.
+/// `syscall` reads 2, 4 and 5. HI, LO, memory and the program counter do not count as registers.
 pub fn reads(instr: Instr, register: u8) -> bool
     requires { register < 32 }
     ensures { result ≡ reads instr register }
@@ -52,7 +52,7 @@ pub fn reads(instr: Instr, register: u8) -> bool
     }
 }
 
-/// Whether the result of an instruction goes to the register of this number.
+/// Returns true if the register of this number is the destination of an instruction's result.
 fn names_result(instr: Instr, register: u8) -> bool
     ensures { result ≡ names_result instr register }
 {
@@ -82,9 +82,9 @@ fn names_result(instr: Instr, register: u8) -> bool
     }
 }
 
-/// Whether an instruction sets the general register of this number.
+/// Returns true if an instruction writes the general register of this number.
 ///
-/// Register 0 is never set, `jal` sets 31, and `syscall` sets 2 and 3.
+/// Register 0 is never written, `jal` writes 31, and `syscall` writes 2 and 3.
 pub fn writes(instr: Instr, register: u8) -> bool
     requires { register < 32 }
     ensures { result ≡ writes instr register }

@@ -1,10 +1,10 @@
--- A frame as contracts see it.
+-- A frame as the contracts describe it.
 use Rattle.std.specs.Prelude.{ℕ, Bool, List}
 use Rattle.cyc_registers.specs.declared.home.Home.{Home}
 
--- the word for the way back, whether it is there from the function's beginning on, the first word for the registers that calls
--- preserve, how many of them the function saves there, the word of slot 0, how many slots are parameters, where the slots' words are
--- while they are live, which places of the code are idle, and which fill the slots of branches that lead there
+-- The fields in order: the word of the return address; whether it is saved at the entry; the first word for saved registers and their
+-- number; the word of slot 0. The frame's further fields: the number of parameters; the home of each slot; the idle places; the places that
+-- fill delay slots of branches to them.
 pub record Frame : Type 0 where
   pub return_address : ℕ
   pub saves : Bool

@@ -1,4 +1,4 @@
--- What is written of an operand of the disassembly. (This project's own choice.)
+-- The text of an operand in the disassembly. The spelling of operands is this project's own choice.
 use Rattle.std.specs.Prelude.{ℕ, List, decimal}
 use Rattle.cyc_isa.specs.Text.{register_text, signed_text, based_text, address_text}
 use Rattle.cyc_isa.specs.declared.text.Operand.{Operand}

@@ -2,6 +2,6 @@ use Rattle.std.proofs.Common.{◌≤◌}
 use Rattle.cyc_frame.specs.inside.Layout.{AreFirstFrames}
 use Rattle.cyc_frame.proofs.layouts.frames_of.Given as goal
 
--- the functions so far have their frames, which save no more registers than these
+-- The functions so far have correct frames that save at most `most` registers.
 abbrev pub invariant-loop-number : goal.invariant-loop-number
 invariant-loop-number l = AreFirstFrames l.plain l.number l.most l.frames.items × (l.most ≤ l.may_save)

@@ -1,4 +1,4 @@
--- Targets as whole numbers.
+-- The law about targets as whole numbers.
 use Rattle.cyc_isa.proofs.EffectLemmas.{branch_target-unsigned, jump_target-upper, jump_target-lower}
 use Rattle.cyc_isa.proofs.laws.targets.Goals as goal
 
