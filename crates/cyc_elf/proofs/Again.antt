@@ -1,4 +1,4 @@
--- What the writer lays out is read again as the same image.
+-- The reader reads the writer's file as the image that was written.
 use Rattle.std.proofs.Common.{◌≡◌, ℕ, suc, ◌+◌, ◌-◌, ◌*◌, ◌^◌, ◌<◌, ◌≤◌, true, false, List, [], ◌∷◌, ◌++◌, length, map, take, drop, replicate, Option, Some, None, is_some, IfSome, Ok, All, refl, sym, ap, subst, ◌∙◌, append_assoc, arith}
 use Rattle.std.specs.Prelude.{nat_eq}
 use Rattle.std.specs.List.{flat_map, list_any, starts_with, AllByRecursion}
@@ -24,16 +24,16 @@ use Rattle.cyc_elf.proofs.Sound.{keeps_from_kept, are_limits-from, are_apart_fro
 
 -- ---- fields
 
--- a field behind other bytes
-field-behind : (width offset place : ℕ) (front rest : List ℕ) → length front ≡ place → field width (place + offset) (front ++ rest) ≡ field width offset rest
+-- A field after `place` other bytes is read as without these bytes.
+field-following : (width offset place : ℕ) (front rest : List ℕ) → length front ≡ place → field width (place + offset) (front ++ rest) ≡ field width offset rest
 unfolding field
-field-behind width offset place front rest len =
+field-following width offset place front rest len =
     ap (big_number width) (ap (λ (p : ℕ). drop (p + offset) (front ++ rest)) (sym len) ∙ drop-append-add front rest offset)
 
--- right behind them
-field-right_behind : (width place : ℕ) (front rest : List ℕ) → length front ≡ place → field width place (front ++ rest) ≡ field width 0 rest
+-- A field directly after other bytes is read as without these bytes.
+field-right_after : (width place : ℕ) (front rest : List ℕ) → length front ≡ place → field width place (front ++ rest) ≡ field width 0 rest
 unfolding field
-field-right_behind width place front rest len = ap (big_number width) (drop_at front rest place len)
+field-right_after width place front rest len = ap (big_number width) (drop_at front rest place len)
 
 -- ---- a program header
 
@@ -70,21 +70,21 @@ unfolding program_header_at
 header_again h place front rest fits len =
     let ys = program_header h ++ rest in
     rw (
-      field-right_behind 4 place front ys len,
+      field-right_after 4 place front ys len,
       kind_again h rest fits,
-      field-behind 4 4 place front ys len,
+      field-following 4 4 place front ys len,
       offset_again h rest fits,
-      field-behind 4 8 place front ys len,
+      field-following 4 8 place front ys len,
       vaddr_again h rest fits,
-      field-behind 4 16 place front ys len,
+      field-following 4 16 place front ys len,
       file_size_again h rest fits,
-      field-behind 4 20 place front ys len,
+      field-following 4 20 place front ys len,
       memory_size_again h rest fits,
-      field-behind 4 24 place front ys len,
+      field-following 4 24 place front ys len,
       flags_again h rest fits,
     ) refl
 
--- ---- the table
+-- ---- the table of program headers
 
 table_again : (file : List ℕ) (hs : List ProgramHeader) (place : ℕ) (front rest : List ℕ) → length front ≡ place → AllByRecursion IsInWords hs → file ≡ front ++ (flat_map program_header hs ++ rest) → headers_from file place (length hs) ≡ hs
 unfolding headers_from
@@ -93,63 +93,63 @@ table_again file (h ∷ hs) place front rest len fits is =
     let later = flat_map program_header hs ++ rest in
     let here : file ≡ front ++ (program_header h ++ later)
     = is ∙ ap (λ (ys : List ℕ). front ++ (ys ++ rest)) (flat_map-cons program_header h hs) ∙ ap (λ (ys : List ℕ). front ++ ys) (append_assoc (program_header h) (flat_map program_header hs) rest) in
-    let behind : file ≡ (front ++ program_header h) ++ later = here ∙ sym (append_assoc front (program_header h) later) in
+    let following : file ≡ (front ++ program_header h) ++ later = here ∙ sym (append_assoc front (program_header h) later) in
     let len' : length (front ++ program_header h) ≡ place + 32 = omega (arith, length-append front (program_header h), length-program_header h) in
     let first : program_header_at file place ≡ h = ap (λ (ys : List ℕ). program_header_at ys place) here ∙ header_again h place front later fits.0 len in
-    let others = table_again file hs (place + 32) (front ++ program_header h) rest len' fits.1 behind in
+    let others = table_again file hs (place + 32) (front ++ program_header h) rest len' fits.1 following in
     rw (first, others) refl
 
--- ---- the bytes
+-- ---- the bytes of segments
 
 length-stored : (s : SegmentContents) → length (stored s) ≡ padded (length s.bytes)
 length-stored s = omega (arith, length-append s.bytes (replicate (padded (length s.bytes) - length s.bytes) 0), length-replicate {A = ℕ} (padded (length s.bytes) - length s.bytes) 0)
 
--- where the bytes of each segment stand in the file
-stands_at : (file : List ℕ) (s : SegmentContents) (rest : List SegmentContents) (front behind : List ℕ) → file ≡ front ++ (flat_map stored (s ∷ rest) ++ behind)
-    → file ≡ front ++ (s.bytes ++ (replicate (padded (length s.bytes) - length s.bytes) 0 ++ (flat_map stored rest ++ behind)))
-stands_at file s rest front behind is =
+-- The position of each segment's bytes in the file.
+stands_at : (file : List ℕ) (s : SegmentContents) (rest : List SegmentContents) (front following : List ℕ) → file ≡ front ++ (flat_map stored (s ∷ rest) ++ following)
+    → file ≡ front ++ (s.bytes ++ (replicate (padded (length s.bytes) - length s.bytes) 0 ++ (flat_map stored rest ++ following)))
+stands_at file s rest front following is =
     is
-    ∙ ap (λ (ys : List ℕ). front ++ (ys ++ behind)) (flat_map-cons stored s rest)
-    ∙ ap (λ (ys : List ℕ). front ++ ys) (append_assoc (stored s) (flat_map stored rest) behind ∙ append_assoc s.bytes (replicate (padded (length s.bytes) - length s.bytes) 0) (flat_map stored rest ++ behind))
+    ∙ ap (λ (ys : List ℕ). front ++ (ys ++ following)) (flat_map-cons stored s rest)
+    ∙ ap (λ (ys : List ℕ). front ++ ys) (append_assoc (stored s) (flat_map stored rest) following ∙ append_assoc s.bytes (replicate (padded (length s.bytes) - length s.bytes) 0) (flat_map stored rest ++ following))
 
-next_stands : (file : List ℕ) (s : SegmentContents) (rest : List SegmentContents) (front behind : List ℕ) → file ≡ front ++ (flat_map stored (s ∷ rest) ++ behind) → file ≡ (front ++ stored s) ++ (flat_map stored rest ++ behind)
-next_stands file s rest front behind is =
+next_stands : (file : List ℕ) (s : SegmentContents) (rest : List SegmentContents) (front following : List ℕ) → file ≡ front ++ (flat_map stored (s ∷ rest) ++ following) → file ≡ (front ++ stored s) ++ (flat_map stored rest ++ following)
+next_stands file s rest front following is =
     is
-    ∙ ap (λ (ys : List ℕ). front ++ (ys ++ behind)) (flat_map-cons stored s rest)
-    ∙ ap (λ (ys : List ℕ). front ++ ys) (append_assoc (stored s) (flat_map stored rest) behind)
-    ∙ sym (append_assoc front (stored s) (flat_map stored rest ++ behind))
+    ∙ ap (λ (ys : List ℕ). front ++ (ys ++ following)) (flat_map-cons stored s rest)
+    ∙ ap (λ (ys : List ℕ). front ++ ys) (append_assoc (stored s) (flat_map stored rest) following)
+    ∙ sym (append_assoc front (stored s) (flat_map stored rest ++ following))
 
 next_length : (offset : ℕ) (s : SegmentContents) (front : List ℕ) → length front ≡ offset → length (front ++ stored s) ≡ offset + padded (length s.bytes)
 next_length offset s front len = omega (arith, length-append front (stored s), length-stored s)
 
-segments_again : (file : List ℕ) (ss : List SegmentContents) (offset : ℕ) (front behind : List ℕ) → length front ≡ offset → file ≡ front ++ (flat_map stored ss ++ behind) → map (segment_of file) (headers_of offset ss) ≡ ss
-segments_again file [] offset front behind len is = refl
-segments_again file (s ∷ ss) offset front behind len is =
-    let later = replicate (padded (length s.bytes) - length s.bytes) 0 ++ (flat_map stored ss ++ behind) in
+segments_again : (file : List ℕ) (ss : List SegmentContents) (offset : ℕ) (front following : List ℕ) → length front ≡ offset → file ≡ front ++ (flat_map stored ss ++ following) → map (segment_of file) (headers_of offset ss) ≡ ss
+segments_again file [] offset front following len is = refl
+segments_again file (s ∷ ss) offset front following len is =
+    let later = replicate (padded (length s.bytes) - length s.bytes) 0 ++ (flat_map stored ss ++ following) in
     let bytes : take (length s.bytes) (drop offset file) ≡ s.bytes
-    = ap (λ (ys : List ℕ). take (length s.bytes) (drop offset ys)) (stands_at file s ss front behind is)
+    = ap (λ (ys : List ℕ). take (length s.bytes) (drop offset ys)) (stands_at file s ss front following is)
     ∙ ap (take (length s.bytes)) (drop_at front (s.bytes ++ later) offset len)
     ∙ take_at s.bytes later (length s.bytes) refl in
-    let others = segments_again file ss (offset + padded (length s.bytes)) (front ++ stored s) behind (next_length offset s front len) (next_stands file s ss front behind is) in
+    let others = segments_again file ss (offset + padded (length s.bytes)) (front ++ stored s) following (next_length offset s front len) (next_stands file s ss front following is) in
     ap (λ (b : List ℕ). record { vaddr = s.vaddr; flags = s.flags; bytes = b; size = s.size } ∷ map (segment_of file) (headers_of (offset + padded (length s.bytes)) ss)) bytes
     ∙ ap (λ (r : List SegmentContents). s ∷ r) others
 
-keeps_again : (file : List ℕ) (ss : List SegmentContents) (offset : ℕ) (front behind : List ℕ) → length front ≡ offset → file ≡ front ++ (flat_map stored ss ++ behind) → AllByRecursion IsSegment ss → AllByRecursion (Keeps (length file)) (headers_of offset ss)
-keeps_again file [] offset front behind len is each = tt
-keeps_again file (s ∷ ss) offset front behind len is each =
-    let later = replicate (padded (length s.bytes) - length s.bytes) 0 ++ (flat_map stored ss ++ behind) in
-    let inside : offset + length s.bytes ≤ length file = omega (arith, ap length (stands_at file s ss front behind is), length-append front (s.bytes ++ later), length-append s.bytes later, len) in (
+keeps_again : (file : List ℕ) (ss : List SegmentContents) (offset : ℕ) (front following : List ℕ) → length front ≡ offset → file ≡ front ++ (flat_map stored ss ++ following) → AllByRecursion IsSegment ss → AllByRecursion (Keeps (length file)) (headers_of offset ss)
+keeps_again file [] offset front following len is each = tt
+keeps_again file (s ∷ ss) offset front following len is each =
+    let later = replicate (padded (length s.bytes) - length s.bytes) 0 ++ (flat_map stored ss ++ following) in
+    let inside : offset + length s.bytes ≤ length file = omega (arith, ap length (stands_at file s ss front following is), length-append front (s.bytes ++ later), length-append s.bytes later, len) in (
       keeps_from_kept (length file) (header_of offset s) (record { load = refl; fits = each.0.stored; ends = each.0.in_memory; word = each.0.aligned; stored = inside }),
-      keeps_again file ss (offset + padded (length s.bytes)) (front ++ stored s) behind (next_length offset s front len) (next_stands file s ss front behind is) each.1,
+      keeps_again file ss (offset + padded (length s.bytes)) (front ++ stored s) following (next_length offset s front len) (next_stands file s ss front following is) each.1,
     )
 
--- where they end
+-- The file offset just past the segments' bytes.
 bytes_end-length : (offset : ℕ) (ss : List SegmentContents) → bytes_end offset ss ≡ offset + length (flat_map stored ss)
 bytes_end-length offset [] = omega arith
 bytes_end-length offset (s ∷ ss) =
     omega (arith, bytes_end-length (offset + padded (length s.bytes)) ss, ap length (flat_map-cons stored s ss), length-append (stored s) (flat_map stored ss), length-stored s)
 
--- a walk over loadable headers that keep their own rules finds them all, and goes on behind them
+-- A walk over loadable headers that satisfy their rules finds all of these headers and continues after them.
 walk_loads : (file : List ℕ) (known : Option (ℕ × ℕ)) (hs rest : List ProgramHeader) → AllByRecursion (Keeps (length file)) hs → walk file known (hs ++ rest) ≡ with_front hs (walk file known rest)
 walk_loads file known [] rest keeps = refl
 walk_loads file known (h ∷ hs) rest keeps =
@@ -171,12 +171,12 @@ calls_again : (limits : ℕ × ℕ) → limits.1 < 2 ^ 32 → field 4 24 (note_b
 unfolding field note_bytes
 calls_again limits fits = big_number-reads_back 4 limits.1 (drop 28 (note_bytes limits)) fits
 
--- the fields of a note as it is laid out that do not tell limits
+-- The constant fields of a written note have the required values.
 fixed_again : (limits : ℕ × ℕ) → (field 4 0 (note_bytes limits) ≡ 8) × (field 4 4 (note_bytes limits) ≡ 8) × (field 4 8 (note_bytes limits) ≡ 1) × (starts_with nat_eq (drop 12 (note_bytes limits)) note_name ≡ true)
 unfolding field note_bytes
 fixed_again limits = (refl, refl, refl, refl)
 
--- a note as it is laid out, behind whatever else
+-- A written note is recognized, whatever comes before it.
 record NoteAgain (limits : ℕ × ℕ) (place : ℕ) (file : List ℕ) : Type 0 where
   named : is_named file place ≡ true
   description : field 4 (place + 4) file ≡ 8
@@ -191,13 +191,13 @@ note_again limits place front len fit =
     let fixed = fixed_again limits in
     let name : drop (place + 12) (front ++ xs) ≡ drop 12 xs = ap (λ (p : ℕ). drop (p + 12) (front ++ xs)) (sym len) ∙ drop-append-add front xs 12 in
     record {
-      named = rw (field-right_behind 4 place front xs len, fixed.0, name, fixed.3) refl;
-      description = field-behind 4 4 place front xs len ∙ fixed.1;
-      kind = field-behind 4 8 place front xs len ∙ fixed.2;
+      named = rw (field-right_after 4 place front xs len, fixed.0, name, fixed.3) refl;
+      description = field-following 4 4 place front xs len ∙ fixed.1;
+      kind = field-following 4 8 place front xs len ∙ fixed.2;
       limits_are = rw (
-        field-behind 4 20 place front xs len,
+        field-following 4 20 place front xs len,
         pages_again limits (omega (arith, fit.few_pages)),
-        field-behind 4 24 place front xs len,
+        field-following 4 24 place front xs len,
         calls_again limits (omega (arith, fit.few_calls)),
       ) refl;
       stored = omega (arith, length-append front xs, length-note_bytes limits, len);
@@ -212,7 +212,7 @@ note_rules_again limits place file n fit =
     ap first_fault (own_rules-note file false (note_header place) (is_note_again limits place file n))
     ∙ rw (n.description, n.kind, n.limits_are, are_limits-from limits fit) refl
 
--- a walk over the header of a note finds its limits
+-- A walk over the header of a note finds its limits.
 walk_notes : (file : List ℕ) (known : Option (ℕ × ℕ)) (place : ℕ) (front : List ℕ) → length front ≡ place → file ≡ front ++ notes known → IfSome known AreLimits
     → walk file None (note_headers place known) ≡ record { loads = []; note = known; fault = None }
 walk_notes file None place front len is fit = refl
@@ -226,7 +226,7 @@ length-file_header : (address count : ℕ) → length (file_header address count
 unfolding file_header
 length-file_header address count = refl
 
--- a file header as it is laid out, before whatever else
+-- A written file header is recognized by the reader for all following bytes.
 record HeaderAgain (address count : ℕ) (file : List ℕ) : Type 0 where
   start : starts_with nat_eq file ident ≡ true
   kind : object_type file ≡ 2
@@ -267,7 +267,7 @@ file_rules_again address count file h room =
 
 -- ---- the whole file
 
--- the parts of the layout, the file header first
+-- The parts of the layout, beginning with the file header.
 abbrev table : ImageContents → List ℕ
 table i = flat_map program_header (laid_headers i)
 
@@ -299,7 +299,7 @@ length-note_headers : (place : ℕ) (known : Option (ℕ × ℕ)) → length (no
 length-note_headers place None = refl
 length-note_headers place (Some limits) = refl
 
--- what the file header's fields say, and the program headers, segments and limits that they lead to
+-- The values of the file header's fields, and the program headers, segments and limits that they lead to.
 record Laid (i : ImageContents) : Type 0 where
   fine : first_fault (file_rules (layout i)) ≡ None
   entry_is : entry (layout i) ≡ i.entry
@@ -352,7 +352,7 @@ reading-layout i good fits address words =
     ∙ ap (λ (a : ℕ). Ok (record { entry = a; segments = map (segment_of (layout i)) hs; note = i.note })) l.entry_is
     ∙ ap (λ (ss : List SegmentContents). Ok (record { entry = i.entry; segments = ss; note = i.note })) l.segments_are
 
--- ---- an image of the code
+-- ---- an image as the code stores it
 
 pub each_stored : (i : Image) (segments : List Segment) → IsWellFormed (contents_of i) → segments ≡ i.segments.items → All (λ s. length s.bytes.items ≤ s.size) segments
 each_stored i segments good same =
@@ -360,11 +360,11 @@ each_stored i segments good same =
     (λ k d lt. subst (λ (s : SegmentContents). length s.bytes ≤ s.size) (get_or-map segment_contents i.segments.items k d (segment_contents d) lt)
     (good.each k (segment_contents d) (omega (arith, length-map i.segments.items segment_contents))).stored)
 
--- how many headers it has, as the code counts them
+-- The number of headers, as the code counts them.
 pub headers_counted : (i : Image) (len more : ℕ) (segments : List Segment) → len ≡ length segments → more ≡ note_count i.note → segments ≡ i.segments.items → len + more ≡ headers_count (contents_of i)
 headers_counted i len more segments many one same = omega (arith, many, one, ap length same, length-map i.segments.items segment_contents)
 
--- the five parts, one behind the other
+-- The five parts of the file follow each other.
 pub written : (i : ImageContents) (a b c d e : List ℕ) → a ≡ file_header i.entry (headers_count i)
     → b ≡ a ++ flat_map program_header (headers_of (bytes_start i) i.segments)
     → c ≡ b ++ flat_map program_header (note_headers (note_start i) i.note)

@@ -1,5 +1,5 @@
--- Headers in the order of their addresses, each behind the one before it, are those of which no two share
--- an address. Both are put in terms of how many of the headers cover an address.
+-- Headers sorted by address overlap at no address exactly if each begins after the end of the one before. Sortedness and disjointness are
+-- both expressed by the number of headers that cover an address.
 use Rattle.std.proofs.Common.{◌≡◌, ℕ, suc, ◌+◌, ◌<◌, ◌≤◌, Bool, true, false, cond, not, ◌&&◌, ◌||◌, eqb, ltb, leb, min, max, List, [], ◌∷◌, ◌++◌, length, map, get_or, refl, sym, ap, ◌∙◌, inl, inr, arith}
 use Rattle.std.specs.List.{list_any, sum_by}
 use Rattle.std.specs.List.Sorted.{IsPermutation, IsNonDecreasingBy}
@@ -12,7 +12,7 @@ use Rattle.cyc_elf.specs.Reading.{covers, overlap}
 use Rattle.cyc_elf.specs.Outline.{fields_of}
 use Rattle.cyc_elf.specs.inside.Parts.{are_apart, in_order}
 
--- ---- how many headers cover an address
+-- ---- the number of headers that cover an address
 
 abbrev pub one : Bool → ℕ
 one b = cond b 1 0
@@ -49,7 +49,7 @@ covers-true h a e =
     let both = and_parts (leb h.vaddr a) (ltb a (h.vaddr + h.memory_size)) e in
     record { low = leb-true _ _ both.0; high = ltb-true _ _ both.1 }
 
--- outside of the header's addresses
+-- An address outside the header's segment is not covered.
 covers-outside : (h : ProgramHeader) (a : ℕ) → (Within h a → ⊥) → covers h a ≡ false
 covers-outside h a out =
     elim (cases_Bool (covers h a)) [ inl e ↦ absurd (out (covers-true h a e)) | inr e ↦ e ]
@@ -95,7 +95,7 @@ any_overlap-false h (g ∷ es) a e in_h =
           omega (arith, here, there)
     ]
 
--- ---- headers that are apart
+-- ---- disjoint headers
 
 pub are_apart-true : (es hs : List ProgramHeader) → are_apart es hs ≡ true → ((a : ℕ) → covering a es ≤ 1) → (a : ℕ) → covering a es + covering a hs ≤ 1
 are_apart-true es [] e before a = let b = before a in omega (arith, b)
@@ -128,9 +128,9 @@ are_apart-false es (h ∷ hs) e =
           (s.0, omega (arith, covering_push s.0 es h, s.1))
     ]
 
--- ---- headers in order
+-- ---- sorted headers
 
--- a header with no memory covers nothing
+-- A header without memory covers no address.
 empty-covers : (h : ProgramHeader) (a : ℕ) → h.memory_size ≡ 0 → one (covers h a) ≡ 0
 empty-covers h a none = ap one (covers-outside h a (λ q. omega (arith, q.low, q.high, none)))
 
@@ -143,7 +143,7 @@ in_order-empty high h rest e = ap (λ b. cond b (in_order high rest) (placed hig
 in_order-full : (high : ℕ) (h : ProgramHeader) (rest : List ProgramHeader) → eqb h.memory_size 0 ≡ false → in_order high (h ∷ rest) ≡ placed high h rest
 in_order-full high h rest e = ap (λ b. cond b (in_order high rest) (placed high h rest)) e
 
--- none of the headers covers an address below `high`, and no address is covered twice
+-- No header covers an address below `high`, and no address is covered twice.
 record Once (high : ℕ) (hs : List ProgramHeader) (a : ℕ) : Type 0 where
   below : a < high → covering a hs ≡ 0
   once : covering a hs ≤ 1
@@ -172,7 +172,7 @@ in_order-true high (h ∷ rest) e a =
           ]
     ]
 
--- the addresses do not fall, and the first is at least `low`
+-- The addresses are ascending, and the first is at least `low`.
 abbrev Rising : ℕ → List ProgramHeader → Type 0
 Rising low [] = Unit {0}
 Rising low (h ∷ rest) = (low ≤ h.vaddr) × Rising h.vaddr rest
@@ -181,7 +181,7 @@ Rising-lower : (low lower : ℕ) (hs : List ProgramHeader) → lower ≤ low →
 Rising-lower low lower [] le up = tt
 Rising-lower low lower (h ∷ rest) le up = (omega (arith, up.0), up.1)
 
--- behind a header with memory
+-- Headers out of order share an address: the case after a header with memory.
 in_order-false : (g : ProgramHeader) (hs : List ProgramHeader) → 0 < g.memory_size → Rising g.vaddr hs → in_order (g.vaddr + g.memory_size) hs ≡ false → (a : ℕ) × (2 ≤ one (covers g a) + covering a hs)
 in_order-false g [] some up e = absurd (false≢true (sym e))
 in_order-false g (h ∷ rest) some up e =
@@ -203,7 +203,7 @@ in_order-false g (h ∷ rest) some up e =
           ]
     ]
 
--- from the start of the list
+-- Headers out of order share an address: the case of the whole list.
 in_order-false_start : (low : ℕ) (hs : List ProgramHeader) → Rising low hs → in_order 0 hs ≡ false → (a : ℕ) × (2 ≤ covering a hs)
 in_order-false_start low [] up e = absurd (false≢true (sym e))
 in_order-false_start low (h ∷ rest) up e =
@@ -224,7 +224,7 @@ rising low [] first up = tt
 rising low (x ∷ xs) first up =
     (first 0 x (omega arith), rising x.vaddr xs (λ j d lt. up 0 (suc j) d (omega arith) (omega arith)) (λ i j d le lt. up (suc i) (suc j) d (omega arith) (omega arith)))
 
--- Sorted by address, the headers are in order exactly where they are apart as they stand in the file.
+-- The headers sorted by address are in order exactly if the headers in the file's order are disjoint.
 pub in_order-are_apart : (xs sorted : List raw.ProgramHeader) → IsPermutation xs sorted → IsNonDecreasingBy (λ h. h.vaddr) sorted → in_order 0 (map fields_of sorted) ≡ are_apart [] (map fields_of xs)
 in_order-are_apart xs sorted same up =
     elim (cases_Bool (in_order 0 (map fields_of sorted))) [

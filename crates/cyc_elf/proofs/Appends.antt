@@ -1,15 +1,15 @@
--- Lists that a writer appends to, piece by piece.
+-- Lists to which a writer appends piece by piece.
 use Rattle.std.proofs.Common.{◌≡◌, ℕ, ◌-◌, List, [], ◌∷◌, ◌++◌, take, replicate, ap, ◌∙◌, append_assoc, arith}
 use Rattle.std.proofs.lemmas.List.{take-replicate}
 use Rattle.cyc_elf.specs.Image.{padded}
 
--- two pieces, one after the other, are one piece
+-- Appending two pieces in sequence appends their concatenation.
 pub appends_both : (start middle end a b : List ℕ) → middle ≡ start ++ a → end ≡ middle ++ b → end ≡ start ++ (a ++ b)
 appends_both start middle end a b first second = second ∙ ap (λ (xs : List ℕ). xs ++ b) first ∙ append_assoc start a b
 
 abbrev zeros : List ℕ
 zeros = 0 ∷ 0 ∷ 0 ∷ []
 
--- the zeros behind bytes of this length, cut from three
+-- The padding of bytes of this length, taken from three zeros.
 pub padding_zeros : (k len : ℕ) → k ≡ padded len - len → take k zeros ≡ replicate (padded len - len) 0
 padding_zeros k len e = ap (λ (n : ℕ). take n zeros) e ∙ take-replicate (padded len - len) 3 0 (omega arith)

@@ -1,5 +1,5 @@
--- A file of 88 bytes, read by computation: the file header, one program header, and a word of text. The bytes are those of the System V
--- ABI's tables, field by field.
+-- A file of 88 bytes, read by computation: the file header, one program header, and a word of text. The bytes follow the System V ABI's
+-- tables, field by field.
 use Rattle.std.proofs.Common.{◌≡◌, ℕ, List, [], ◌∷◌, ◌++◌, None, Ok, Err, refl}
 use Rattle.cyc_elf.specs.declared.fault.ElfFault.TheVariants as faults
 use Rattle.cyc_elf.specs.Header.{field, program_header_at, headers_from}
@@ -7,25 +7,25 @@ use Rattle.cyc_elf.specs.Note.{is_note, is_named, limits_at}
 use Rattle.cyc_elf.specs.Image.{ImageContents}
 use Rattle.cyc_elf.specs.Reading.{file_rules, own_rules, entry_rules, reading}
 
--- e_ident to its end; then an executable (2) for MIPS (8) of version 1
+-- The remaining bytes of `e_ident`; then an executable (2) for MIPS (8) of version 1.
 abbrev kind : List ℕ
 kind = 127 ∷ 69 ∷ 76 ∷ 70 ∷ 1 ∷ 2 ∷ 1 ∷ 0 ∷ 0 ∷ 0 ∷ 0 ∷ 0 ∷ 0 ∷ 0 ∷ 0 ∷ 0 ∷ 0 ∷ 2 ∷ 0 ∷ 8 ∷ 0 ∷ 0 ∷ 0 ∷ 1 ∷ []
 
--- the program headers at 52, no sections, no flags; this header has 52 bytes, a program header 32, and there is one
+-- The program headers at 52, no sections, no flags. The file header has 52 bytes, a program header 32, and there is one.
 abbrev table : List ℕ
 table = 0 ∷ 0 ∷ 0 ∷ 52 ∷ 0 ∷ 0 ∷ 0 ∷ 0 ∷ 0 ∷ 0 ∷ 0 ∷ 0 ∷ 0 ∷ 52 ∷ 0 ∷ 32 ∷ 0 ∷ 1 ∷ 0 ∷ 0 ∷ 0 ∷ 0 ∷ 0 ∷ 0 ∷ []
 
--- PT_LOAD (1): 4 bytes from 84 on stand at 0x400000, where 8 are in memory, to be read and executed (5)
+-- `PT_LOAD` (1): 4 bytes from offset 84 are loaded at 0x400000, where the segment has 8 bytes, readable and executable (5).
 abbrev load : List ℕ
 load =
     0 ∷ 0 ∷ 0 ∷ 1 ∷ 0 ∷ 0 ∷ 0 ∷ 84 ∷ 0 ∷ 64 ∷ 0 ∷ 0 ∷ 0 ∷ 0 ∷ 0 ∷ 0
     ∷ 0 ∷ 0 ∷ 0 ∷ 4 ∷ 0 ∷ 0 ∷ 0 ∷ 8 ∷ 0 ∷ 0 ∷ 0 ∷ 5 ∷ 0 ∷ 0 ∷ 0 ∷ 0 ∷ []
 
--- the word 12, which is a `syscall`
+-- The word 12, which encodes a `syscall`.
 abbrev text : List ℕ
 text = 0 ∷ 0 ∷ 0 ∷ 12 ∷ []
 
--- the file that is entered at 0x400000, or 4 or 8 bytes behind that
+-- The file with its entry at 0x400000, or 4 or 8 bytes later.
 abbrev file : (last_of_entry : ℕ) → List ℕ
 file n = kind ++ (0 ∷ 64 ∷ 0 ∷ n ∷ []) ++ table ++ load ++ text
 
@@ -40,16 +40,16 @@ it_is_read : reading (file 0) ≡ Ok (image 0x400000)
 unfolding reading file_rules own_rules entry_rules headers_from program_header_at field is_note is_named limits_at
 it_is_read = refl
 
--- the second word of the segment is one too, though the file has no bytes of it
+-- The second word of the segment may be the entry, although the file has no bytes of it.
 entered_at_its_second_word : reading (file 4) ≡ Ok (image 0x400004)
 unfolding reading file_rules own_rules entry_rules headers_from program_header_at field is_note is_named limits_at
 entered_at_its_second_word = refl
 
-entered_behind_its_end : reading (file 8) ≡ Err faults.BadEntry
+entered_after_its_end : reading (file 8) ≡ Err faults.BadEntry
 unfolding reading file_rules own_rules entry_rules headers_from program_header_at field is_note is_named limits_at
-entered_behind_its_end = refl
+entered_after_its_end = refl
 
--- without the last word the segment has not all of its bytes, and without the program header there is no table
+-- Without its last word the file lacks bytes of the segment, and without the program header it has no table.
 text_is_missing : reading (kind ++ (0 ∷ 64 ∷ 0 ∷ 0 ∷ []) ++ table ++ load) ≡ Err faults.Truncated
 unfolding reading file_rules own_rules entry_rules headers_from program_header_at field is_note is_named limits_at
 text_is_missing = refl
@@ -58,7 +58,7 @@ table_is_missing : reading (kind ++ (0 ∷ 64 ∷ 0 ∷ 0 ∷ []) ++ table) ≡ 
 unfolding reading file_rules own_rules entry_rules headers_from program_header_at field is_note is_named limits_at
 table_is_missing = refl
 
--- a file of other bytes than 127, E, L, F is none, whatever follows
+-- A file that does not begin with 127, E, L, F is rejected, whatever follows.
 other_bytes : reading (0 ∷ file 0) ≡ Err faults.NotElf32Big
 unfolding reading file_rules own_rules entry_rules headers_from program_header_at field is_note is_named limits_at
 other_bytes = refl

@@ -1,14 +1,14 @@
--- the reader answers as the rules do
+-- the reader implements the rules
 pub mod Rules
 pub mod Walks
 pub mod Apart
 pub mod Answering
--- what it reads is well formed
+-- the images that are read are well-formed
 pub mod Sound
 -- the writer
 pub mod Appends
 pub mod Writes
--- what is written is read as the same image
+-- a written file is read as the image that was written
 pub mod Again
--- a file that is read by computation
+-- a file read by computation
 pub mod Examples

@@ -1,5 +1,4 @@
--- The rules of the format, as tests of program headers, against what makes an image well formed, as facts
--- on the segments that the headers describe.
+-- The rules of the format, as tests of program headers, imply that the image is well-formed.
 use Rattle.std.proofs.Common.{◌≡◌, ℕ, zero, suc, ◌+◌, ◌%◌, ◌^◌, ◌<◌, ◌≤◌, Bool, true, false, cond, not, ◌&&◌, ◌||◌, eqb, ltb, leb, List, [], ◌∷◌, length, map, get_or, drop, Option, Some, None, is_some, IfSome, All, refl, sym, ap, ◌∙◌, inl, inr, arith}
 use Rattle.std.specs.Prelude.{Any, AllPairs}
 use Rattle.std.specs.List.{list_any, AllByRecursion}
@@ -17,9 +16,9 @@ use Rattle.cyc_elf.specs.inside.Parts.{Walk, step, noted, walk, are_apart}
 use Rattle.cyc_elf.proofs.Apart.{one, covering, covers-from, covers-true, are_apart-true, are_apart-false}
 use Rattle.cyc_elf.proofs.Rules.{Keeps, own_rules-note, walk_keeps, table_of, is_entry}
 
--- ---- a loadable header on its own
+-- ---- a single loadable header
 
--- the rules that a loadable header keeps, as facts
+-- The rules of a loadable header, as propositions.
 pub record Kept (len : ℕ) (h : ProgramHeader) : Type 0 where
   pub load : h.kind ≡ 1
   pub fits : h.file_size ≤ h.memory_size
@@ -27,7 +26,7 @@ pub record Kept (len : ℕ) (h : ProgramHeader) : Type 0 where
   pub word : h.vaddr % 4 ≡ 0
   pub stored : h.offset + h.file_size ≤ len
 
--- where there is no fault, the first rule is kept, and the later ones have none
+-- If there is no fault, the first rule is satisfied, and the later ones yield no fault.
 unbroken : (b : Bool) (f : ElfFault) (later : Option ElfFault) → cond b (Some f) later ≡ None → (b ≡ false) × (later ≡ None)
 unbroken true f later e = absurd cc
 unbroken false f later e = (refl, e)
@@ -60,9 +59,9 @@ segment_from_kept file h kept = record {
   aligned = kept.word;
 }
 
--- ---- a note on its own
+-- ---- a single note
 
--- pages and calls are in their ranges
+-- Pages and calls are in their ranges.
 pub are_limits-true : (limits : ℕ × ℕ) → are_limits limits ≡ true → AreLimits limits
 are_limits-true limits e =
     let three = and_parts (leb 3 limits.0 && leb limits.0 65536 && leb 1 limits.1) (leb limits.1 4096) e in
@@ -79,7 +78,7 @@ pub are_limits-from : (limits : ℕ × ℕ) → AreLimits limits → are_limits 
 are_limits-from limits fit =
     rw (le-leb 3 limits.0 fit.enough_pages, le-leb limits.0 65536 fit.few_pages, le-leb 1 limits.1 fit.enough_calls, le-leb limits.1 4096 fit.few_calls) refl
 
--- the rules that a note keeps, as facts
+-- The rules of a note, as propositions.
 pub record KeptNote (file : List ℕ) (h : ProgramHeader) : Type 0 where
   pub whole : 28 ≤ h.file_size
   pub description : field 4 (h.offset + 4) file ≡ 8
@@ -100,7 +99,7 @@ kept_note file before h is keeps =
       limits = are_limits-true _ (not-false _ limits.0);
     }
 
--- limits that are known behind a header without a fault are in their ranges
+-- The limits known after a header without a fault are in their ranges.
 noted_fit : (file : List ℕ) (known : Option (ℕ × ℕ)) (h : ProgramHeader) → first_fault (own_rules file (is_some known) h) ≡ None → IfSome known AreLimits → IfSome (noted file known h) AreLimits
 noted_fit file known h keeps fit =
     elim (cases_Bool (is_note file h)) [
@@ -118,7 +117,7 @@ walk_fit file known (h ∷ rest) fit =
     step_fit known h (walk file (noted file known h) rest) (first_fault (own_rules file (is_some known) h)) fit
     (λ keeps. walk_fit file (noted file known h) rest (noted_fit file known h keeps fit))
 
--- ---- headers that are apart
+-- ---- disjoint headers
 
 apart_from_once : (file : List ℕ) (h : ProgramHeader) (hs : List ProgramHeader) → ((a : ℕ) → one (covers h a) + covering a hs ≤ 1) → AllByRecursion (λ g. AreApart (segment_of file h) (segment_of file g)) hs
 apart_from_once file h [] once = tt
@@ -152,7 +151,7 @@ none_from_apart file h (g ∷ hs) a apart in_h =
       | inr out ↦ let here : one (covers g a) ≡ 0 = ap one out in omega (arith, here, rest)
     ]
 
--- AllPairs of a list, at its first element and of the others
+-- `AllPairs` of a list, split into the pairs of its first element and those of the remaining elements.
 AllPairs-first : {X : Type 0} (R : X → X → Type 0) (x : X) (xs : List X) → AllPairs R (x ∷ xs) → All (R x) xs
 AllPairs-first R x xs pairs = λ k d lt. pairs 0 (suc k) d (omega arith) (omega arith)
 
@@ -206,7 +205,7 @@ covered_at file (h ∷ hs) a (suc k) s lt here held = or_later (covers h a) (cov
 pub covered_from_held : (file : List ℕ) (hs : List ProgramHeader) (a : ℕ) → Any (λ s. Holds s a) (map (segment_of file) hs) → list_any (λ h. covers h a) hs ≡ true
 covered_from_held file hs a held = covered_at file hs a held.0 held.1 held.2 held.3 held.4
 
--- ---- the image that the reader makes
+-- ---- the image that the reader returns
 
 kept_all : (len : ℕ) (hs : List ProgramHeader) → AllByRecursion (Keeps len) hs → AllByRecursion (Kept len) hs
 kept_all len [] keeps = tt
@@ -216,7 +215,7 @@ segments_all : (file : List ℕ) (hs : List ProgramHeader) → AllByRecursion (K
 segments_all file [] kept = tt
 segments_all file (h ∷ hs) kept = (segment_from_kept file h kept.0, segments_all file hs kept.1)
 
--- the bytes of each header that the walk keeps lie in the file
+-- The bytes of each header that the walk collects are in the file.
 pub stored_all : (file : List ℕ) → All (λ h. h.offset + h.file_size ≤ length file) (table_of file).loads
 stored_all file =
     let kept = All-from_recursion (Kept (length file)) _ (kept_all (length file) _ (walk_keeps file None (program_headers file))) in

@@ -6,13 +6,13 @@ use Rattle.cyc_elf.specs.Header.{ProgramHeader, program_header_at, headers_from}
 use Rattle.cyc_elf.specs.Reading.{first_fault, own_rules, is_load}
 use Rattle.cyc_elf.specs.inside.Parts.{Walk, step, noted, walk}
 
--- ---- one header after the other
+-- ---- one header at a time
 
--- what was found before, and what is still found
+-- The headers found so far, followed by the rest of the walk.
 abbrev pub with_front : List ProgramHeader → Walk → Walk
 with_front front w = record { loads = front ++ w.loads; note = w.note; fault = w.fault }
 
--- the walk over what is left, with a header more in front
+-- The walk over the remaining headers, with one more header in front.
 walk_from : (file : List ℕ) (known : Option (ℕ × ℕ)) (count i place : ℕ) → i < count
     → walk file known (headers_from file place (count - i))
     ≡ step known (program_header_at file place) (first_fault (own_rules file (is_some known) (program_header_at file place))) (walk file (noted file known (program_header_at file place)) (headers_from file (place + 32) (count - (i + 1))))
@@ -21,7 +21,7 @@ walk_from file known count i place lt =
     let k : count - i ≡ suc (count - (i + 1)) = omega arith in
     rw k refl
 
--- the loop goes on behind a header that keeps its own rules
+-- The loop continues after a header that satisfies its own rules.
 pub headers_go_on : (front : List ProgramHeader) (file : List ℕ) (known : Option (ℕ × ℕ)) (count i place : ℕ) (h : ProgramHeader) (total : Walk) → i < count → h ≡ program_header_at file place → None ≡ first_fault (own_rules file (is_some known) h)
     → with_front front (walk file known (headers_from file place (count - i))) ≡ total
     → with_front (cond (is_load h) (front ++ h ∷ []) front) (walk file (noted file known h) (headers_from file (place + 32) (count - (i + 1)))) ≡ total
@@ -35,7 +35,7 @@ headers_go_on front file known count i place h total lt here keeps so_far =
     taken front h rest true = ap (λ (hs : List ProgramHeader). record { loads = hs; note = rest.note; fault = rest.fault }) (append_assoc front (h ∷ []) rest.loads)
     taken front h rest false = refl
 
--- the loop ends at a header that breaks one
+-- The loop over the headers ends at a header that violates a rule.
 pub fault_ends : (front : List ProgramHeader) (file : List ℕ) (known : Option (ℕ × ℕ)) (count i place : ℕ) (h : ProgramHeader) (f : ElfFault) (total : Walk) → i < count → h ≡ program_header_at file place → Some f ≡ first_fault (own_rules file (is_some known) h)
     → with_front front (walk file known (headers_from file place (count - i))) ≡ total
     → record { loads = front; note = known; fault = Some f } ≡ total
@@ -45,7 +45,7 @@ fault_ends front file known count i place h f total lt here breaks so_far =
     = walk_from file known count i place lt ∙ rw (← here, ← breaks) refl in
     ap (λ (hs : List ProgramHeader). record { loads = hs; note = known; fault = Some f }) (sym (append-nil front)) ∙ sym (ap (with_front front) one) ∙ so_far
 
--- the loop ends behind the last header
+-- The loop over the headers ends after the last one.
 pub is_done : (front : List ProgramHeader) (file : List ℕ) (known : Option (ℕ × ℕ)) (count i place : ℕ) (total : Walk) → count ≤ i
     → with_front front (walk file known (headers_from file place (count - i))) ≡ total
     → record { loads = front; note = known; fault = None } ≡ total

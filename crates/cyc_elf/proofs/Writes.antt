@@ -9,7 +9,7 @@ use Rattle.cyc_elf.specs.Image.{segment_contents, padded}
 use Rattle.cyc_elf.specs.Layout.{program_header, header_of, headers_of, bytes_end}
 use Rattle.cyc_elf.specs.inside.Parts.{IsInWords}
 
--- the headers that are left in front of the segment at an index
+-- The remaining headers, from the segment at an index on.
 abbrev pub headers_left : (offset i : ℕ) → List Segment → List ProgramHeader
 headers_left offset i xs = headers_of offset (map segment_contents (drop i xs))
 
@@ -19,21 +19,21 @@ headers_left-at xs i offset x lt here =
     let split : drop i xs ≡ x ∷ drop (i + 1) xs = rw add-one (drop-cons xs i x lt ∙ rw (← here) refl) in
     ap (λ (ys : List Segment). headers_of offset (map segment_contents ys)) split
 
--- where the bytes end, from the segment at an index on
+-- The end of the bytes, from the segment at an index on.
 pub bytes_end-at : (xs : List Segment) (i offset : ℕ) (x : Segment) → i < length xs → x ≡ get_or xs i x
     → bytes_end offset (map segment_contents (drop i xs)) ≡ bytes_end (offset + padded (length x.bytes.items)) (map segment_contents (drop (i + 1) xs))
 bytes_end-at xs i offset x lt here =
     let split : drop i xs ≡ x ∷ drop (i + 1) xs = rw add-one (drop-cons xs i x lt ∙ rw (← here) refl) in
     ap (λ (ys : List Segment). bytes_end offset (map segment_contents ys)) split
 
--- what holds with `rest` left of the headers: their offsets fit, what was written goes on with them, and the
--- numbers of those written fit
+-- The invariant with `rest` as the remaining headers: their offsets fit, they complete the written bytes, and the numbers of the written
+-- ones fit.
 pub record IsAt (out start : List ℕ) (rest whole : List ProgramHeader) : Type 0 where
   pub fit : All (λ h. h.offset < 2 ^ 32) rest
   pub bytes : out ++ flat_map program_header rest ≡ start ++ flat_map program_header whole
   pub words : All IsInWords rest → All IsInWords whole
 
--- one header more
+-- Writing one more header keeps the loop's invariant.
 pub is_at_next : (out after start : List ℕ) (h : ProgramHeader) (rest rest' whole : List ProgramHeader) → rest ≡ h ∷ rest' → after ≡ out ++ program_header h → IsInWords h → IsAt out start rest whole → IsAt after start rest' whole
 is_at_next out after start h rest rest' whole split put fits at =
     let fit : All (λ g. g.offset < 2 ^ 32) (h ∷ rest') = subst (All (λ g. g.offset < 2 ^ 32)) split at.fit in
@@ -47,12 +47,12 @@ is_at_next out after start h rest rest' whole split put fits at =
       words = λ all. at.words (subst (All IsInWords) (sym split) (All-cons IsInWords h rest' fits all));
     }
 
--- where the bytes of the next segment begin fits its field
+-- The offset of the next segment's bytes fits its field.
 pub offset_fits : (out start : List ℕ) (h : ProgramHeader) (rest rest' whole : List ProgramHeader) → rest ≡ h ∷ rest' → IsAt out start rest whole → h.offset < 2 ^ 32
 offset_fits out start h rest rest' whole split at =
     All-head (λ g. g.offset < 2 ^ 32) h rest' (subst (All (λ g. g.offset < 2 ^ 32)) split at.fit)
 
--- ---- what holds of all headers, of those of segments and of a note's
+-- ---- properties of all headers, of segments and of a note
 
 pub All-left : {X : Type 0} (P : X → Type 0) (xs ys : List X) → All P (xs ++ ys) → All P xs
 All-left P [] ys all = All-nil P

@@ -1,7 +1,6 @@
--- The one file that the writer makes of an image: the file header, the program headers, the segments' bytes in order, each
--- padded with zeros to whole words, and last the note, where the image has limits. There is nothing else, so each field that
--- points to a section table is 0. (The headers are those of the System V ABI; this one layout of them is this project's own
--- choice.)
+-- The file that the writer makes of an image: the file header, the program headers, the segments' bytes, and the note if the image has
+-- limits. The bytes of each segment are padded with zeros to whole words. The file contains no sections, so all fields for section tables
+-- are 0. (The headers are those of the System V ABI; this layout is this project's own choice.)
 use Rattle.std.specs.Prelude.{ℕ, ◌+◌, ◌-◌, ◌*◌, ◌^◌, ◌<◌, Option, Some, None, List, [], ◌∷◌, ◌++◌, length, replicate, All}
 use Rattle.std.specs.List.{flat_map}
 use Rattle.byteorder.specs.Endian.{big_bytes}
@@ -9,16 +8,16 @@ use Rattle.cyc_elf.specs.Header.{ident, file_header_size, program_header_size, P
 use Rattle.cyc_elf.specs.Note.{note_name, name_size, description_size, note_type, note_size}
 use Rattle.cyc_elf.specs.Image.{SegmentContents, ImageContents, padded}
 
--- numbers of two and of four bytes, each with its highest byte first
+-- Numbers of two and of four bytes, most significant byte first.
 abbrev pub halves : List ℕ → List ℕ
 halves = flat_map (big_bytes 2)
 
 abbrev pub words : List ℕ → List ℕ
 words = flat_map (big_bytes 4)
 
--- The file header: the identification; an executable (2) for MIPS (8); the version, the entry, where the
--- program headers begin, no section headers, and no flags; the sizes of the two kinds of header, how many
--- program headers there are, and of section headers no size, no count and no index.
+-- The file header: the identification; an executable (2) for MIPS (8); the version, the entry and the offset of the program headers; no
+-- section headers and no flags. The second half of the file header: the sizes of the two kinds of header, the number of program headers,
+-- and zeros for the section headers.
 unfoldable pub file_header : (entry count : ℕ) → List ℕ
 file_header entry count =
     ident ++ replicate 9 0
@@ -26,12 +25,12 @@ file_header entry count =
     ++ words (1 ∷ entry ∷ file_header_size ∷ 0 ∷ 0 ∷ [])
     ++ halves (file_header_size ∷ program_header_size ∷ count ∷ 0 ∷ 0 ∷ 0 ∷ [])
 
--- A program header: its kind; where the file holds its bytes; its address, twice, as there is no other
--- physical one; its size in the file and in memory; its flags, and its alignment, to words.
+-- A program header: its kind; the offset of its bytes; its address, twice, since there is no other physical one; its size in the file and
+-- in memory; its flags; and its alignment, to words.
 unfoldable pub program_header : ProgramHeader → List ℕ
 program_header h = words (h.kind ∷ h.offset ∷ h.vaddr ∷ h.vaddr ∷ h.file_size ∷ h.memory_size ∷ h.flags ∷ 4 ∷ [])
 
--- the loadable (1) program header of a segment whose bytes begin at an offset
+-- The loadable (1) program header of a segment whose bytes begin at an offset.
 abbrev pub header_of : ℕ → SegmentContents → ProgramHeader
 header_of offset s = record {
   kind = 1;
@@ -42,23 +41,23 @@ header_of offset s = record {
   flags = s.flags;
 }
 
--- the program headers of segments whose bytes stand one behind the other from an offset on
+-- The program headers of segments whose bytes follow each other from an offset on.
 abbrev pub headers_of : ℕ → List SegmentContents → List ProgramHeader
 headers_of offset [] = []
 headers_of offset (s ∷ rest) = header_of offset s ∷ headers_of (offset + padded (length s.bytes)) rest
 
--- a segment's bytes, with zeros up to a whole word
+-- A segment's bytes, padded with zeros to whole words.
 abbrev pub stored : SegmentContents → List ℕ
 stored s = s.bytes ++ replicate (padded (length s.bytes) - length s.bytes) 0
 
--- where the bytes of segments end that stand one behind the other from an offset on
+-- The end of the bytes of segments that follow each other from an offset on.
 abbrev pub bytes_end : ℕ → List SegmentContents → ℕ
 bytes_end offset [] = offset
 bytes_end offset (s ∷ rest) = bytes_end (offset + padded (length s.bytes)) rest
 
--- ---- the note, where there is one
+-- ---- the note, if there is one
 
--- the program header (4) of a note at an offset: it has no place in memory, and is to be read (4)
+-- The program header (4) of a note at an offset: it has no address in memory, and is readable (4).
 abbrev pub note_header : ℕ → ProgramHeader
 note_header offset = record {
   kind = 4;
@@ -73,7 +72,7 @@ abbrev pub note_headers : ℕ → (note : Option (ℕ × ℕ)) → List ProgramH
 note_headers offset None = []
 note_headers offset (Some limits) = note_header offset ∷ []
 
--- its bytes: the two sizes and the type, the name, and the limits
+-- The bytes of a note: the two sizes and the type, the name, and the limits.
 unfoldable pub note_bytes : (limits : ℕ × ℕ) → List ℕ
 note_bytes limits = words (name_size ∷ description_size ∷ note_type ∷ []) ++ note_name ++ words (limits.0 ∷ limits.1 ∷ [])
 
@@ -81,9 +80,9 @@ abbrev pub notes : (note : Option (ℕ × ℕ)) → List ℕ
 notes None = []
 notes (Some limits) = note_bytes limits
 
--- ---- the whole
+-- ---- the whole file
 
--- how many program headers limits take, and how many an image has
+-- The number of program headers for the limits, and for an image.
 abbrev pub note_count : (note : Option (ℕ × ℕ)) → ℕ
 note_count None = 0
 note_count (Some limits) = 1
@@ -91,14 +90,14 @@ note_count (Some limits) = 1
 abbrev pub headers_count : ImageContents → ℕ
 headers_count i = length i.segments + note_count i.note
 
--- where the bytes of its first segment begin, and where those of the last end
+-- The offset of the first segment's bytes, and the end of the last one's.
 abbrev pub bytes_start : ImageContents → ℕ
 bytes_start i = file_header_size + program_header_size * headers_count i
 
 abbrev pub note_start : ImageContents → ℕ
 note_start i = bytes_end (bytes_start i) i.segments
 
--- its program headers
+-- The program headers of an image.
 abbrev pub laid_headers : ImageContents → List ProgramHeader
 laid_headers i = headers_of (bytes_start i) i.segments ++ note_headers (note_start i) i.note
 
@@ -109,8 +108,7 @@ layout i =
     ++ flat_map stored i.segments
     ++ notes i.note
 
--- the numbers that the writer finds out fit their fields: how many program headers there are, and where the bytes
--- of each begin
+-- The numbers that the writer computes fit their fields: the number of program headers, and the offset of each one's bytes.
 pub record FitsFields (i : ImageContents) : Type 0 where
   pub count : headers_count i < 2 ^ 16
   pub offsets : All (λ h. h.offset < 2 ^ 32) (laid_headers i)

@@ -1,4 +1,4 @@
--- what the contracts of `read_image`, `read_outline` and `write_image` rest on
+-- the definitions that the contracts of `read_image`, `read_outline` and `write_image` rest on
 pub mod Header
 pub mod Note
 pub mod Image
@@ -6,5 +6,6 @@ pub mod Reading
 pub mod Outline
 pub mod Layout
 pub mod Fault
--- What the functions of this crate promise each other and what its proofs say: no public contract of the product means it.
+-- Contracts between this crate's functions, and statements of its proofs. No public contract of the product depends on these internal
+-- definitions.
 pub mod inside

@@ -1,12 +1,13 @@
--- The note by which an image carries the limits of its runs: the bytes of a program header of type 4 (PT_NOTE), in the form of the
--- System V ABI, chapter 5, "Note Section". The owner's name, the note's type and what it describes are this project's own choice.
+-- The note that stores the limits of an image's runs: the bytes of a program header of type 4 (`PT_NOTE`), in the form of the System V ABI,
+-- chapter 5, "Note Section". The owner's name, the note's type and its description are this project's own choice.
 use Rattle.std.specs.Prelude.{ℕ, ◌+◌, ◌≤◌, Bool, ◌&&◌, nat_le, nat_eq, ◌==◌, List, [], ◌∷◌, length, drop}
 use Rattle.std.specs.List.{starts_with}
 use Rattle.cyc_elf.specs.declared.note.TheConstants.{MIN_PAGES, MAX_PAGES, MIN_CALLS, MAX_CALLS}
 use Rattle.cyc_elf.specs.Header.{field, ProgramHeader}
 
--- What a note's bytes are: the size of the owner's name, the size of what is described, and the type, of four bytes each; the name,
--- "Cyclone" and a zero; and what is described, the pages of the store and the calls under way at once that a run may take, of four each.
+-- The bytes of a note. First the size of the owner's name, the size of the description, and the type, of four bytes each. The size fields
+-- are followed by the name, "Cyclone" and a zero. The name is followed by the description: the most pages of the store and the most calls
+-- of a run, of four bytes each.
 abbrev pub note_name : List ℕ
 note_name = 67 ∷ 121 ∷ 99 ∷ 108 ∷ 111 ∷ 110 ∷ 101 ∷ 0 ∷ []
 
@@ -19,27 +20,27 @@ description_size = 8
 abbrev pub note_type : ℕ
 note_type = 1
 
--- how many bytes it has up to the end of the name, and in all
+-- The number of bytes of a note up to the end of the name, and in all.
 abbrev pub named_size : ℕ
 named_size = 20
 
 abbrev pub note_size : ℕ
 note_size = 28
 
--- the bytes at an offset begin as a note does whose owner has this name
+-- The bytes at an offset begin like a note whose owner has this name.
 unfoldable pub is_named : List ℕ → (offset : ℕ) → Bool
 is_named file offset = field 4 offset file == name_size && starts_with nat_eq (drop (offset + 12) file) note_name
 
--- pages and calls of a note at an offset
+-- The pages and calls of a note at an offset.
 unfoldable pub limits_at : List ℕ → (offset : ℕ) → ℕ × ℕ
 limits_at file offset = (field 4 (offset + 20) file, field 4 (offset + 24) file)
 
--- A program header describes such a note: its bytes, as many as those up to the end of the name at least, lie in the file, and begin
--- as a note of this name. A note of another owner is none.
+-- A program header describes a note with limits: its bytes lie in the file, reach at least to the end of the name, and begin like a note of
+-- this owner. A note of another owner is not one.
 unfoldable pub is_note : List ℕ → ProgramHeader → Bool
 is_note file h = h.kind == 4 && nat_le named_size h.file_size && nat_le (h.offset + h.file_size) (length file) && is_named file h.offset
 
--- pages and calls are in their ranges, as a test and as facts
+-- Pages and calls are in their ranges, as a test and as a proposition.
 abbrev pub are_limits : ℕ × ℕ → Bool
 are_limits limits = nat_le MIN_PAGES limits.0 && nat_le limits.0 MAX_PAGES && nat_le MIN_CALLS limits.1 && nat_le limits.1 MAX_CALLS
 

@@ -1,4 +1,5 @@
--- The image that the headers of a file describe, while its segments' bytes still stand in the file. (This project's own choice.)
+-- The image that the headers of a file describe, with the segments' bytes still in the file. The form of an outline is this project's own
+-- choice.
 use Rattle.std.specs.Prelude.{◌≡◌, ℕ, List, map, Result, Ok, Err}
 use Rattle.cyc_elf.specs.declared.fault.ElfFault.{ElfFault}
 use Rattle.cyc_elf.specs.declared.fault.ElfFault.TheVariants as faults
@@ -8,7 +9,7 @@ use Rattle.cyc_elf.specs.Header.{ProgramHeader}
 use Rattle.cyc_elf.specs.Image.{ImageContents}
 use Rattle.cyc_elf.specs.Reading.{segment_of}
 
--- a program header as the code keeps it
+-- A program header as the code stores it.
 abbrev pub fields_of : raw.ProgramHeader → ProgramHeader
 fields_of h = record {
   kind = h.kind;
@@ -19,11 +20,11 @@ fields_of h = record {
   flags = h.flags;
 }
 
--- the image of which this is the outline in a file
+-- The image of an outline and the file that it belongs to.
 abbrev pub outlined : List ℕ → Outline → ImageContents
 outlined file o = record { entry = o.entry; segments = map (segment_of file) (map fields_of o.loads.items); note = o.note }
 
--- An answer of who reads a file's headers, where `read` is what the file denotes: that, unless memory ran out.
+-- The result of reading a file's headers agrees with what the file denotes (`read`), unless memory ran out.
 abbrev pub Outlines : List ℕ → Result Outline ElfFault → Result ImageContents ElfFault → Type 0
 Outlines file (Ok outline) read = read ≡ Ok (outlined file outline)
 Outlines file (Err faults.Memory) read = Unit {0}

@@ -1,6 +1,6 @@
--- Which image a file is, or what is wrong with it: the rules of the format in the order in which a broken one is named,
--- each with the fault that it is named by. Sums are of whole numbers and do not wrap. (What the fields mean is in the
--- System V ABI; which images are refused, and the order of the rules, are this project's own choice.)
+-- The image of a file, or its fault: the rules of the format in the order in which violations are reported, each with its fault. Sums are
+-- of natural numbers and do not wrap. (The meaning of the fields is in the System V ABI; the rejected images and the order of the rules are
+-- this project's own choice.)
 use Rattle.std.specs.Prelude.{◌≡◌, ℕ, ◌+◌, ◌*◌, ◌%◌, ◌^◌, Bool, true, not, ◌&&◌, nat_lt, nat_le, nat_eq, ◌==◌, if◌then◌else◌, min, max, Option, Some, None, Result, Ok, Err, List, [], ◌∷◌, ◌++◌, length, map, filter, take, drop}
 use Rattle.std.specs.List.{list_any, starts_with}
 use Rattle.cyc_elf.specs.declared.fault.ElfFault.{ElfFault}
@@ -10,7 +10,7 @@ use Rattle.cyc_elf.specs.Note.{description_size, note_type, note_size, limits_at
 use Rattle.cyc_elf.specs.declared.image.Image.{Image}
 use Rattle.cyc_elf.specs.Image.{SegmentContents, ImageContents, contents_of}
 
--- a rule of the format: whether the file breaks it, and the fault that says so
+-- A rule of the format: whether the file violates it, and the fault to report.
 pub record Rule : Type 0 where
   pub is_broken : Bool
   pub fault : ElfFault
@@ -18,13 +18,13 @@ pub record Rule : Type 0 where
 abbrev pub broken : Bool → ElfFault → Rule
 broken b f = record { is_broken = b; fault = f }
 
--- the fault of the first rule that is broken
+-- The fault of the first violated rule, if any.
 abbrev pub first_fault : List Rule → Option ElfFault
 first_fault [] = None
 first_fault (r ∷ rest) = if r.is_broken then Some r.fault else first_fault rest
 
--- The file header is there, it is that of a 32-bit, big-endian executable for MIPS, and the table of
--- program headers lies in the file. The other fields may have any value.
+-- The rules of the file header: it exists, belongs to a 32-bit, big-endian executable for MIPS, and the table of program headers lies in
+-- the file. The fields of the file header that no rule names may have any value.
 unfoldable pub file_rules : List ℕ → List Rule
 file_rules file =
     broken (nat_lt (length file) file_header_size) faults.Truncated
@@ -36,27 +36,27 @@ file_rules file =
     ∷ broken (nat_lt (length file) (table_offset file + program_header_size * header_count file)) faults.Truncated
     ∷ []
 
--- the kinds of a program header that are looked at beside notes: PT_LOAD and PT_INTERP
+-- The kinds of program headers that matter besides notes: `PT_LOAD` and `PT_INTERP`.
 abbrev pub is_load : ProgramHeader → Bool
 is_load h = h.kind == 1
 
 abbrev pub is_interpreter : ProgramHeader → Bool
 is_interpreter h = h.kind == 3
 
--- the loadable ones, which describe segments
+-- The loadable headers, which describe segments.
 abbrev pub loads : List ProgramHeader → List ProgramHeader
 loads = filter is_load
 
--- an address is one of the segment's
+-- The segment of this program header contains this address.
 abbrev pub covers : ProgramHeader → ℕ → Bool
 covers h address = nat_le h.vaddr address && nat_lt address (h.vaddr + h.memory_size)
 
--- two segments share an address: the later of their starts lies before the earlier of their ends
+-- Two segments share an address: the later of their starts is before the earlier of their ends.
 abbrev pub overlap : ProgramHeader → ProgramHeader → Bool
 overlap g h = nat_lt (max g.vaddr h.vaddr) (min (g.vaddr + g.memory_size) (h.vaddr + h.memory_size))
 
--- A loadable program header of a file of `len` bytes: it has no more bytes in the file than in memory, ends
--- within the address space, begins at a word, and has its bytes in the file.
+-- The rules of a loadable program header of a file of `len` bytes: it has no more bytes in the file than in memory, ends within the address
+-- space, begins at a word, and its bytes are in the file.
 abbrev pub load_rules : ℕ → ProgramHeader → List Rule
 load_rules len h =
     broken (nat_lt h.memory_size h.file_size) faults.BadSegment
@@ -65,8 +65,8 @@ load_rules len h =
     ∷ broken (nat_lt len (h.offset + h.file_size)) faults.Truncated
     ∷ []
 
--- A note that carries limits: it has all of its bytes, describes two words and is of its owner's type 1, its limits are in their
--- ranges, and none came before.
+-- The rules of a note with limits: it is complete, describes two words, has its owner's type 1, its limits are in their ranges, and it is
+-- the first such note.
 abbrev pub note_rules : List ℕ → (noted : Bool) → ProgramHeader → List Rule
 note_rules file noted h =
     broken (nat_lt h.file_size note_size) faults.BadSegment
@@ -76,8 +76,8 @@ note_rules file noted h =
     ∷ broken noted faults.BadSegment
     ∷ []
 
--- A program header on its own, where a note came before or did not: none may ask for an interpreter, and other kinds and other notes
--- are ignored.
+-- The rules of a single program header, given whether a note came before: it requests no interpreter. Other kinds and other notes are
+-- ignored.
 unfoldable pub own_rules : List ℕ → (noted : Bool) → ProgramHeader → List Rule
 own_rules file noted h =
     if is_interpreter h
@@ -88,31 +88,31 @@ own_rules file noted h =
     then note_rules file noted h
     else []))
 
--- a program header beside those before it: a loadable one overlaps none that is loadable
+-- The rule between a program header and those before it: no two loadable ones overlap.
 abbrev pub overlap_rule : List ProgramHeader → ProgramHeader → Rule
 overlap_rule earlier h = broken (is_load h && list_any (overlap h) (loads earlier)) faults.BadSegment
 
--- all of a list of program headers, in their order, each with those before it
+-- The rules of a list of program headers, in order, each with those before it.
 abbrev pub table_rules : List ℕ → (earlier headers : List ProgramHeader) → List Rule
 table_rules file earlier [] = []
 table_rules file earlier (h ∷ rest) =
     own_rules file (list_any (is_note file) earlier) h ++ overlap_rule earlier h ∷ table_rules file (earlier ++ h ∷ []) rest
 
--- the entry is a word's address in one of the segments
+-- The entry is the address of a word in one of the segments.
 unfoldable pub entry_rules : List ProgramHeader → ℕ → List Rule
 entry_rules headers address =
     broken (not (list_any (λ h. covers h address) (loads headers))) faults.BadEntry
     ∷ broken (not (address % 4 == 0)) faults.BadEntry
     ∷ []
 
--- all of the rules
+-- All rules that a file must satisfy to be read as an image.
 abbrev pub rules : List ℕ → List Rule
 rules file =
     file_rules file
     ++ table_rules file [] (program_headers file)
     ++ entry_rules (program_headers file) (entry file)
 
--- the segment that a program header describes, with its bytes of the file
+-- The segment that a program header describes, with its bytes from the file.
 abbrev pub segment_of : List ℕ → ProgramHeader → SegmentContents
 segment_of file h = record {
   vaddr = h.vaddr;
@@ -121,12 +121,12 @@ segment_of file h = record {
   size = h.memory_size;
 }
 
--- the limits that the first note among program headers carries
+-- The limits of the first note among program headers.
 abbrev pub note_among : List ℕ → List ProgramHeader → Option (ℕ × ℕ)
 note_among file [] = None
 note_among file (h ∷ rest) = if is_note file h then Some (limits_at file h.offset) else note_among file rest
 
--- what the file's fields name
+-- The image that the file's fields describe.
 abbrev pub named_image : List ℕ → ImageContents
 named_image file = record {
   entry = entry file;
@@ -138,11 +138,11 @@ abbrev pub unless : Option ElfFault → ImageContents → Result ImageContents E
 unless (Some f) image = Err f
 unless None image = Ok image
 
--- The image that a file is, or the fault of the first rule that it breaks.
+-- The image that a file denotes, or the fault of the first violated rule.
 unfoldable pub reading : List ℕ → Result ImageContents ElfFault
 reading file = unless (first_fault (rules file)) (named_image file)
 
--- An answer of the reader, where `read` is what a file denotes: that, unless memory ran out.
+-- The result of the reader agrees with what a file denotes (`read`), unless memory ran out.
 abbrev pub Answers : Result Image ElfFault → Result ImageContents ElfFault → Type 0
 Answers (Ok image) read = read ≡ Ok (contents_of image)
 Answers (Err faults.Memory) read = Unit {0}

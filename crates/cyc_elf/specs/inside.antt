@@ -1,2 +1,2 @@
--- what the functions inside the crate promise each other
+-- the contracts between the functions inside the crate
 pub mod Parts

@@ -1,11 +1,11 @@
-//! The fixed-width numbers of the headers, the highest byte first.
+//! Fixed-width numbers in the headers, most significant byte first.
 
 ghost use Rattle.std.specs.Prelude.{◌≡◌, ◌+◌, ◌≤◌, length};
 ghost use Rattle.cyc_elf.specs.Header.{field};
 
 use byteorder::{BigEndian, ByteOrder};
 
-/// The number in the two bytes at `offset`.
+/// Returns the number in the two bytes at `offset`.
 #[tactic(auto, unfolding(crate::specs::Header::field))]
 pub fn half_at(file: &[u8], offset: usize) -> u16
     requires { offset + 2 ≤ length file.now }
@@ -14,7 +14,7 @@ pub fn half_at(file: &[u8], offset: usize) -> u16
     BigEndian::read_u16(&file[offset..])
 }
 
-/// The number in the four bytes at `offset`.
+/// Returns the number in the four bytes at `offset`.
 #[tactic(auto, unfolding(crate::specs::Header::field))]
 pub fn word_at(file: &[u8], offset: usize) -> u32
     requires { offset + 4 ≤ length file.now }

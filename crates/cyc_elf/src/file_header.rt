@@ -1,4 +1,4 @@
-//! The header at the start of the file.
+//! Reads the header at the start of the file.
 
 ghost use Rattle.std.specs.Prelude.{◌≡◌, ◌+◌, ◌*◌, ◌≤◌, length, None, Some, IfOk, MatchResult};
 ghost use Rattle.cyc_elf.specs.Header.{entry, table_offset, header_count, program_header_size};
@@ -7,7 +7,7 @@ ghost use Rattle.cyc_elf.specs.Reading.{first_fault, file_rules};
 use crate::fault::ElfFault;
 use crate::fields::{half_at, word_at};
 
-/// The magic number, 32-bit, the highest byte first, version 1.
+/// The magic number, then 32-bit, most significant byte first, version 1.
 pub const IDENT: [u8; 7] = [0x7f, b'E', b'L', b'F', 1, 2, 1];
 
 /// The size of the file header in bytes.
@@ -25,7 +25,7 @@ pub const MIPS: u16 = 8;
 /// The version of the format.
 pub const VERSION: u32 = 1;
 
-/// What the file header says of the rest: the entry, and where the table of program headers lies.
+/// The fields of the file header that the reader needs: the entry, and the position of the table of program headers.
 #[derive(Clone, Copy)]
 pub struct FileHeader {
     pub entry: u32,
@@ -33,7 +33,7 @@ pub struct FileHeader {
     pub count: u16,
 }
 
-/// Reads the file header, or names the first rule that it breaks.
+/// Reads the file header. The error is the first rule that the file header violates.
 #[tactic(auto, unfolding(crate::specs::Reading::file_rules))]
 pub fn file_header(file: &[u8]) -> Result<FileHeader, ElfFault>
     ensures faults { MatchResult result (λ _. first_fault (file_rules file.now) ≡ None)

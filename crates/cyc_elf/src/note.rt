@@ -1,4 +1,4 @@
-//! The note by which an image carries the limits of its runs.
+//! The note that stores the limits of an image's runs.
 
 ghost use Rattle.std.specs.Prelude.{◌≡◌, ◌+◌, ◌≤◌, ◌&&◌, not, nat_lt, ◌==◌, length};
 ghost use Rattle.cyc_elf.specs.Header.{field};
@@ -6,37 +6,37 @@ ghost use Rattle.cyc_elf.specs.Note.{named_size, note_size, description_size, no
 
 use crate::fields::word_at;
 
-/// The owner's name, with the zero byte that ends it.
+/// The owner's name, with its terminating zero byte.
 pub const NAME: [u8; 8] = [b'C', b'y', b'c', b'l', b'o', b'n', b'e', 0];
 
 /// The size of the name in bytes.
 pub const NAME_SIZE: u32 = 8;
 
-/// The size in bytes of what a note describes: two words.
+/// The size of a note's description in bytes: two words.
 pub const DESCRIPTION_SIZE: u32 = 8;
 
-/// The note's type among its owner's.
+/// The type of the note among the notes of its owner.
 pub const NOTE_TYPE: u32 = 1;
 
-/// How many bytes a note has up to the end of the name.
+/// The number of bytes of a note up to the end of the name.
 pub const NAMED_SIZE: usize = 20;
 
-/// How many bytes a note has.
+/// The number of bytes of a note.
 pub const NOTE_SIZE: usize = 28;
 
-/// The fewest and the most pages that a note may name.
+/// The fewest pages that a note may specify.
 pub const MIN_PAGES: u32 = 3;
 
-/// The most pages that a note may name.
+/// The most pages that a note may specify.
 pub const MAX_PAGES: u32 = 65_536;
 
-/// The fewest and the most calls that a note may name.
+/// The fewest calls that a note may specify.
 pub const MIN_CALLS: u32 = 1;
 
-/// The most calls that a note may name.
+/// The most calls that a note may specify.
 pub const MAX_CALLS: u32 = 4096;
 
-/// Whether the bytes at `start` begin as those of a note with the name.
+/// Returns true if the bytes at `start` begin like a note with this owner.
 #[tactic(auto, unfolding(crate::specs::Note::is_named))]
 pub fn is_named(file: &[u8], start: usize) -> bool
     requires { start + named_size ≤ length file.now }
@@ -45,7 +45,7 @@ pub fn is_named(file: &[u8], start: usize) -> bool
     word_at(file, start) == NAME_SIZE && file[start + 12..].starts_with(&NAME)
 }
 
-/// The pages and the calls of the note at `start`.
+/// Returns the pages and the calls of the note at `start`.
 #[tactic(auto, unfolding(crate::specs::Note::limits_at))]
 pub fn limits_at(file: &[u8], start: usize) -> (u32, u32)
     requires { start + note_size ≤ length file.now }
@@ -54,7 +54,7 @@ pub fn limits_at(file: &[u8], start: usize) -> (u32, u32)
     (word_at(file, start + 20), word_at(file, start + 24))
 }
 
-/// Whether pages and calls are in their ranges.
+/// Returns true if pages and calls are in their ranges.
 fn are_limits(limits: (u32, u32)) -> bool
     ensures { result ≡ are_limits limits }
 {
@@ -62,7 +62,7 @@ fn are_limits(limits: (u32, u32)) -> bool
     MIN_PAGES <= pages && pages <= MAX_PAGES && MIN_CALLS <= calls && calls <= MAX_CALLS
 }
 
-/// Whether the note of `size` bytes at `start` keeps the rules of one that carries limits, beside that it is the first.
+/// Returns true if the note of `size` bytes at `start` satisfies the rules of a note with limits, except that it must be the first.
 pub fn keeps_rules(file: &[u8], start: usize, size: usize) -> bool
     requires { start + size ≤ length file.now }
     ensures { result ≡ (not (nat_lt size note_size) && (field 4 (start + 4) file.now == description_size)

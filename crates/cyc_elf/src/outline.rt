@@ -1,4 +1,4 @@
-//! What the headers of a file say of the image that it is.
+//! The image of a file, as described by its headers.
 
 ghost use Rattle.std.specs.Prelude.{◌≡◌, ◌+◌, ◌≤◌, All, IfOk, length};
 ghost use Rattle.cyc_elf.specs.Image.{contents_of};
@@ -9,8 +9,8 @@ use crate::program_header::ProgramHeader;
 use crate::table::segments_of;
 use std::alloc::{AllocError, Global};
 
-/// An image whose segments' bytes still stand in the file, where the program headers say. It costs no more memory than the table of
-/// program headers, however many bytes these name.
+/// An image whose segments' bytes are still in the file, at the offsets that the program headers give. An outline needs no more memory than
+/// the table of program headers, whatever the size of the segments.
 #[derive(Drop)]
 pub struct Outline {
     /// The address of the first instruction.
@@ -22,7 +22,7 @@ pub struct Outline {
 }
 
 impl Outline {
-    /// The image, with the bytes of each segment copied out of the file.
+    /// Returns the image, with the bytes of each segment copied from the file.
     pub fn image(&self, alloc: Global, file: &[u8]) -> Result<Image, AllocError>
         requires { All (λ h. h.offset + h.file_size ≤ length file.now) self.now.loads.items }
         ensures { IfOk result (λ image. contents_of image ≡ outlined file.now self.now) }

@@ -12,20 +12,20 @@ use crate::fields::word_at;
 use crate::image::Segment;
 use crate::note::{NAMED_SIZE, NOTE_SIZE, is_named, keeps_rules};
 
-/// The kinds that the reader looks at.
+/// The kinds of program headers that the reader distinguishes.
 const LOAD: u32 = 1;
 
 const INTERPRETER: u32 = 3;
 
 const NOTE: u32 = 4;
 
-/// The flag of what is read.
+/// The flag of a readable segment.
 const READ: u32 = 4;
 
 /// The end of the address space.
 const ADDRESSES: u64 = 1 << 32;
 
-/// The fields of a program header that the reader looks at.
+/// The fields of a program header that the reader uses.
 #[derive(Clone, Copy)]
 pub struct ProgramHeader {
     pub kind: u32,
@@ -39,7 +39,7 @@ pub struct ProgramHeader {
 impl ProgramHeader {
     ghost use Rattle.cyc_elf.specs.Outline.{fields_of};
 
-    /// The program header at a place in the file.
+    /// Returns the program header at an offset in the file.
     #[tactic(auto, unfolding(crate::specs::Header::program_header_at))]
     pub(crate) fn at(file: &[u8], place: usize) -> ProgramHeader
         requires { place + program_header_size ≤ length file.now }
@@ -55,12 +55,12 @@ impl ProgramHeader {
         }
     }
 
-    /// The header of a segment whose bytes begin at an offset in the file.
+    /// Returns the header of a segment whose bytes begin at an offset in the file.
     pub(crate) fn of(segment: &Segment, offset: u32) -> ProgramHeader
         requires { length segment.now.bytes.items ≤ segment.now.size }
         ensures { fields_of result ≡ header_of offset (segment_contents segment.now) }
     {
-        // Read first: it bounds the number of bytes.
+        // The read of the header comes before its checks, since it bounds the number of bytes.
         let _size = segment.size;
         ProgramHeader {
             kind: LOAD,
@@ -72,7 +72,7 @@ impl ProgramHeader {
         }
     }
 
-    /// The header of a note whose bytes begin at an offset in the file.
+    /// Returns the header of a note whose bytes begin at an offset in the file.
     pub(crate) fn of_note(offset: u32) -> ProgramHeader
         ensures { fields_of result ≡ note_header offset }
     {
@@ -87,29 +87,29 @@ impl ProgramHeader {
         }
     }
 
-    /// Whether the header describes a segment.
+    /// Returns true if the header describes a segment.
     pub(crate) fn is_load(&self) -> bool
         ensures { result ≡ is_load (fields_of self.now) }
     {
         self.kind == LOAD
     }
 
-    /// The address behind the segment.
+    /// Returns the address after the segment.
     pub(crate) fn end(&self) -> u64
         ensures { result ≡ self.now.vaddr + self.now.memory_size }
     {
         u64::from(self.vaddr) + u64::from(self.memory_size)
     }
 
-    /// Whether an address is one of the segment's.
+    /// Returns true if an address is in the segment.
     pub(crate) fn covers(&self, address: u32) -> bool
         ensures { result ≡ covers (fields_of self.now) address }
     {
         self.vaddr <= address && u64::from(address) < self.end()
     }
 
-    /// Whether the header describes a note that carries limits. A note of another owner does not, nor one whose bytes do not lie in
-    /// the file.
+    /// Returns true if the header describes a note with limits. A note of another owner does not count, nor one whose bytes are not in the
+    /// file.
     #[tactic(auto, unfolding(crate::specs::Note::is_note))]
     pub(crate) fn is_note(&self, file: &[u8]) -> bool
         ensures { result ≡ is_note file.now (fields_of self.now) }
@@ -121,7 +121,7 @@ impl ProgramHeader {
             && is_named(file, start)
     }
 
-    /// The first rule that a loadable header breaks on its own, in a file of `len` bytes.
+    /// Returns the fault of the first rule that a single loadable header violates, in a file of `len` bytes.
     fn load_fault(&self, len: usize) -> Option<ElfFault>
         ensures { result ≡ first_fault (load_rules len (fields_of self.now)) }
     {
@@ -134,7 +134,7 @@ impl ProgramHeader {
         None
     }
 
-    /// The first rule that the header breaks on its own, where a note came before it or did not.
+    /// Returns the fault of the first rule that the single header violates, given whether a note came before.
     #[tactic(auto, unfolding(crate::specs::Reading::own_rules, crate::specs::Note::is_note))]
     pub(crate) fn own_fault(&self, file: &[u8], noted: bool) -> Option<ElfFault>
         ensures { result ≡ first_fault (own_rules file.now noted (fields_of self.now)) }

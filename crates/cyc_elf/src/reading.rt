@@ -1,4 +1,4 @@
-//! The reader.
+//! Reads images from the bytes of files.
 
 ghost use Rattle.std.specs.Prelude.{◌≡◌, ◌+◌, ◌%◌, ◌≤◌, ◌&&◌, ◌==◌, All, IfOk, length};
 ghost use Rattle.std.specs.List.{list_any};
@@ -14,28 +14,28 @@ use crate::program_header::ProgramHeader;
 use crate::table::{are_apart, walk_table};
 use std::alloc::Global;
 
-/// Whether an address lies in one of the segments.
+/// Returns true if an address lies in one of the segments.
 fn is_covered(loads: &[ProgramHeader], address: u32) -> bool
     ensures { result ≡ list_any (λ h. covers (fields_of h) address) loads.now }
 {
     loads.iter().any(|h| h.covers(address))
 }
 
-/// Whether an address is a word's in one of the segments.
+/// Returns true if an address is that of a word in one of the segments.
 fn is_entry(loads: &[ProgramHeader], address: u32) -> bool
     ensures { result ≡ (list_any (λ h. covers (fields_of h) address) loads.now && (address % 4 == 0)) }
 {
     is_covered(loads, address) && address % 4 == 0
 }
 
-/// Reads the headers of a file, and copies no byte of a segment.
+/// Reads the headers of a file without copying any byte of a segment.
 ///
-/// The whole table of program headers is judged. So a file costs at most a small multiple of its own length, whatever its headers
-/// say, refused or not.
+/// The whole table of program headers is checked. Reading a file needs at most a small multiple of the file's length of memory, whatever
+/// its headers contain, valid or not.
 pub fn read_outline(alloc: Global, file: &[u8]) -> Result<Outline, ElfFault>
-    // The outline of the image that the file is, or the fault of the first rule that it breaks.
+    // The result is the outline of the image that the file denotes, or the fault of the first violated rule.
     ensures exact { Outlines file.now result (reading file.now) }
-    // What is read is well formed, and all of its bytes are there.
+    // An image that is read is well-formed, and all of its bytes are in the file.
     ensures well_formed { IfOk result (λ outline. IsWellFormed (outlined file.now outline)) }
     ensures stored { IfOk result (λ outline. All (λ h. h.offset + h.file_size ≤ length file.now) outline.loads.items) }
 {
@@ -59,15 +59,13 @@ pub fn read_outline(alloc: Global, file: &[u8]) -> Result<Outline, ElfFault>
 
 /// Reads an image from the bytes of a file.
 ///
-/// The whole table of program headers is judged before any segment's bytes are copied, and the zeros that a
-/// segment has past its bytes are not stored. So a refused file costs at most a small multiple of its own
-/// length, whatever its headers say. An accepted one costs in addition the bytes that its segments name,
-/// which are together at most 4 GiB, since no two segments share an address. Who takes fewer images can judge
-/// their outlines first.
+/// The whole table of program headers is checked before any segment is copied, and the zeros past a segment's bytes are not stored. A
+/// rejected file needs at most a small multiple of its own length of memory. An accepted one needs in addition the bytes that its segments
+/// refer to, together at most 4 GiB, since segments are disjoint. A caller that accepts fewer images can check their outlines first.
 pub fn read_image(alloc: Global, file: &[u8]) -> Result<Image, ElfFault>
-    // The image that the file is, or the fault of the first rule that it breaks.
+    // The result is the image that the file denotes, or the fault of the first violated rule.
     ensures exact { Answers result (reading file.now) }
-    // What is read is well formed.
+    // An image that is read is well-formed.
     ensures well_formed { IfOk result (λ image. IsWellFormed (contents_of image)) }
 {
     let outline = read_outline(alloc, file)?;

@@ -1,4 +1,4 @@
-//! The table of program headers as a whole.
+//! Walks over the table of program headers and checks that segments are disjoint.
 
 ghost use Rattle.std.specs.Prelude.{◌≡◌, ◌+◌, ◌*◌, ◌≤◌, true, [], None, length, map, All, IfOk};
 ghost use Rattle.std.specs.List.Sorted.{IsPermutation, IsNonDecreasingBy};
@@ -16,7 +16,7 @@ use crate::note::limits_at;
 use crate::program_header::ProgramHeader;
 use std::alloc::{AllocError, Global};
 
-/// The loadable program headers and the limits of the note before the first header that breaks a rule on its own, and its fault.
+/// The loadable headers and the note's limits found before the first single header that violates a rule, and the fault of that header.
 #[derive(Drop)]
 pub struct Walk {
     pub loads: Vec<ProgramHeader>,
@@ -24,7 +24,7 @@ pub struct Walk {
     pub fault: Option<ElfFault>,
 }
 
-/// The limits that are known behind a header that keeps its rules, where these were known before it.
+/// Returns the limits known after a valid header, given those known before it.
 fn noted(file: &[u8], header: ProgramHeader, known: Option<(u32, u32)>) -> Option<(u32, u32)>
     requires { is_note file.now (fields_of header) ≡ true → header.offset + note_size ≤ length file.now }
     ensures { result ≡ noted file.now known (fields_of header) }
@@ -35,7 +35,7 @@ fn noted(file: &[u8], header: ProgramHeader, known: Option<(u32, u32)>) -> Optio
     known
 }
 
-/// Walks the `count` program headers from the place `table` on.
+/// Walks over the `count` program headers from offset `table` on.
 pub fn walk_table(alloc: Global, file: &[u8], table: u32, count: u16) -> Result<Walk, AllocError>
     requires { table + program_header_size * count ≤ length file.now }
     ensures { IfOk result (λ w. walk_of w ≡ walk file.now None (headers_from file.now table count)) }
@@ -65,7 +65,7 @@ pub fn walk_table(alloc: Global, file: &[u8], table: u32, count: u16) -> Result<
     })
 }
 
-/// The headers in the order of their addresses.
+/// Returns the headers in the order of their addresses.
 fn sorted_by_address(
     alloc: Global,
     loads: &[ProgramHeader],
@@ -78,7 +78,7 @@ fn sorted_by_address(
     Ok(sorted)
 }
 
-/// Whether each header that has memory begins where the one before it ends, or later.
+/// Returns true if each header with memory begins at or after the end of the one before it.
 fn in_order(sorted: &[ProgramHeader]) -> bool
     ensures { result ≡ in_order 0 (map fields_of sorted.now) }
 {
@@ -95,9 +95,9 @@ fn in_order(sorted: &[ProgramHeader]) -> bool
     true
 }
 
-/// Whether no two of the segments share an address.
+/// Returns true if no two of the segments share an address.
 ///
-/// A table may have 65,535 headers, so this sorts them in place of comparing each with each.
+/// A table may have 65,535 headers, so this sorts them instead of comparing all pairs.
 pub fn are_apart(alloc: Global, loads: &[ProgramHeader]) -> Result<bool, AllocError>
     ensures { IfOk result (λ apart. apart ≡ are_apart [] (map fields_of loads.now)) }
 {
@@ -105,7 +105,7 @@ pub fn are_apart(alloc: Global, loads: &[ProgramHeader]) -> Result<bool, AllocEr
     Ok(in_order(&sorted))
 }
 
-/// The segment that a header describes.
+/// Returns the segment that a header describes.
 fn segment_of(alloc: Global, file: &[u8], header: ProgramHeader) -> Result<Segment, AllocError>
     requires { header.offset + header.file_size ≤ length file.now }
     ensures { IfOk result (λ s. segment_contents s ≡ segment_of file.now (fields_of header)) }
@@ -120,7 +120,7 @@ fn segment_of(alloc: Global, file: &[u8], header: ProgramHeader) -> Result<Segme
     })
 }
 
-/// The segments that loadable headers describe, in their order.
+/// Returns the segments that loadable headers describe, in their order.
 pub fn segments_of(
     alloc: Global,
     file: &[u8],

@@ -1,9 +1,10 @@
-//! The writer.
+//! Writes images as files.
 
 ghost use Rattle.std.specs.Prelude.{◌≡◌, ◌+◌, ◌-◌, ◌^◌, ◌<◌, ◌≤◌, ◌++◌, length, map, All, Ok, OnOk, IfOk};
 ghost use Rattle.std.specs.List.{flat_map};
 ghost use Rattle.cyc_elf.specs.Image.{IsWellFormed, contents_of, segment_contents, padded};
-ghost use Rattle.cyc_elf.specs.Layout.{halves, words, file_header, program_header, headers_of, stored, bytes_end, note_headers, note_bytes, notes, note_count, layout, FitsFields};
+ghost use Rattle.cyc_elf.specs.Layout.{halves, words, file_header, program_header, headers_of, stored, bytes_end, note_headers, note_bytes, notes};
+ghost use Rattle.cyc_elf.specs.Layout.{note_count, layout, FitsFields};
 ghost use Rattle.cyc_elf.specs.Outline.{fields_of};
 ghost use Rattle.cyc_elf.specs.inside.Parts.{IsInWords};
 ghost use Rattle.cyc_elf.specs.Reading.{reading};
@@ -15,16 +16,16 @@ use crate::program_header::ProgramHeader;
 use byteorder::{BigEndian, ByteOrder};
 use std::alloc::{AllocError, Global};
 
-/// How a segment is aligned, in the file and in memory.
+/// The alignment of a segment, in the file and in memory.
 const ALIGNMENT: u32 = 4;
 
-/// The size of the file header, as its own field.
+/// The size of the file header, as a field of that header.
 const FILE_HEADER: u16 = 52;
 
-/// The size of a program header, as the file header's field.
+/// The size of a program header, as a field of the file header.
 const PROGRAM_HEADER: u16 = 32;
 
-/// Where the program headers begin: right behind the file header.
+/// The offset of the program headers: directly after the file header.
 const TABLE_OFFSET: u32 = 52;
 
 /// Appends numbers of two bytes each.
@@ -86,14 +87,14 @@ fn put_program_header(out: &mut Vec<u8>, header: ProgramHeader) -> Result<(), Al
     )
 }
 
-/// How many zeros follow `len` bytes up to a whole word.
+/// Returns the number of zeros that pad `len` bytes to whole words.
 fn padding(len: usize) -> usize
     ensures { result ≡ padded len - len }
 {
     (4 - len % 4) % 4
 }
 
-/// Appends a segment's bytes, and zeros up to a whole word.
+/// Appends a segment's bytes, padded with zeros to whole words.
 fn put_bytes(out: &mut Vec<u8>, s: &Segment) -> Result<(), AllocError>
     ensures { OnOk result (out.new.items ≡ out.old.items ++ stored (segment_contents s.now)) }
 {
@@ -103,7 +104,7 @@ fn put_bytes(out: &mut Vec<u8>, s: &Segment) -> Result<(), AllocError>
     Ok(())
 }
 
-/// Appends the program headers of segments whose bytes begin at `start`, and answers where they end.
+/// Appends the program headers of segments whose bytes begin at `start`, and returns the end of their bytes.
 fn put_headers(out: &mut Vec<u8>, segments: &[Segment], start: usize) -> Result<usize, AllocError>
     requires each { All (λ s. length s.bytes.items ≤ s.size) segments.now }
     requires offsets { All (λ h. h.offset < 2 ^ 32) (headers_of start (map segment_contents segments.now)) }
@@ -120,7 +121,7 @@ fn put_headers(out: &mut Vec<u8>, segments: &[Segment], start: usize) -> Result<
     Ok(offset)
 }
 
-/// How many program headers the limits of an image take.
+/// Returns the number of program headers for the limits of an image.
 fn note_count(note: Option<(u32, u32)>) -> usize
     ensures { result ≡ note_count note }
 {
@@ -130,7 +131,7 @@ fn note_count(note: Option<(u32, u32)>) -> usize
     }
 }
 
-/// Appends the program header of a note whose bytes begin at `offset`, where there are limits.
+/// Appends the program header of a note whose bytes begin at `offset`, if there are limits.
 fn put_note_header(
     out: &mut Vec<u8>,
     note: Option<(u32, u32)>,
@@ -146,7 +147,7 @@ fn put_note_header(
     }
 }
 
-/// Appends the bytes of a note that carries limits.
+/// Appends the bytes of a note with limits.
 #[tactic(auto, unfolding(crate::specs::Layout::note_bytes))]
 fn put_note_bytes(out: &mut Vec<u8>, pages: u32, calls: u32) -> Result<(), AllocError>
     ensures bytes { OnOk result (out.new.items ≡ out.old.items ++ note_bytes (pages, calls)) }
@@ -156,7 +157,7 @@ fn put_note_bytes(out: &mut Vec<u8>, pages: u32, calls: u32) -> Result<(), Alloc
     put_words(out, &[pages, calls])
 }
 
-/// Appends the bytes of a note, where there are limits.
+/// Appends the bytes of a note, if there are limits.
 fn put_note(out: &mut Vec<u8>, note: Option<(u32, u32)>) -> Result<(), AllocError>
     ensures bytes { OnOk result (out.new.items ≡ out.old.items ++ notes note) }
 {
@@ -166,7 +167,7 @@ fn put_note(out: &mut Vec<u8>, note: Option<(u32, u32)>) -> Result<(), AllocErro
     }
 }
 
-/// Appends the bytes of an image's segments, each up to a whole word.
+/// Appends the bytes of an image's segments, each padded to whole words.
 fn put_all_bytes(out: &mut Vec<u8>, segments: &[Segment]) -> Result<(), AllocError>
     ensures { OnOk result (out.new.items ≡ out.old.items ++ flat_map stored (map segment_contents segments.now)) }
 {
@@ -176,17 +177,17 @@ fn put_all_bytes(out: &mut Vec<u8>, segments: &[Segment]) -> Result<(), AllocErr
     Ok(())
 }
 
-/// Writes an image as a file: the file header, a program header for each segment, the segments' bytes in
-/// order, each padded with zeros to whole words. Where the image has limits, the program header of their note stands behind the
-/// others, and the note's bytes behind all. There are no section headers.
+/// Writes an image as a file: the file header, a program header for each segment, and the segments' bytes in order, each padded with zeros
+/// to whole words. If the image has limits, the program header of their note follows the others, and the note's bytes are last. The written
+/// file has no section headers.
 ///
-/// The file has 52 bytes, 32 for each segment, and each segment's bytes rounded up to words: zeros that a
-/// segment has past its bytes are not written. Limits take 60 bytes more.
+/// The file has 52 bytes, 32 for each segment, and each segment's bytes rounded up to words; the zeros past a segment's bytes are not
+/// written. Storing limits takes 60 bytes more.
 pub fn write_image(alloc: Global, image: &Image) -> Result<Vec<u8>, AllocError>
     requires well_formed { IsWellFormed (contents_of image.now) }
     requires fits { FitsFields (contents_of image.now) }
     ensures exact { IfOk result (λ file. file.items ≡ layout (contents_of image.now)) }
-    // What is written is read as the same image.
+    // The reader reads the written file as the image that was written.
     ensures read_again { IfOk result (λ file. reading file.items ≡ Ok (contents_of image.now)) }
 {
     let mut file = Vec::new(alloc);

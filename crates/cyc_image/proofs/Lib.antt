@@ -1,0 +1,2 @@
+-- the ranges of an image's limits
+pub mod Limits

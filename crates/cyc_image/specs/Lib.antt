@@ -1,0 +1,2 @@
+-- the contract of `note_of` on the limits of an image, and the statements of compilation about them
+pub mod Notes
