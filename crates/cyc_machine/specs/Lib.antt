@@ -1,19 +1,19 @@
--- the machine: its state, a step, a run, and the state that an image starts with
-pub mod State
-pub mod Step
-pub mod Run
-pub mod Bounds
-pub mod Start
--- the same as a machine among others, and what no step changes
-pub mod WorldMachine
-pub mod Shape
--- what is told of an instruction that prints a byte or wants one
+-- the machine, as `cyc_machine_model` defines it
+pub use Rattle.cyc_machine_model.specs.State
+pub use Rattle.cyc_machine_model.specs.Step
+pub use Rattle.cyc_machine_model.specs.Run
+pub use Rattle.cyc_machine_model.specs.Bounds
+pub use Rattle.cyc_machine_model.specs.Start
+pub use Rattle.cyc_machine_model.specs.WorldMachine
+pub use Rattle.cyc_machine_model.specs.Shape
+-- results for instructions that print or request a byte
 pub mod Exchanging
 -- a machine that exchanges bytes with devices itself
 pub mod Between
 -- the machine over a store of some type
 pub mod Held
--- how the code keeps its memory, which only the crate's own functions speak of
+-- the storage of memory in arrays, used only by the crate's own functions
 pub mod Arrays
--- What the functions of this crate promise each other and what its proofs say: no public contract of the product means it.
+-- Contracts between this crate's functions, and statements of its proofs. No public contract of the product depends on these internal
+-- definitions.
 pub mod inside

@@ -1,4 +1,4 @@
--- how the code keeps its memory, which only the crate's own functions speak of
+-- the fast loop's operations, used only by the crate's own functions
 pub mod Operations
--- how it does a service of the store
+-- the fast loop's services of the store
 pub mod Serving

@@ -1,10 +1,10 @@
-//! A device that gives and takes nothing.
+//! A device that refuses every exchange of a byte.
 
 ghost use Rattle.std.specs.Prelude.{None, false, true};
 
 use cyc_words::{ByteIn, ByteOut, Failed};
 
-/// A device that fails at each call, so that what would be exchanged with it is left to a step.
+/// A device that fails at each call, so that each exchange is left to `step`.
 #[derive(Drop)]
 pub struct Closed;
 

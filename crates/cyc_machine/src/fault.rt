@@ -1,4 +1,4 @@
-//! Why an image cannot be loaded.
+//! The reason why an image cannot be loaded.
 
 ghost use Rattle.std.specs.Prelude.{◌≡◌};
 ghost use Rattle.cyc_machine.specs.declared.fault.LoadFault.TheVariants.{Memory};
@@ -6,10 +6,10 @@ ghost use Rattle.cyc_machine.specs.declared.fault.LoadFault.TheVariants.{Memory}
 use std::alloc::{AllocError, AllocFailed};
 use thiserror::Error;
 
-/// Why an image cannot be loaded.
+/// The reason why an image cannot be loaded.
 #[derive(Clone, Copy, Debug, PartialEq, Eq, Error)]
 pub enum LoadFault {
-    /// A segment that is not empty lies neither wholly in the text range nor wholly in the data range.
+    /// A non-empty segment is neither wholly in the text range nor wholly in the data range.
     #[error("a segment lies outside the text range and the data range")]
     Outside,
     /// Memory ran out.

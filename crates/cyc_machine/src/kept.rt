@@ -1,13 +1,14 @@
-//! Ranges of which only some words are kept, where the others are 0. Of the data range these are the first ones, and of the stack the
-//! last ones. There is room for all of them, and what is kept grows when a word is loaded or written that is not.
+//! Partially stored ranges: the first words of the data range and the last words of the stack are stored, and the others are 0. Space is
+//! reserved for all words of the range, and the stored part grows when another word is loaded or written.
 
-ghost use Rattle.std.specs.Prelude.{◌≡◌, ◌+◌, ◌-◌, ◌*◌, ◌^◌, ◌<◌, ◌≤◌, ◌++◌, length, max, min, nat_le, replicate, slice_index, slice_set, vec_capacity, if◌then◌else◌};
+ghost use Rattle.std.specs.Prelude.{◌≡◌, ◌+◌, ◌-◌, ◌*◌, ◌^◌, ◌<◌, ◌≤◌, ◌++◌, length, max, min, nat_le, replicate, slice_index, slice_set};
+ghost use Rattle.std.specs.Prelude.{vec_capacity, if◌then◌else◌};
 ghost use Rattle.cyc_machine.specs.Arrays.{all_globals, all_stack};
 
-use crate::constants::DATA_WORDS;
+use cyc_machine_model::constants::DATA_WORDS;
 
-/// How many words are to be kept of so many, where so many are, and so many are wanted: if more, then twice as many, so that each is
-/// moved but a few times.
+/// Returns the number of words to store, given the stored number, the required one and the maximum. The number at least doubles when it
+/// grows, so that each word is moved only a few times.
 fn kept_next(kept: usize, wanted: usize, most: usize) -> usize
     requires kept { kept ≤ most }
     requires short { most ≤ 2 ^ 32 }
@@ -20,7 +21,7 @@ fn kept_next(kept: usize, wanted: usize, most: usize) -> usize
     }
 }
 
-/// Keeps so many words from the first one on.
+/// Stores `count` words from the first one on.
 fn keep_first(kept: &mut Vec<u32>, count: usize)
     requires more { length kept.old.items ≤ count }
     requires room { count ≤ vec_capacity kept.old }
@@ -32,7 +33,7 @@ fn keep_first(kept: &mut Vec<u32>, count: usize)
     };
 }
 
-/// Keeps so many words up to the last one.
+/// Stores `count` words up to the last one.
 fn keep_last(kept: &mut Vec<u32>, count: usize)
     requires more { length kept.old.items ≤ count }
     requires room { count ≤ vec_capacity kept.old }
@@ -47,7 +48,7 @@ fn keep_last(kept: &mut Vec<u32>, count: usize)
     kept.rotate_right(more);
 }
 
-/// The word of the data range with this number.
+/// Returns the word of the data range with this number.
 pub fn global_word(kept: &[u32], number: usize) -> u32
     requires { number < DATA_WORDS }
     ensures { result ≡ slice_index (all_globals kept.now) number }
@@ -69,7 +70,7 @@ pub fn set_global_word(kept: &mut Vec<u32>, number: usize, word: u32)
     kept[number] = word;
 }
 
-/// Keeps the word of the data range with this number, and those before it, as one that was written.
+/// Extends the stored part of the data range to the word with this number, which is about to be accessed.
 pub fn keep_global_word(kept: &mut Vec<u32>, number: usize)
     requires inside { number < DATA_WORDS }
     requires short { length kept.old.items ≤ DATA_WORDS }
@@ -83,7 +84,7 @@ pub fn keep_global_word(kept: &mut Vec<u32>, number: usize)
     keep_first(kept, next);
 }
 
-/// The word with this number of a stack of so many, from the lowest one on.
+/// Returns the word with this number of a stack of `count` words, counted from the lowest one.
 pub fn stack_word(kept: &[u32], count: usize, number: usize) -> u32
     requires inside { number < count }
     requires short { length kept.now ≤ count }
@@ -97,7 +98,7 @@ pub fn stack_word(kept: &[u32], count: usize, number: usize) -> u32
     }
 }
 
-/// Writes the word with this number of a stack of so many, from the lowest one on.
+/// Writes the word with this number of a stack of `count` words, counted from the lowest one.
 pub fn set_stack_word(kept: &mut Vec<u32>, count: usize, number: usize, word: u32)
     requires inside { number < count }
     requires short { length kept.old.items ≤ count }
@@ -113,7 +114,7 @@ pub fn set_stack_word(kept: &mut Vec<u32>, count: usize, number: usize, word: u3
     kept[next - wanted] = word;
 }
 
-/// Keeps the word with this number of a stack of so many, and those above it, as one that was written.
+/// Extends the stored part of a stack of `count` words down to the word with this number, which is about to be accessed.
 pub fn keep_stack_word(kept: &mut Vec<u32>, count: usize, number: usize)
     requires inside { number < count }
     requires short { length kept.old.items ≤ count }

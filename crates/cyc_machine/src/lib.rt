@@ -3,25 +3,21 @@
 
 mod access;
 mod closed;
-pub mod constants;
-mod event;
 mod exchanged;
 mod fast;
 mod fault;
 mod kept;
-pub mod laws;
 mod limits;
 mod machine;
 mod memory;
 mod operation;
-mod phase;
 mod registers;
 mod results;
 mod service;
 mod start;
 mod text;
 
-pub use event::{Cause, End, Event, Exchange, Stretch};
+pub use cyc_machine_model::{Cause, End, Event, Exchange, Stretch, constants, laws};
 pub use exchanged::{Ahead, Device, Exchanged, NOTHING, note_byte};
 pub use fault::LoadFault;
 pub use limits::Limits;

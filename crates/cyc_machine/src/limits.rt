@@ -1,21 +1,21 @@
-//! What a run may take.
+//! The limits of a run.
 
 ghost use Rattle.std.specs.Prelude.{◌≡◌, ◌≤◌, ◌↔◌, IsSome, IfSome};
-ghost use Rattle.cyc_machine.specs.Bounds.{AreAllowed};
+ghost use Rattle.cyc_machine_model.specs.Bounds.{AreAllowed};
 
-use crate::constants::{MAX_CALLS, MAX_PAGES, MIN_CALLS, MIN_PAGES};
+use cyc_machine_model::constants::{MAX_CALLS, MAX_PAGES, MIN_CALLS, MIN_PAGES};
 use std::marker::Model;
 
-/// The limits of a run: pages of the store, from 3 to 65,536, and calls under way at once, from 1 to 4,096.
+/// The limits of a run: pages of the store, from 3 to 65,536, and calls at once, from 1 to 4,096.
 #[derive(Clone, Copy, Debug, PartialEq, Eq)]
 pub struct Limits {
     pages: u32,
     calls: u32,
 }
 
-// Clauses see both numbers.
+// Contracts refer to both numbers.
 impl Model for Limits {
-    ghost use Rattle.cyc_machine.specs.Bounds.{Bounds, AreAllowed};
+    ghost use Rattle.cyc_machine_model.specs.Bounds.{Bounds, AreAllowed};
 
     ghost Value = { Bounds };
 
@@ -27,7 +27,7 @@ impl Model for Limits {
 }
 
 impl Limits {
-    /// The limits, or `None` exactly where one of the numbers is out of its range.
+    /// Returns the limits, or `None` exactly if one of the numbers is out of its range.
     pub fn new(pages: u32, calls: u32) -> Option<Limits>
         ensures allowed { IsSome result ↔ AreAllowed pages calls }
         ensures values { IfSome result (λ l. l ≡ record { pages = pages; calls = calls }) }
@@ -39,7 +39,7 @@ impl Limits {
         }
     }
 
-    /// How many pages of 4,096 bytes the store has.
+    /// Returns the number of pages of the store, of 4,096 bytes each.
     pub fn pages(&self) -> u32
         ensures value { result ≡ self.now.pages }
         ensures allowed { AreAllowed self.now.pages self.now.calls }
@@ -47,7 +47,7 @@ impl Limits {
         self.pages
     }
 
-    /// How many calls may be under way at once. The stack has 256 words for each.
+    /// Returns the most calls at once. The stack has 256 words for each.
     pub fn calls(&self) -> u32
         ensures value { result ≡ self.now.calls }
         ensures allowed { AreAllowed self.now.pages self.now.calls }

@@ -1,14 +1,15 @@
-//! What the instructions compute of words.
+//! The results of the instructions on words.
 
 ghost use Rattle.std.specs.Prelude.{◌≡◌, ◌<◌, ◌^◌};
 ghost use Rattle.cyc_words.specs.Word.{sign_extended};
 ghost use Rattle.cyc_words.specs.Bytes.{word_of};
-ghost use Rattle.cyc_isa.specs.Effect.{immediate_result, load_upper_result, shift_result, arithmetic_result, high_result, low_result, branch_taken, branch_zero_taken, branch_target, jump_target, return_address};
+ghost use Rattle.cyc_isa.specs.Effect.{immediate_result, load_upper_result, shift_result, arithmetic_result, high_result, low_result, branch_taken};
+ghost use Rattle.cyc_isa.specs.Effect.{branch_zero_taken, branch_target, jump_target, return_address};
 
 use cyc_isa::{ArithmeticOp, BranchOp, BranchZeroOp, ImmediateOp, MultiplyDivideOp, ShiftOp};
 use cyc_words::{add, mul, sar, shl, shr, slt, sltu, sub};
 
-/// A 16-bit immediate or offset as a word, extended by its sign.
+/// Returns a 16-bit immediate or offset as a word, sign-extended.
 #[inline]
 #[tactic(auto, unfolding(cyc_words::specs::Word::sign_extended))]
 pub fn sign_extend(half: u16) -> u32
@@ -17,7 +18,7 @@ pub fn sign_extend(half: u16) -> u32
     i32::from(half.cast_signed()).cast_unsigned()
 }
 
-/// The address of the word that holds the byte at an address.
+/// Returns the address of the word that contains the byte at an address.
 #[inline]
 pub fn word_of(address: u32) -> u32
     ensures { result ≡ word_of address }
@@ -25,7 +26,7 @@ pub fn word_of(address: u32) -> u32
     address / 4 * 4
 }
 
-/// The result of an operation on a register and an immediate.
+/// Returns the result of an operation on a register and an immediate.
 #[inline]
 pub fn immediate(op: ImmediateOp, a: u32, half: u16) -> u32
     ensures { result ≡ immediate_result op a half }
@@ -40,7 +41,7 @@ pub fn immediate(op: ImmediateOp, a: u32, half: u16) -> u32
     }
 }
 
-/// An immediate in the upper half of a word.
+/// Returns an immediate in the upper half of a word.
 #[inline]
 pub fn upper(half: u16) -> u32
     ensures { result ≡ load_upper_result half }
@@ -48,7 +49,7 @@ pub fn upper(half: u16) -> u32
     u32::from(half) << 16
 }
 
-/// The result of a shift by the low five bits of a count.
+/// Returns the result of a shift by the low five bits of a count.
 #[inline]
 pub fn shift(op: ShiftOp, a: u32, count: u32) -> u32
     ensures { result ≡ shift_result op a count }
@@ -60,7 +61,7 @@ pub fn shift(op: ShiftOp, a: u32, count: u32) -> u32
     }
 }
 
-/// The result of an operation on two registers.
+/// Returns the result of an operation on two registers.
 #[inline]
 pub fn arithmetic(op: ArithmeticOp, a: u32, b: u32) -> u32
     ensures { result ≡ arithmetic_result op a b }
@@ -77,7 +78,7 @@ pub fn arithmetic(op: ArithmeticOp, a: u32, b: u32) -> u32
     }
 }
 
-/// The upper and the lower word of the signed product.
+/// Returns the upper and the lower word of the signed product.
 #[inline]
 pub fn product(a: u32, b: u32) -> (u32, u32)
     ensures high { result.0 ≡ high_result MultiplyDivideOp.Multiply a b }
@@ -87,7 +88,7 @@ pub fn product(a: u32, b: u32) -> (u32, u32)
     ((bits >> 32) as u32, (bits % 0x1_0000_0000) as u32)
 }
 
-/// Whether a branch on two registers is taken.
+/// Returns true if a branch on two registers is taken.
 #[inline]
 pub fn taken(op: BranchOp, a: u32, b: u32) -> bool
     ensures { result ≡ branch_taken op a b }
@@ -98,7 +99,7 @@ pub fn taken(op: BranchOp, a: u32, b: u32) -> bool
     }
 }
 
-/// Whether a branch on the sign of a register is taken.
+/// Returns true if a branch on the sign of a register is taken.
 #[inline]
 pub fn taken_by_sign(op: BranchZeroOp, a: u32) -> bool
     ensures { result ≡ branch_zero_taken op a }
@@ -112,7 +113,7 @@ pub fn taken_by_sign(op: BranchZeroOp, a: u32) -> bool
     }
 }
 
-/// Where a branch at an address goes to.
+/// Returns the target of a branch at an address.
 #[inline]
 pub fn branch_goes_to(address: u32, offset: u16) -> u32
     ensures { result ≡ branch_target address offset }
@@ -120,7 +121,7 @@ pub fn branch_goes_to(address: u32, offset: u16) -> u32
     add(add(address, 4), mul(4, sign_extend(offset)))
 }
 
-/// Where a jump at an address goes to.
+/// Returns the target of a jump at an address.
 #[inline]
 pub fn jump_goes_to(address: u32, index: u32) -> u32
     requires { index < 2 ^ 26 }
@@ -129,7 +130,7 @@ pub fn jump_goes_to(address: u32, index: u32) -> u32
     add(address, 4) / 0x1000_0000 * 0x1000_0000 + index * 4
 }
 
-/// The address behind the delay slot of a call.
+/// Returns the address after the delay slot of a call.
 #[inline]
 pub fn link(address: u32) -> u32
     ensures { result ≡ return_address address }

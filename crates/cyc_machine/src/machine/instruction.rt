@@ -1,15 +1,15 @@
-//! What the machine does by an instruction.
+//! The effect of an instruction on the machine.
 
 ghost use Rattle.std.specs.Prelude.{◌≡◌};
 ghost use Rattle.cyc_machine.specs.Held.{state_of};
-ghost use Rattle.cyc_machine.specs.Step.{ActsOver, action_of, executes};
+ghost use Rattle.cyc_machine_model.specs.Step.{ActsOver, action_of, executes};
 ghost use Rattle.cyc_machine.specs.Exchanging.{ActsAs};
 
 use super::Machine;
-use crate::event::{Cause, Event, Exchange};
 use crate::results::{sign_extend, word_of};
 use crate::text::TextWord;
 use cyc_isa::{ExceptionOp, Instr, MemoryOp, MultiplyDivideOp, Register};
+use cyc_machine_model::{Cause, Event, Exchange};
 use cyc_store::Store;
 use cyc_words::{add, byte_in, with_byte};
 
@@ -162,8 +162,8 @@ impl<S: Store + Drop> Machine<S> {
         Event::Ran
     }
 
-    /// Keeps the word that a load asks for, where one of the data range or of the stack was never written: so only the first load of
-    /// it is left to a step.
+    /// Stores the word that a load accesses, if it is one of the data range or the stack that was never stored. Only the first load of such
+    /// a word is left to `step`.
     fn keep(&mut self, base: Register, offset: u16)
         ensures { self.new ≡ self.old }
     {
@@ -171,10 +171,11 @@ impl<S: Store + Drop> Machine<S> {
         self.memory.keep(address);
     }
 
-    /// A load of a word.
+    /// Loads a word.
     #[inline]
     fn load_word(&mut self, target: Register, base: Register, offset: u16) -> Event
-        ensures { ActsOver S.GROWS (executes (state_of S.held self.old) (Instr.Memory MemoryOp.LoadWord target base offset)) (state_of S.held self.old) result (state_of S.held self.new) }
+        ensures { ActsOver S.GROWS (executes (state_of S.held self.old) (Instr.Memory MemoryOp.LoadWord target base offset))
+            (state_of S.held self.old) result (state_of S.held self.new) }
     {
         let address = add(self.core.get(base), sign_extend(offset));
         if address % 4 != 0 {
@@ -190,10 +191,11 @@ impl<S: Store + Drop> Machine<S> {
         }
     }
 
-    /// A store of a word.
+    /// Stores a word.
     #[inline]
     fn store_word(&mut self, source: Register, base: Register, offset: u16) -> Event
-        ensures { ActsOver S.GROWS (executes (state_of S.held self.old) (Instr.Memory MemoryOp.StoreWord source base offset)) (state_of S.held self.old) result (state_of S.held self.new) }
+        ensures { ActsOver S.GROWS (executes (state_of S.held self.old) (Instr.Memory MemoryOp.StoreWord source base offset))
+            (state_of S.held self.old) result (state_of S.held self.new) }
     {
         let address = add(self.core.get(base), sign_extend(offset));
         if address % 4 != 0 {
@@ -212,10 +214,11 @@ impl<S: Store + Drop> Machine<S> {
         }
     }
 
-    /// A load of a byte.
+    /// Loads a byte.
     #[inline]
     fn load_byte(&mut self, target: Register, base: Register, offset: u16) -> Event
-        ensures { ActsOver S.GROWS (executes (state_of S.held self.old) (Instr.Memory MemoryOp.LoadByte target base offset)) (state_of S.held self.old) result (state_of S.held self.new) }
+        ensures { ActsOver S.GROWS (executes (state_of S.held self.old) (Instr.Memory MemoryOp.LoadByte target base offset))
+            (state_of S.held self.old) result (state_of S.held self.new) }
     {
         let address = add(self.core.get(base), sign_extend(offset));
         match self.memory.load(self.pages, &self.store, word_of(address)) {
@@ -228,10 +231,11 @@ impl<S: Store + Drop> Machine<S> {
         }
     }
 
-    /// A store of a byte, which leaves the other bytes of its word.
+    /// Stores a byte and keeps the other bytes of its word.
     #[inline]
     fn store_byte(&mut self, source: Register, base: Register, offset: u16) -> Event
-        ensures { ActsOver S.GROWS (executes (state_of S.held self.old) (Instr.Memory MemoryOp.StoreByte source base offset)) (state_of S.held self.old) result (state_of S.held self.new) }
+        ensures { ActsOver S.GROWS (executes (state_of S.held self.old) (Instr.Memory MemoryOp.StoreByte source base offset))
+            (state_of S.held self.old) result (state_of S.held self.new) }
     {
         let address = add(self.core.get(base), sign_extend(offset));
         let place = word_of(address);
@@ -250,10 +254,11 @@ impl<S: Store + Drop> Machine<S> {
         }
     }
 
-    /// A division, unless its result is unpredictable.
+    /// Divides, unless the result is unpredictable.
     #[inline]
     fn divide(&mut self, left: Register, right: Register) -> Event
-        ensures { ActsOver S.GROWS (executes (state_of S.held self.old) (Instr.MultiplyDivide MultiplyDivideOp.Divide left right)) (state_of S.held self.old) result (state_of S.held self.new) }
+        ensures { ActsOver S.GROWS (executes (state_of S.held self.old) (Instr.MultiplyDivide MultiplyDivideOp.Divide left right))
+            (state_of S.held self.old) result (state_of S.held self.new) }
     {
         let divisor = self.core.get(right);
         if divisor == 0 || self.core.get(left) == 0x8000_0000 && divisor == u32::MAX {
@@ -263,7 +268,7 @@ impl<S: Store + Drop> Machine<S> {
         Event::Ran
     }
 
-    /// Fetches an instruction, and executes it where it prints a byte or wants one.
+    /// Fetches an instruction, and executes it if it prints or requests a byte.
     #[inline(always)]
     pub(super) fn exchange_next(&mut self) -> Exchange
         ensures { ActsAs result (action_of (state_of S.held self.old)) (state_of S.held self.old) (state_of S.held self.new) }
@@ -278,7 +283,7 @@ impl<S: Store + Drop> Machine<S> {
         }
     }
 
-    /// Executes an instruction that prints a byte or wants one.
+    /// Executes an instruction that prints or requests a byte.
     #[inline(always)]
     fn exchange_by(&mut self, instr: Instr) -> Exchange
         ensures { ActsAs result (executes (state_of S.held self.old) instr) (state_of S.held self.old) (state_of S.held self.new) }

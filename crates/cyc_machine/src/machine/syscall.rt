@@ -1,24 +1,23 @@
-//! What the machine does by a `syscall`: the services.
+//! The effect of a `syscall` on the machine: the services.
 
 ghost use Rattle.std.specs.Prelude.{◌≡◌};
 ghost use Rattle.cyc_machine.specs.Held.{state_of};
-ghost use Rattle.cyc_machine.specs.Step.{Calls, Asks, ActsOver, GoesOnWith, calls, asked, answered};
+ghost use Rattle.cyc_machine_model.specs.Step.{Calls, Asks, ActsOver, GoesOnWith, calls, asked, answered};
 ghost use Rattle.cyc_machine.specs.Exchanging.{ActsAs};
 ghost use Rattle.cyc_store.specs.Answers.{refused};
 ghost use Rattle.cyc_store.specs.Services.{OpenLexical, CloseTo, OpenDynamic, CloseDynamic, Allocate, Free, Done, Allocated};
 
 use super::Machine;
-use crate::constants::{
+use cyc_isa::Register;
+use cyc_machine_model::constants::{
     ALLOCATE, ARGUMENT, CLOSE_DYNAMIC, CLOSE_LEXICAL, END_FULL, END_RETURNED, END_UNCAUGHT, FREE,
     GET_BYTE, OPEN_DYNAMIC, OPEN_LEXICAL, PUT_BYTE, SECOND_ANSWER, SECOND_ARGUMENT, SERVICE,
 };
-use crate::event::{Cause, End, Event, Exchange};
-use crate::phase::Phase;
-use cyc_isa::Register;
+use cyc_machine_model::{Cause, End, Event, Exchange, Phase};
 use cyc_store::{No, Store};
 
 impl<S: Store + Drop> Machine<S> {
-    /// A service of `syscall`.
+    /// Executes a service of `syscall`.
     pub(super) fn service(&mut self) -> Event
         ensures { ActsOver S.GROWS (calls (asked self.old.core) (state_of S.held self.old)) (state_of S.held self.old) result (state_of S.held self.new) }
     {
@@ -48,7 +47,7 @@ impl<S: Store + Drop> Machine<S> {
         }
     }
 
-    /// A service of `syscall` that prints a byte or wants one.
+    /// Executes a service of `syscall` that prints or requests a byte.
     #[inline(always)]
     pub(super) fn byte_service(&mut self) -> Exchange
         ensures { ActsAs result (calls (asked self.old.core) (state_of S.held self.old)) (state_of S.held self.old) (state_of S.held self.new) }
@@ -67,7 +66,7 @@ impl<S: Store + Drop> Machine<S> {
         }
     }
 
-    /// Goes on with the next instruction.
+    /// Continues with the next instruction.
     fn go_on(&mut self) -> Event
         ensures event { result ≡ Event.Ran }
         ensures state { state_of S.held self.new ≡ answered (state_of S.held self.old) Done }
@@ -76,7 +75,7 @@ impl<S: Store + Drop> Machine<S> {
         Event::Ran
     }
 
-    /// Goes on with a word that the store gave.
+    /// Continues with the next instruction, after the store returned a word.
     fn give_word(&mut self, word: u32) -> Event
         ensures event { result ≡ Event.Ran }
         ensures state { state_of S.held self.new ≡ answered (state_of S.held self.old) (Allocated word) }
@@ -85,7 +84,7 @@ impl<S: Store + Drop> Machine<S> {
         self.go_on()
     }
 
-    /// Goes on with the reason why the store opened no region, or made no block.
+    /// Continues after the store refused to open a region or to allocate a block, for this reason.
     fn refuse_service(&mut self, why: No) -> Event
         ensures { GoesOnWith (refused why) (state_of S.held self.old) result (state_of S.held self.new) }
     {
@@ -115,7 +114,7 @@ impl<S: Store + Drop> Machine<S> {
         }
     }
 
-    /// Closes the newest lexical regions until so many are open.
+    /// Closes the newest lexical regions until `mark` are open.
     fn close_lexical(&mut self, mark: u32) -> Event
         ensures { ActsOver S.GROWS (Calls (Asks (CloseTo mark))) (state_of S.held self.old) result (state_of S.held self.new) }
     {
@@ -145,7 +144,7 @@ impl<S: Store + Drop> Machine<S> {
         }
     }
 
-    /// Makes a block of so many words in a region.
+    /// Allocates a block of `words` words in a region.
     fn allocate(&mut self, handle: u32, words: u32) -> Event
         ensures { ActsOver S.GROWS (Calls (Asks (Allocate handle words))) (state_of S.held self.old) result (state_of S.held self.new) }
     {

@@ -1,5 +1,5 @@
 use Rattle.std.proofs.Common.{◌≡◌, ◌∙◌, ℕ, ◌+◌, ◌-◌, List, length, ap, arith}
-use Rattle.cyc_machine.specs.declared.constants.TheConstants.{DATA_WORDS}
+use Rattle.cyc_machine_model.specs.declared.constants.TheConstants.{DATA_WORDS}
 use Rattle.cyc_machine.specs.Arrays.{all_globals}
 use Rattle.cyc_machine.proofs.Widening.{globals-more, next-enough}
 use Rattle.cyc_machine.proofs.kept.keep_global_word.Goals as goal

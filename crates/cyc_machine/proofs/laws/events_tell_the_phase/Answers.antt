@@ -1,5 +1,0 @@
-use Rattle.cyc_machine.proofs.PhaseLaws.{Step-phase}
-use Rattle.cyc_machine.proofs.laws.events_tell_the_phase.Goals as goal
-
-pub returns : goal.returns
-returns c old new event step = Step-phase old event new step

@@ -1,0 +1,15 @@
+-- The limits of a run. The ranges are this project's own choice.
+use Rattle.std.specs.Prelude.{ℕ, ◌≤◌}
+use Rattle.cyc_machine_model.specs.declared.constants.TheConstants.{MIN_PAGES, MAX_PAGES, MIN_CALLS, MAX_CALLS}
+
+-- The number of pages of the store, and the most calls at once.
+pub record Bounds : Type 0 where
+  pub pages : ℕ
+  pub calls : ℕ
+
+-- Both limits are in their ranges.
+pub record AreAllowed (pages calls : ℕ) : Type 0 where
+  pub enough_pages : MIN_PAGES ≤ pages
+  pub few_pages : pages ≤ MAX_PAGES
+  pub enough_calls : MIN_CALLS ≤ calls
+  pub few_calls : calls ≤ MAX_CALLS
