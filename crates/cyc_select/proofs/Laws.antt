@@ -1,16 +1,16 @@
--- The labelled machine is lawful: what was printed stays printed, and a run that has ended stays as it is.
+-- The labelled machine satisfies the laws of transition systems: output only grows, and a run that has ended stays as it is.
 use Rattle.std.proofs.Common.{◌≡◌, ℕ, ◌+◌, Bool, true, false, [], ◌∷◌, Option, Some, None, slice_get, refl, sym, ap, subst, ◌∙◌, inl, inr}
 use Rattle.cyc_words.specs.Ending.{Ending}
 use Rattle.cyc_words.specs.Seen.{showing, ComesTo}
 use Rattle.cyc_words.proofs.PrefixLemmas.{IsPrefix-refl, IsPrefix-append}
 use Rattle.cyc_words.proofs.SeenLemmas.{ComesTo-refl}
 use Rattle.cyc_isa.specs.declared.instr.Instr.{Instr}
-use Rattle.cyc_machine.specs.State as machines
-use Rattle.cyc_machine.specs.Run.{World, told, ending_of}
-use Rattle.cyc_machine.specs.declared.event.Event.{Event}
-use Rattle.cyc_machine.specs.declared.event.Event.TheVariants.{Ran, WantsByte, Puts, Ended, NoMemory}
-use Rattle.cyc_machine.specs.declared.phase.Phase.{Phase}
-use Rattle.cyc_machine.specs.declared.phase.Phase.TheVariants as phases
+use Rattle.cyc_machine_model.specs.State as machines
+use Rattle.cyc_machine_model.specs.Run.{World, reported, ending_of}
+use Rattle.cyc_machine_model.specs.declared.event.Event.{Event}
+use Rattle.cyc_machine_model.specs.declared.event.Event.TheVariants.{Ran, WantsByte, Puts, Ended, NoMemory}
+use Rattle.cyc_machine_model.specs.declared.phase.Phase.{Phase}
+use Rattle.cyc_machine_model.specs.declared.phase.Phase.TheVariants as phases
 use Rattle.cyc_words.specs.Simulation as simulation
 use Rattle.cyc_words.specs.inside.Following.{IsLawful}
 use Rattle.cyc_words.proofs.Lists.{read_before_drop}
@@ -32,16 +32,16 @@ settled_seen w line phases.Running = refl
 settled_seen w line phases.Waiting = refl
 settled_seen w line (phases.Over end) = closed_seen w (ending_of end)
 
-told_grows : (w : World) (event : Event) (s : machines.State) → ComesTo (showing w.output w.input) (showing (told w event s).output (told w event s).input)
-told_grows w Ran s = ComesTo-refl (showing w.output w.input)
-told_grows w WantsByte s = (IsPrefix-refl w.output, read_before_drop 1 w.input)
-told_grows w (Puts byte) s = (IsPrefix-append w.output (byte ∷ []), ([], refl))
-told_grows w (Ended end) s = ComesTo-refl (showing w.output w.input)
-told_grows w NoMemory s = ComesTo-refl (showing w.output w.input)
+reported_grows : (w : World) (event : Event) (s : machines.State) → ComesTo (showing w.output w.input) (showing (reported w event s).output (reported w event s).input)
+reported_grows w Ran s = ComesTo-refl (showing w.output w.input)
+reported_grows w WantsByte s = (IsPrefix-refl w.output, read_before_drop 1 w.input)
+reported_grows w (Puts byte) s = (IsPrefix-append w.output (byte ∷ []), ([], refl))
+reported_grows w (Ended end) s = ComesTo-refl (showing w.output w.input)
+reported_grows w NoMemory s = ComesTo-refl (showing w.output w.input)
 
 ordinary_grows : (b : Bool) (c : Configuration) (i : Instr) (new : State) → PerformsOrdinary b c i new → Grows c new
 ordinary_grows true c i new (event, s, acts, is) =
-    subst (ComesTo (showing c.output c.input)) (sym (ap seen_of is ∙ settled_seen (told (world_of c) event s) (c.line + 1) (told (world_of c) event s).machine.phase)) (told_grows (world_of c) event s)
+    subst (ComesTo (showing c.output c.input)) (sym (ap seen_of is ∙ settled_seen (reported (world_of c) event s) (c.line + 1) (reported (world_of c) event s).machine.phase)) (reported_grows (world_of c) event s)
 ordinary_grows false c i new is = subst (Grows c) (sym is) (ComesTo-refl (showing c.output c.input))
 
 executes_grows : (code : Labelled) (addresses : ℕ → ℕ) (c : Configuration) (line : Line) (new : State) → Executes code addresses c line new → Grows c new

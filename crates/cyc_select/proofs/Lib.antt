@@ -1,4 +1,4 @@
--- A folder for each topic; what each has is said at the head of its file.
+-- A folder for each topic; each file begins with its contents.
 pub mod emission
 pub mod layout
 pub mod effects
@@ -6,7 +6,7 @@ pub mod values
 pub mod relation
 pub mod steps
 pub mod runs
--- what the contract of `select` rests on
+-- the results that the contract of `select` rests on
 pub mod Laws
--- lines counted by computation
+-- numbers of lines, proved by computation
 pub mod Examples

@@ -1,4 +1,4 @@
--- what an ordinary instruction does to registers and memory, and stretches of a run
+-- effects of ordinary instructions on registers and memory, and stretches of a run
 pub mod Views
 pub mod Effects
 pub mod Sequences

@@ -1,4 +1,4 @@
--- what the methods that make lines promise each other, and how many lines they make
+-- the contracts of the emitting methods, and the numbers of lines that they emit
 pub mod Emitting
 pub mod Counts
 pub mod Numbering

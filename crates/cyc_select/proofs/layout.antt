@@ -1,4 +1,4 @@
--- the code is formed, has its places, and stands where the counts say
+-- the code is well-formed, fits the text range, and stands at the counted lines
 pub mod Whole
 pub mod Inside
 pub mod Formed

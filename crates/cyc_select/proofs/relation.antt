@@ -1,4 +1,4 @@
--- when a state of the machine stands for one of the plain program
+-- the simulation relation between machine states and plain states
 pub mod Matches
 pub mod Waiting
 pub mod Standing

@@ -1,3 +1,3 @@
--- any instruction, and whole runs
+-- the simulation of any instruction, and of whole runs
 pub mod Runs
 pub mod Start

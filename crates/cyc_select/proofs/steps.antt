@@ -1,4 +1,4 @@
--- one instruction each
+-- the simulation of each group of instructions
 pub mod Answers
 pub mod Hoisting
 pub mod Simple
@@ -16,7 +16,7 @@ pub mod Entries
 pub mod Passing
 pub mod Copies
 pub mod Returns
-pub mod Behind
+pub mod Trailing
 pub mod Leaving
 pub mod Records
 pub mod Handlers

@@ -1,4 +1,4 @@
--- what the lines of operands, plans and tests leave in registers
+-- the registers after the lines of operands, plans and tests
 pub mod Blocks
 pub mod Operations
 pub mod Halves

@@ -1,8 +1,8 @@
--- what the contract of `select` rests on
+-- the results that the contract of `select` rests on
 pub mod Labelled
 pub mod Machine
 pub mod Selected
--- what the functions inside the crate promise each other
+-- the contracts between the functions inside the crate
 pub mod Numbers
 pub mod Plans
 pub mod Instructions

@@ -1,4 +1,4 @@
-//! The lines that call the store.
+//! Emits the lines of requests to the store.
 ghost use Rattle.std.specs.Prelude.{◌≡◌, ◌+◌, ◌≤◌, [], ◌∷◌, OnOk};
 ghost use Rattle.cyc_plain.specs.inside.Requests.{first_operand, second_operand, answer_count, destination_of};
 ghost use Rattle.cyc_select.specs.inside.Slots.{give_code};
@@ -12,14 +12,14 @@ use crate::emitter::Emitter;
 use crate::instructions::{add_immediate, small, syscall};
 use crate::operands::{give_count, load_count};
 use cyc_frame::Frame;
-use cyc_machine::constants::{
+use cyc_machine_model::constants::{
     ALLOCATE, ARGUMENT, CLOSE_DYNAMIC, CLOSE_LEXICAL, FREE, OPEN_DYNAMIC, OPEN_LEXICAL,
     SECOND_ANSWER, SECOND_ARGUMENT, SERVICE,
 };
 use cyc_plain::{MOST_FRAME_WORDS, Request};
 use std::alloc::AllocError;
 
-/// Which service a request is.
+/// Returns the number of the service that serves a request.
 fn service_number(request: Request) -> u16
     ensures { result ≡ service_number request }
 {
@@ -33,7 +33,7 @@ fn service_number(request: Request) -> u16
     }
 }
 
-/// The lines of a call of the store.
+/// Returns the number of lines of a request to the store.
 pub(crate) fn ask_count(frame: &Frame, request: Request) -> usize
     requires { destination_of request + answer_count request ≤ MOST_FRAME_WORDS }
     ensures value { result ≡ ask_count frame.now request }
@@ -56,7 +56,7 @@ pub(crate) fn ask_count(frame: &Frame, request: Request) -> usize
 }
 
 impl Emitter {
-    /// The first word that a request takes, where it takes one.
+    /// Loads the first operand of a request, if it has one.
     fn first_argument(&mut self, frame: &Frame, request: Request) -> Result<(), AllocError>
         requires { IsArgumentFound frame.now (first_operand request) }
         ensures { AddsLines result self.old self.new (ordinary (argument_code frame.now ARGUMENT (first_operand request))) }
@@ -71,7 +71,7 @@ impl Emitter {
         }
     }
 
-    /// The second word that a request takes, where it takes one.
+    /// Loads the second operand of a request, if it has one.
     fn second_argument(&mut self, frame: &Frame, request: Request) -> Result<(), AllocError>
         requires { IsArgumentFound frame.now (second_operand request) }
         ensures { AddsLines result self.old self.new (ordinary (argument_code frame.now SECOND_ARGUMENT (second_operand request))) }
@@ -82,7 +82,7 @@ impl Emitter {
         }
     }
 
-    /// A register tells how many lexical regions are open then.
+    /// Updates the register that counts the open lexical regions.
     fn regions(&mut self, request: Request) -> Result<(), AllocError>
         ensures { AddsLines result self.old self.new (ordinary (regions_code request)) }
     {
@@ -98,7 +98,7 @@ impl Emitter {
         }
     }
 
-    /// What the store answers comes into slots.
+    /// Moves the store's result into slots.
     fn answer(&mut self, frame: &Frame, request: Request) -> Result<(), AllocError>
         requires { AreReached frame.now (destination_of request) (answer_count request) }
         ensures { AddsLines result self.old self.new (ordinary (answer_code frame.now request)) }
@@ -128,7 +128,7 @@ impl Emitter {
         }
     }
 
-    /// How many lexical regions are open comes into a slot.
+    /// Writes the number of open lexical regions to a slot.
     pub(crate) fn count_lexical(
         &mut self,
         frame: &Frame,
@@ -140,7 +140,7 @@ impl Emitter {
         self.give(frame, REGIONS, destination)
     }
 
-    /// The store is called.
+    /// Emits a request to the store.
     pub(crate) fn ask(&mut self, frame: &Frame, request: Request) -> Result<(), AllocError>
         requires { IsRequestFound frame.now request }
         ensures { AddsLines result self.old self.new (ask_code frame.now request) }

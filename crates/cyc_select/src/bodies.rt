@@ -1,9 +1,9 @@
-//! The lines of an instruction.
+//! Emits the lines of an instruction.
 ghost use Rattle.std.specs.Prelude.{◌≡◌, ◌+◌, ◌<◌, ◌≤◌, ◌++◌, OnOk, length};
 ghost use Rattle.cyc_plain.specs.inside.Program.{routine_at};
 ghost use Rattle.cyc_plain.specs.inside.WellFormed.{IsInRange};
 ghost use Rattle.cyc_select.specs.inside.Counts.{instruction_line};
-ghost use Rattle.cyc_select.specs.inside.Selection.{body, behind, place_lines};
+ghost use Rattle.cyc_select.specs.inside.Selection.{body, following, place_lines};
 ghost use Rattle.cyc_select.specs.inside.Emission.{AddsLines, IsKnown, most_lines};
 
 use crate::code::Line;
@@ -18,7 +18,7 @@ use cyc_plain::Instruction;
 use std::alloc::AllocError;
 
 impl Emitter {
-    /// What an instruction does, from this line on.
+    /// Emits the code of an instruction, if its first line has number `here`.
     fn body(
         &mut self,
         tables: &Tables,
@@ -139,11 +139,11 @@ impl Emitter {
         }
     }
 
-    /// Behind a call, the lines that are executed after it returned.
-    fn behind(&mut self, tables: &Tables, instruction: Instruction) -> Result<(), AllocError>
+    /// Emits the lines that follow a call, executed after it returns.
+    fn following(&mut self, tables: &Tables, instruction: Instruction) -> Result<(), AllocError>
         requires known { IsKnown tables.now }
         requires in_range { IsInRange tables.now.plain.now (routine_at tables.now.plain.now tables.now.function) instruction }
-        ensures { AddsLines result self.old self.new (behind tables.now.plain.now tables.now.frames.now tables.now.function instruction) }
+        ensures { AddsLines result self.old self.new (following tables.now.plain.now tables.now.frames.now tables.now.function instruction) }
     {
         let frame = tables.frame(tables.function);
         match instruction {
@@ -156,7 +156,7 @@ impl Emitter {
         }
     }
 
-    /// All lines of the instruction at this index.
+    /// Emits all lines of the instruction at `index`.
     pub(crate) fn instruction(
         &mut self,
         tables: &Tables,
@@ -166,11 +166,13 @@ impl Emitter {
         requires known { IsKnown tables.now }
         requires in_range { IsInRange tables.now.plain.now (routine_at tables.now.plain.now tables.now.function) instruction }
         requires index { index < length (routine_at tables.now.plain.now tables.now.function).code }
-        ensures { AddsLines result self.old self.new (place_lines tables.now.plain.now tables.now.frames.now tables.now.function index (instruction_line tables.now.plain.now tables.now.frames.now tables.now.function index) instruction ++ behind tables.now.plain.now tables.now.frames.now tables.now.function instruction) }
+        ensures { AddsLines result self.old self.new (place_lines tables.now.plain.now tables.now.frames.now tables.now.function index
+            (instruction_line tables.now.plain.now tables.now.frames.now tables.now.function index) instruction
+            ++ following tables.now.plain.now tables.now.frames.now tables.now.function instruction) }
     {
         if !is_idle(tables.frame(tables.function), index, instruction) {
             self.body(tables, tables.line(index), instruction)?;
         }
-        self.behind(tables, instruction)
+        self.following(tables, instruction)
     }
 }

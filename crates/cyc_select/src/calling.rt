@@ -1,9 +1,10 @@
-//! The lines of calls and returns, and of moves of several words.
+//! Emits the lines of calls and returns, and of moves of several words.
 ghost use Rattle.std.specs.Prelude.{◌≡◌, ◌+◌, ◌*◌, ◌<◌, ◌≤◌, [], ◌∷◌, ◌++◌, true, length, OnOk};
 ghost use Rattle.cyc_select.specs.inside.Instructions.{load, store};
 ghost use Rattle.cyc_select.specs.inside.Slots.{coming, load_all, load_words, store_all, saves, restores, way_code, saving_code, restoring_code};
 ghost use Rattle.cyc_select.specs.inside.Passing.{pass, spill, spills, copies};
-ghost use Rattle.cyc_select.specs.inside.Selection.{ordinary, moves, all_moved, move_words, calling_code, room_code, returned_code, ending_code, returning_code};
+ghost use Rattle.cyc_select.specs.inside.Selection.{ordinary, moves, all_moved, move_words, calling_code, room_code, returned_code, ending_code};
+ghost use Rattle.cyc_select.specs.inside.Selection.{returning_code};
 ghost use Rattle.cyc_select.specs.inside.Emission.{AddsLines, IsReached, AreReached, most_lines};
 
 use crate::code::Line;
@@ -16,15 +17,15 @@ use crate::instructions::{
 use crate::operands::{comes_by, is_kept, made_in, passed_from};
 use cyc_frame::Frame;
 use cyc_isa::{BranchOp, Instr};
-use cyc_machine::constants::{ARGUMENT, END_FULL, END_RETURNED, RETURN_ADDRESS, SERVICE};
+use cyc_machine_model::constants::{ARGUMENT, END_FULL, END_RETURNED, RETURN_ADDRESS, SERVICE};
 use cyc_plain::{GREATEST_VALUE, MOST_FRAME_WORDS, Operand};
 use cyc_registers::{FIRST_PRESERVED, MOST_SAVED, is_crossing};
 use std::alloc::AllocError;
 
-/// The registers of what a function returns, and of what a service answers.
+/// The registers of the results of a function or a service.
 pub(crate) const RESULTS: [u8; 3] = [FIRST_RESULT, SECOND_RESULT, THIRD_RESULT];
 
-/// The instruction that saves the register of this number among those that calls preserve.
+/// Returns the instruction that saves one of the callee-saved registers, by its number among them.
 fn save(frame: &Frame, number: usize) -> Instr
     requires few { number < MOST_SAVED }
     requires inside { frame.now.first_saved ≤ MOST_FRAME_WORDS }
@@ -36,7 +37,7 @@ fn save(frame: &Frame, number: usize) -> Instr
     )
 }
 
-/// The instruction that restores it.
+/// Returns the instruction that restores one of the callee-saved registers, by its number among them.
 fn restore(frame: &Frame, number: usize) -> Instr
     requires few { number < MOST_SAVED }
     requires inside { frame.now.first_saved ≤ MOST_FRAME_WORDS }
@@ -49,8 +50,8 @@ fn restore(frame: &Frame, number: usize) -> Instr
 }
 
 impl Emitter {
-    /// One argument, from the caller's slot to the callee's, whose frame is the current one already. One that is passed
-    /// from memory comes by the register that it comes in.
+    /// Passes one argument from the caller's slot to the callee's, after the switch to the callee's frame. An argument passed from memory
+    /// goes through the callee's register for it.
     fn argument(
         &mut self,
         caller: &Frame,
@@ -72,7 +73,7 @@ impl Emitter {
         }
     }
 
-    /// A slot that a register alone has comes into its word in memory, where it is passed from there.
+    /// Stores a slot that is in a register only to its word in memory, if it is passed from there.
     fn spill(
         &mut self,
         caller: &Frame,
@@ -92,7 +93,7 @@ impl Emitter {
         self.ordinary(&[store_slot(caller, made_in(caller, source), source)])
     }
 
-    /// All such slots, of so many.
+    /// Stores each of `count` slots that is passed from memory and is in a register only.
     pub(crate) fn spills(
         &mut self,
         caller: &Frame,
@@ -109,7 +110,7 @@ impl Emitter {
         Ok(())
     }
 
-    /// The arguments, from the caller's slots to the first ones of the callee.
+    /// Passes the arguments from the caller's slots to the callee's first slots.
     fn arguments(
         &mut self,
         caller: &Frame,
@@ -127,7 +128,7 @@ impl Emitter {
         Ok(())
     }
 
-    /// The end of a run where no call more may be under way.
+    /// Ends the run if no further call is allowed.
     pub(crate) fn test_room(&mut self, here: usize) -> Result<(), AllocError>
         requires { here ≤ most_lines + MOST_FRAME_WORDS }
         ensures { AddsLines result self.old self.new (room_code here) }
@@ -136,7 +137,7 @@ impl Emitter {
         self.ordinary(&[small(SERVICE, END_FULL as u16), syscall()])
     }
 
-    /// A call of the function whose first line is the label.
+    /// Emits a call of the function whose first line has this label.
     pub(crate) fn call(
         &mut self,
         caller: &Frame,
@@ -157,7 +158,7 @@ impl Emitter {
         self.line(Line::Call { label })
     }
 
-    /// Registers into the slots from one on.
+    /// Writes registers to the slots from `slot` on.
     fn store_all(&mut self, frame: &Frame, slot: usize, sources: &[u8]) -> Result<(), AllocError>
         requires { AreReached frame.now slot (length sources.now) }
         ensures { AddsLines result self.old self.new (ordinary (store_all frame.now slot sources.now)) }
@@ -170,7 +171,7 @@ impl Emitter {
         Ok(())
     }
 
-    /// The slots from one on into registers.
+    /// Loads the slots from `slot` on into registers.
     fn load_all(&mut self, frame: &Frame, slot: usize, targets: &[u8]) -> Result<(), AllocError>
         requires { AreReached frame.now slot (length targets.now) }
         ensures { AddsLines result self.old self.new (ordinary (load_all frame.now slot targets.now)) }
@@ -183,7 +184,7 @@ impl Emitter {
         Ok(())
     }
 
-    /// The same of slots that live in memory alone.
+    /// Loads the slots from `slot` on, which are in memory only, into registers.
     fn load_words(&mut self, frame: &Frame, slot: usize, targets: &[u8]) -> Result<(), AllocError>
         requires { AreReached frame.now slot (length targets.now) }
         ensures { AddsLines result self.old self.new (ordinary (load_words frame.now slot targets.now)) }
@@ -196,7 +197,7 @@ impl Emitter {
         Ok(())
     }
 
-    /// Words from slots to slots, one by one.
+    /// Copies words from slots to slots, one by one.
     fn move_each(
         &mut self,
         frame: &Frame,
@@ -217,7 +218,7 @@ impl Emitter {
         Ok(())
     }
 
-    /// Words from slots to slots, all of which are in registers before the first goes to its slot.
+    /// Copies words from slots to slots, loading all words before the first is written.
     fn move_all(
         &mut self,
         frame: &Frame,
@@ -234,7 +235,7 @@ impl Emitter {
         self.store_all(frame, destination, &RESULTS[..count])
     }
 
-    /// Words from slots to slots.
+    /// Copies words from slots to slots.
     pub(crate) fn move_words(
         &mut self,
         frame: &Frame,
@@ -254,7 +255,7 @@ impl Emitter {
         }
     }
 
-    /// Behind a call: the caller gets what was returned.
+    /// Moves the results of a call to the caller's slots.
     pub(crate) fn returned(
         &mut self,
         frame: &Frame,
@@ -270,7 +271,7 @@ impl Emitter {
         self.reloads(frame)
     }
 
-    /// The way back comes into the frame, where a function that loses it begins.
+    /// Saves the return address in the frame, at the entry of a function that overwrites its register.
     fn keep_way(&mut self, frame: &Frame) -> Result<(), AllocError>
         requires { frame.now.return_address ≤ MOST_FRAME_WORDS }
         ensures { AddsLines result self.old self.new (ordinary (way_code frame.now)) }
@@ -281,7 +282,7 @@ impl Emitter {
         self.ordinary(&[store(RETURN_ADDRESS, offset_of(frame.return_address))])
     }
 
-    /// The registers that calls preserve come into the frame, as many as the function has.
+    /// Saves the callee-saved registers that the function uses in the frame.
     fn saves(&mut self, frame: &Frame) -> Result<(), AllocError>
         requires few { frame.now.saved ≤ MOST_SAVED }
         requires inside { frame.now.first_saved ≤ MOST_FRAME_WORDS }
@@ -293,7 +294,7 @@ impl Emitter {
         Ok(())
     }
 
-    /// And from there again.
+    /// Restores the callee-saved registers from the frame.
     fn restores(&mut self, frame: &Frame) -> Result<(), AllocError>
         requires few { frame.now.saved ≤ MOST_SAVED }
         requires inside { frame.now.first_saved ≤ MOST_FRAME_WORDS }
@@ -305,7 +306,7 @@ impl Emitter {
         Ok(())
     }
 
-    /// All that a function saves where it begins, and the parameters that come to registers then.
+    /// Emits the lines at a function's entry: saves of registers, then loads of the parameters that belong in them.
     pub(crate) fn saving(&mut self, frame: &Frame) -> Result<(), AllocError>
         requires return_address { frame.now.return_address ≤ MOST_FRAME_WORDS }
         requires few { frame.now.saved ≤ MOST_SAVED }
@@ -318,7 +319,7 @@ impl Emitter {
         self.arrivals(frame)
     }
 
-    /// The way back comes from the frame again, where the function returns.
+    /// Restores the return address from the frame, when the function returns.
     fn restoring(&mut self, frame: &Frame) -> Result<(), AllocError>
         requires { frame.now.return_address ≤ MOST_FRAME_WORDS }
         ensures { AddsLines result self.old self.new (ordinary (restoring_code frame.now)) }
@@ -329,7 +330,7 @@ impl Emitter {
         self.ordinary(&[load(RETURN_ADDRESS, offset_of(frame.return_address))])
     }
 
-    /// The end of a run, where `main` was called first.
+    /// Ends the run if the return is that of the first call of `main`.
     fn ending(
         &mut self,
         is_main: bool,
@@ -352,7 +353,7 @@ impl Emitter {
         ])
     }
 
-    /// A return.
+    /// Emits a return.
     pub(crate) fn returning(
         &mut self,
         is_main: bool,

@@ -1,43 +1,43 @@
-//! Labelled code: machine code before its addresses are known.
+//! Labelled code: machine code before addresses are assigned.
 ghost use Rattle.std.specs.Prelude.{◌≡◌};
 ghost use Rattle.cyc_select.specs.inside.Labelled.{IsCode};
 
 use cyc_isa::{BranchOp, BranchZeroOp, Instr, Register};
 use std::marker::Model;
 
-/// When a branch is taken.
+/// The condition of a branch.
 #[derive(Clone, Copy, Debug, PartialEq, Eq)]
 pub enum Condition {
-    /// Where two registers are equal, or are not.
+    /// Two registers are equal, or they differ.
     Registers {
         op: BranchOp,
         left: Register,
         right: Register,
     },
-    /// By the sign of one.
+    /// The sign of a register's word.
     Sign {
         op: BranchZeroOp,
         source: Register,
     },
 }
 
-/// A line of labelled code. A label is the number of the line that it stands before, so each label stands once.
+/// A line of labelled code. A label is the number of the line that it marks, so each label marks one line.
 #[derive(Clone, Copy, Debug, PartialEq, Eq)]
 pub enum Line {
     /// An instruction that is neither a branch nor a jump.
     Ordinary { instruction: Instr },
-    /// Where the condition holds, the line of the label is executed next.
+    /// Continues at the line of the label if the condition holds.
     Branch { condition: Condition, label: usize },
-    /// The line of the label is executed next.
+    /// Jumps to the line of the label.
     Jump { label: usize },
-    /// The same, with the address of the line behind this one in register 31.
+    /// Continues at the line of the label, with the address of the next line in register 31.
     Call { label: usize },
-    /// The line whose address is in register 31 is executed next.
+    /// Continues at the line whose address is in register 31.
     Return,
 }
 
-/// A program as labelled code. It is formed, and has a place in the machine's memory: who makes one proves it, and who is
-/// given one knows it.
+/// A program as labelled code, well-formed and small enough for the machine's memory. The code that constructs a `Code` proves this, and
+/// every user may rely on it.
 #[derive(Drop)]
 pub struct Code {
     lines: Vec<Line>,
@@ -62,7 +62,7 @@ impl Code {
         Code { lines, globals }
     }
 
-    /// The lines. Execution starts at the first.
+    /// Returns the lines. Execution starts at the first line.
     pub fn lines(&self) -> &[Line]
         ensures value { result.now ≡ self.now.lines }
         ensures code { IsCode self.now }
@@ -70,7 +70,7 @@ impl Code {
         &self.lines
     }
 
-    /// The first words of the machine's data range.
+    /// Returns the initial words of the machine's data range.
     pub fn globals(&self) -> &[u32]
         ensures value { result.now ≡ self.now.globals }
         ensures code { IsCode self.now }

@@ -1,4 +1,4 @@
-//! How many lines each instruction has, and which number the first of them has.
+//! Counts the lines of each instruction and numbers them.
 ghost use Rattle.std.specs.Prelude.{◌≡◌, ◌+◌, ◌*◌, ◌<◌, ◌≤◌, length, map, sum_by, All, IfOk};
 ghost use Rattle.cyc_plain.specs.inside.Program.{routine_of, routine_at, instruction_size, size};
 ghost use Rattle.cyc_plain.specs.inside.WellFormed.{IsPlain, IsInRange};
@@ -8,7 +8,7 @@ ghost use Rattle.cyc_select.specs.inside.Slots.{coming, arrival_count, way_count
 ghost use Rattle.cyc_select.specs.inside.Operands.{reload_count, moves_count, operator_count};
 ghost use Rattle.cyc_select.specs.inside.Passing.{spill_count, spills_count, pass_count, copies_count};
 ghost use Rattle.cyc_select.specs.inside.Hoisting.{is_idle};
-ghost use Rattle.cyc_select.specs.inside.Counts.{move_words_count, ending_count, body_count, behind_count, count_of, code_count, function_line};
+ghost use Rattle.cyc_select.specs.inside.Counts.{move_words_count, ending_count, body_count, after_count, count_of, code_count, function_line};
 ghost use Rattle.cyc_select.specs.inside.Emission.{AreFew, AreNumbered, most_lines, instruction_lines, lines_in};
 
 use crate::asking::ask_count;
@@ -30,7 +30,7 @@ use cyc_plain::{
 use cyc_registers::is_crossing;
 use std::alloc::{AllocError, Global};
 
-/// How many words a function returns.
+/// Returns the number of words that a function returns.
 pub(crate) fn results_of(plain: &Plain, function: usize) -> usize
     requires { function < length plain.now.functions }
     ensures { result ≡ (routine_at plain.now function).results }
@@ -38,7 +38,7 @@ pub(crate) fn results_of(plain: &Plain, function: usize) -> usize
     plain.function(function).results
 }
 
-/// The code of a function.
+/// Returns the code of a function.
 pub(crate) fn code_of<'a>(plain: &'a Plain, function: usize) -> &'a [Instruction]
     requires { function < length plain.now.functions }
     ensures { result.now ≡ (routine_at plain.now function).code }
@@ -53,7 +53,7 @@ fn known_frame(frames: &[Frame], function: usize) -> &Frame
     &frames[function]
 }
 
-/// The frame of a function.
+/// Returns the frame of a function.
 pub(crate) fn frame_in<'a>(plain: &Plain, frames: &'a [Frame], function: usize) -> &'a Frame
     requires fit { AreFrames plain.now frames.now }
     requires function { function < length plain.now.functions }
@@ -80,7 +80,7 @@ fn operator_count(frame: &Frame, operator: BinaryOperator, parts: Parts) -> usiz
     }
 }
 
-/// The lines of a move of several words, one by one.
+/// Returns the number of lines of a move of several words, one by one.
 #[tactic(auto, using(crate::proofs::emission::Counts::moves_next))]
 fn moves_count(frame: &Frame, destination: usize, source: usize, count: usize) -> usize
     requires few { count ≤ GREATEST_VALUE }
@@ -98,7 +98,7 @@ fn moves_count(frame: &Frame, destination: usize, source: usize, count: usize) -
     lines
 }
 
-/// The lines of a move of several words.
+/// Returns the number of lines of a move of several words.
 fn move_words_count(frame: &Frame, destination: usize, source: usize, count: usize) -> usize
     requires few { count ≤ GREATEST_VALUE }
     requires source { source + count ≤ MOST_FRAME_WORDS }
@@ -122,7 +122,7 @@ fn spill_count(caller: &Frame, callee: &Frame, source: usize, slot: usize) -> us
     }
 }
 
-/// Before a call, the lines that bring into memory what it passes from there.
+/// Returns the number of lines before a call that store to memory the slots passed from there.
 #[tactic(auto, using(crate::proofs::emission::Counts::spills_next))]
 pub(crate) fn spills_count(caller: &Frame, callee: &Frame, source: usize, count: usize) -> usize
     requires { source + count ≤ MOST_FRAME_WORDS }
@@ -146,7 +146,7 @@ fn pass_count(caller: &Frame, callee: &Frame, source: usize, slot: usize) -> usi
     }
 }
 
-/// In a call, the lines that bring the arguments to the callee's slots.
+/// Returns the number of lines of a call that pass the arguments to the callee's slots.
 #[tactic(auto, using(crate::proofs::emission::Counts::copies_next))]
 fn copies_count(caller: &Frame, callee: &Frame, source: usize, count: usize) -> usize
     requires { source + count ≤ MOST_FRAME_WORDS }
@@ -160,7 +160,7 @@ fn copies_count(caller: &Frame, callee: &Frame, source: usize, count: usize) -> 
     lines
 }
 
-/// The lines of a call up to where it leaves for the callee.
+/// Returns the number of lines of a call up to the jump to the callee.
 fn call_count(caller: &Frame, callee: &Frame, arguments: usize, count: usize) -> usize
     requires { arguments + count ≤ MOST_FRAME_WORDS }
     ensures { result ≡ spills_count caller.now (coming callee.now) arguments 0 count + 5 + copies_count caller.now (coming callee.now) arguments 0 count }
@@ -170,7 +170,7 @@ fn call_count(caller: &Frame, callee: &Frame, arguments: usize, count: usize) ->
         + copies_count(caller, callee, arguments, count)
 }
 
-/// The line that keeps the way back where a function begins, and the one that it comes from where the function returns.
+/// Returns 1 if the function saves its return address, which takes one line at the entry and one at each return, else 0.
 pub(crate) fn way_count(frame: &Frame) -> usize
     ensures value { result ≡ way_count frame.now }
     ensures few { result ≤ 1 }
@@ -178,7 +178,7 @@ pub(crate) fn way_count(frame: &Frame) -> usize
     if frame.saves { 1 } else { 0 }
 }
 
-/// The lines that save what a function saves where it begins, and bring parameters to registers.
+/// Returns the number of lines at a function's entry that save registers and load parameters into them.
 pub(crate) fn saving_count(frame: &Frame) -> usize
     requires saved { frame.now.saved ≤ MOST_SAVED }
     requires arrivals { arrival_count frame.now ≤ MOST_SAVED }
@@ -188,19 +188,20 @@ pub(crate) fn saving_count(frame: &Frame) -> usize
     way_count(frame) + (frame.saved + arrival_count(frame))
 }
 
-/// The lines of a return.
+/// Returns the number of lines of a return.
 fn return_count(plain: &Plain, frames: &[Frame], function: usize) -> usize
     requires fit { AreFrames plain.now frames.now }
     requires function { function < length plain.now.functions }
     requires few { AreFew plain.now }
-    ensures { result ≡ way_count (frame_at frames.now function) + ending_count plain.now function + ((routine_at plain.now function).results + (frame_at frames.now function).saved + 2) }
+    ensures { result ≡ way_count (frame_at frames.now function) + ending_count plain.now function +
+        ((routine_at plain.now function).results + (frame_at frames.now function).saved + 2) }
 {
     let frame = frame_in(plain, frames, function);
     let ending = if function == plain.main() { 4 } else { 0 };
     way_count(frame) + ending + (results_of(plain, function) + frame.saved + 2)
 }
 
-/// The lines of an instruction up to what it does.
+/// Returns the number of lines of an instruction, without those executed after a call returns.
 fn body_count(plain: &Plain, frames: &[Frame], function: usize, instruction: Instruction) -> usize
     requires fit { AreFrames plain.now frames.now }
     requires function { function < length plain.now.functions }
@@ -299,13 +300,13 @@ fn body_count(plain: &Plain, frames: &[Frame], function: usize, instruction: Ins
     }
 }
 
-/// Behind a call, the lines that are executed after it returned.
-fn behind_count(plain: &Plain, frames: &[Frame], function: usize, instruction: Instruction) -> usize
+/// Returns the number of lines that follow a call, executed after it returns.
+fn after_count(plain: &Plain, frames: &[Frame], function: usize, instruction: Instruction) -> usize
     requires fit { AreFrames plain.now frames.now }
     requires function { function < length plain.now.functions }
     requires few { AreFew plain.now }
     requires in_range { IsInRange plain.now (routine_at plain.now function) instruction }
-    ensures { result ≡ behind_count plain.now frames.now function instruction }
+    ensures { result ≡ after_count plain.now frames.now function instruction }
 {
     let frame = frame_in(plain, frames, function);
     match instruction {
@@ -314,8 +315,7 @@ fn behind_count(plain: &Plain, frames: &[Frame], function: usize, instruction: I
     }
 }
 
-/// Whether the place of this index has no lines of its own. Only an instruction that goes on to the next one, whatever is in the
-/// slots, may stand there.
+/// Returns true if the place at `index` has no lines. Only an instruction that always continues with the next one may be idle.
 pub(crate) fn is_idle(frame: &Frame, index: usize, instruction: Instruction) -> bool
     ensures { result ≡ is_idle frame.now index instruction }
 {
@@ -330,7 +330,7 @@ pub(crate) fn is_idle(frame: &Frame, index: usize, instruction: Instruction) -> 
     }
 }
 
-/// The lines of the instruction at this index.
+/// Returns the number of lines of the instruction at `index`.
 fn count_of(
     plain: &Plain,
     frames: &[Frame],
@@ -346,22 +346,22 @@ fn count_of(
     ensures value { result ≡ count_of plain.now frames.now function index instruction }
     ensures few { result ≤ instruction_size instruction }
 {
-    let behind = behind_count(plain, frames, function, instruction);
+    let following = after_count(plain, frames, function, instruction);
     if is_idle(frame_in(plain, frames, function), index, instruction) {
-        behind
+        following
     } else {
-        body_count(plain, frames, function, instruction) + behind
+        body_count(plain, frames, function, instruction) + following
     }
 }
 
-/// The numbers of the first lines of a function's instructions, and that of the line behind its last one.
+/// The line numbers of a function's instructions, and the number of the line after its last one.
 #[derive(Drop)]
 struct Counted {
     lines: Vec<usize>,
-    behind: usize,
+    following: usize,
 }
 
-/// The number of the first line of each instruction of a function's code, where the first one has this.
+/// Returns the number of the first line of each instruction, if the first one begins at `here`.
 fn instruction_lines(
     alloc: Global,
     plain: &Plain,
@@ -377,7 +377,7 @@ fn instruction_lines(
     requires small { sum_by instruction_size code.now ≤ MOST_SIZE }
     requires fits { first + sum_by instruction_size code.now ≤ most_lines + 2 * MOST_SAVED + 1 }
     ensures lines { IfOk result (λ counted. counted.lines.items ≡ instruction_lines plain.now frames.now function 0 first code.now) }
-    ensures behind { IfOk result (λ counted. counted.behind ≡ first + code_count plain.now frames.now function 0 code.now) }
+    ensures following { IfOk result (λ counted. counted.following ≡ first + code_count plain.now frames.now function 0 code.now) }
 {
     let mut lines = Vec::with_capacity(alloc, code.len())?;
     let mut here = first;
@@ -387,11 +387,11 @@ fn instruction_lines(
     }
     Ok(Counted {
         lines,
-        behind: here,
+        following: here,
     })
 }
 
-/// Where the lines of a function begin whose first one has this number, and the number of the line behind its last one.
+/// Returns the line numbers of a function that begins at this line, and the number of the line after its last one.
 fn function_lines(
     alloc: Global,
     plain: &Plain,
@@ -404,7 +404,7 @@ fn function_lines(
     requires function { function < length plain.now.functions }
     requires here { here ≡ function_line plain.now frames.now function }
     ensures lines { IfOk result (λ counted. counted.lines.items ≡ lines_in plain.now frames.now function) }
-    ensures behind { IfOk result (λ counted. counted.behind ≡ function_line plain.now frames.now (function + 1)) }
+    ensures following { IfOk result (λ counted. counted.following ≡ function_line plain.now frames.now (function + 1)) }
 {
     let first = here + saving_count(frame_in(plain, frames, function));
     instruction_lines(
@@ -417,14 +417,14 @@ fn function_lines(
     )
 }
 
-/// Where the lines of each function begin, and the number of the line behind the last one.
+/// The line numbers of all functions, and the number of the line after the last one.
 #[derive(Drop)]
 pub(crate) struct Numbered {
     pub(crate) functions: Vec<FunctionLines>,
-    pub(crate) behind: usize,
+    pub(crate) following: usize,
 }
 
-/// Where the lines of each function begin. Each instruction's lines are counted here, and nowhere again.
+/// Returns the line numbers of all functions. Only this function counts the lines of instructions.
 pub(crate) fn number_lines(
     alloc: Global,
     plain: &Plain,
@@ -432,7 +432,7 @@ pub(crate) fn number_lines(
 ) -> Result<Numbered, AllocError>
     requires { AreFrames plain.now frames.now }
     ensures lines { IfOk result (λ numbered. AreNumbered plain.now frames.now (length plain.now.functions) numbered.functions.items) }
-    ensures behind { IfOk result (λ numbered. numbered.behind ≡ function_line plain.now frames.now (length plain.now.functions)) }
+    ensures following { IfOk result (λ numbered. numbered.following ≡ function_line plain.now frames.now (length plain.now.functions)) }
     ensures plain { IfOk result (λ _. IsPlain plain.now) }
 {
     let count = plain.functions().len();
@@ -444,10 +444,10 @@ pub(crate) fn number_lines(
             first: here,
             lines: counted.lines,
         })?;
-        here = counted.behind;
+        here = counted.following;
     }
     Ok(Numbered {
         functions,
-        behind: here,
+        following: here,
     })
 }

@@ -1,4 +1,4 @@
-//! Lines that are being made.
+//! The lines emitted so far.
 ghost use Rattle.std.specs.Prelude.{◌≡◌, [], ◌∷◌, IfOk, OnOk};
 ghost use Rattle.cyc_isa.specs.Decoding.{register_of};
 ghost use Rattle.cyc_select.specs.declared.code.Condition.TheVariants as conditions;
@@ -11,14 +11,14 @@ use crate::instructions::register;
 use cyc_isa::{BranchOp, Instr};
 use std::alloc::{AllocError, Global};
 
-/// The lines of a program, as far as they are made.
+/// The lines of a program, as far as they are emitted.
 #[derive(Drop)]
 pub(crate) struct Emitter {
     pub(crate) lines: Vec<Line>,
 }
 
 impl Emitter {
-    /// No lines yet, with room for so many.
+    /// Returns an emitter without lines, with room for `room` lines.
     pub(crate) fn new(alloc: Global, room: usize) -> Result<Emitter, AllocError>
         ensures { IfOk result (λ emitter. emitter.lines.items ≡ []) }
     {
@@ -27,7 +27,7 @@ impl Emitter {
         })
     }
 
-    /// One line more.
+    /// Appends one line.
     pub(crate) fn line(&mut self, line: Line) -> Result<(), AllocError>
         ensures { AddsLines result self.old self.new (line ∷ []) }
     {
@@ -35,7 +35,7 @@ impl Emitter {
         Ok(())
     }
 
-    /// A branch on two registers, to a line.
+    /// Appends a branch on two registers to a label.
     pub(crate) fn branch(
         &mut self,
         op: BranchOp,
@@ -53,7 +53,7 @@ impl Emitter {
         self.line(Line::Branch { condition, label })
     }
 
-    /// Lines of one instruction each.
+    /// Appends lines of one instruction each.
     pub(crate) fn ordinary(&mut self, instructions: &[Instr]) -> Result<(), AllocError>
         ensures { AddsLines result self.old self.new (ordinary instructions.now) }
     {

@@ -1,4 +1,4 @@
-//! Words of globals. The first globals are reached from a register, and each other one from a half that comes before it.
+//! Access to globals. The first ones are reached from a base register; any other needs the upper half of its address in a register.
 ghost use Rattle.std.specs.Prelude.{◌≡◌, ◌<◌};
 ghost use Rattle.cyc_select.specs.inside.Slots.{is_near, upper_of_global, reach_code, at_global};
 ghost use Rattle.cyc_select.specs.inside.Operands.{reach_count};
@@ -11,25 +11,25 @@ use crate::instructions::register;
 use crate::operands::{made_in, operand_register};
 use cyc_frame::Frame;
 use cyc_isa::{Instr, MemoryOp};
-use cyc_machine::constants::DATA_BASE;
+use cyc_machine_model::constants::DATA_BASE;
 use cyc_plain::{MOST_GLOBALS, Operand};
 use std::alloc::AllocError;
 
-/// Whether a global is one of those that are reached from a register.
+/// Returns true if a global is reached from the base register.
 fn is_near(global: usize) -> bool
     ensures { result ≡ is_near global }
 {
     global < NEAR_GLOBALS
 }
 
-/// How many instructions bring the address that a global is reached from.
+/// Returns the number of instructions that load the base address for a global.
 pub(crate) fn reach_count(global: usize) -> usize
     ensures { result ≡ reach_count global }
 {
     if is_near(global) { 0 } else { 1 }
 }
 
-/// The upper half of a global's address, for an offset that is extended by its sign.
+/// Returns the instruction that loads the upper half of a global's address, for a sign-extended offset.
 fn upper_of_global(global: usize) -> Instr
     requires { global < MOST_GLOBALS }
     ensures { result ≡ upper_of_global global }
@@ -41,7 +41,7 @@ fn upper_of_global(global: usize) -> Instr
     }
 }
 
-/// A global's word, where the address that it is reached from is in a register.
+/// Returns the load or store of a global whose base address is in a register.
 fn at_global(op: MemoryOp, target: u8, global: usize) -> Instr
     requires { global < MOST_GLOBALS }
     ensures { result ≡ at_global op target global }
@@ -61,7 +61,7 @@ fn at_global(op: MemoryOp, target: u8, global: usize) -> Instr
 }
 
 impl Emitter {
-    /// The address that a global is reached from comes into a register, where none has it.
+    /// Loads the base address for a global, if no register holds that address.
     fn reach(&mut self, global: usize) -> Result<(), AllocError>
         requires { global < MOST_GLOBALS }
         ensures { AddsLines result self.old self.new (ordinary (reach_code global)) }
@@ -73,7 +73,7 @@ impl Emitter {
         }
     }
 
-    /// A global comes into a slot.
+    /// Emits the load of a global into a slot.
     pub(crate) fn load_global(
         &mut self,
         frame: &Frame,
@@ -90,7 +90,7 @@ impl Emitter {
         self.keep(frame, destination)
     }
 
-    /// An operand goes into a global.
+    /// Emits the store of an operand in a global.
     pub(crate) fn store_global(
         &mut self,
         frame: &Frame,

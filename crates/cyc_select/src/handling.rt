@@ -1,4 +1,4 @@
-//! The lines of handlers and of exceptions that are thrown.
+//! Emits the lines of handlers and of thrown exceptions.
 ghost use Rattle.std.specs.Prelude.{◌≡◌, suc, ◌+◌, ◌*◌, ◌<◌, ◌≤◌, [], ◌∷◌, length, OnOk};
 ghost use Rattle.cyc_plain.specs.declared.limits.TheConstants.{RECORD_WORDS};
 ghost use Rattle.cyc_registers.specs.declared.home.TheConstants.{MOST_BOTH};
@@ -16,11 +16,13 @@ use crate::instructions::{
 use crate::operands::{load_count, reload_count};
 use cyc_frame::Frame;
 use cyc_isa::{BranchOp, Instr, MemoryOp};
-use cyc_machine::constants::{ARGUMENT, END_UNCAUGHT, RETURN_ADDRESS, SECOND_ARGUMENT, SERVICE};
+use cyc_machine_model::constants::{
+    ARGUMENT, END_UNCAUGHT, RETURN_ADDRESS, SECOND_ARGUMENT, SERVICE,
+};
 use cyc_plain::{Operand, RECORD_WORDS};
 use std::alloc::AllocError;
 
-/// A word of the newest handler's record into a register.
+/// Returns the load of a word of the newest handler's record into a register.
 fn load_record(target: u8, offset: u16) -> Instr
     ensures { result ≡ load_record target offset }
 {
@@ -33,7 +35,7 @@ fn load_record(target: u8, offset: u16) -> Instr
 }
 
 impl Emitter {
-    /// What a record has, but for the line that an exception comes to.
+    /// Fills the fields of a record, except the line at which an exception arrives.
     fn recorded(&mut self, frame: &Frame, first: usize) -> Result<(), AllocError>
         requires { AreReached frame.now first RECORD_WORDS }
         ensures { AddsLines result self.old self.new (ordinary (recorded_code frame.now first)) }
@@ -44,7 +46,7 @@ impl Emitter {
         ])
     }
 
-    /// An exception has come to a handler: its tag and its word come into the record.
+    /// Stores an exception's tag and value in the record of the handler that it reaches.
     fn landed(&mut self, frame: &Frame, first: usize) -> Result<(), AllocError>
         requires { AreReached frame.now first RECORD_WORDS }
         ensures { AddsLines result self.old self.new (ordinary (store_slot frame.now ARGUMENT first ∷ store_slot frame.now SECOND_ARGUMENT (suc first) ∷ [])) }
@@ -55,7 +57,7 @@ impl Emitter {
         ])
     }
 
-    /// Where an exception comes to a handler.
+    /// Emits the lines at which an exception arrives at a handler.
     fn caught(&mut self, frame: &Frame, first: usize) -> Result<(), AllocError>
         requires target { AreReached frame.now first RECORD_WORDS }
         requires homes { AreReached frame.now 0 (length frame.now.homes) }
@@ -65,7 +67,7 @@ impl Emitter {
         self.reloads(frame)
     }
 
-    /// The rest of a record, which is the newest one then.
+    /// Fills the other words of a handler's record and makes the record the newest one.
     fn opened(&mut self, frame: &Frame, first: usize) -> Result<(), AllocError>
         requires { AreReached frame.now first RECORD_WORDS }
         ensures { AddsLines result self.old self.new (ordinary (opened_code frame.now first)) }
@@ -76,7 +78,7 @@ impl Emitter {
         ])
     }
 
-    /// A handler is opened, whose first line has this label.
+    /// Emits the opening of a handler, whose first line has this label.
     pub(crate) fn open_handler(
         &mut self,
         frame: &Frame,
@@ -99,7 +101,7 @@ impl Emitter {
         self.opened(frame, first)
     }
 
-    /// The handler with this record is closed.
+    /// Emits the closing of the handler with this record.
     pub(crate) fn leave(&mut self, frame: &Frame, first: usize) -> Result<(), AllocError>
         requires target { AreReached frame.now first RECORD_WORDS }
         ensures { AddsLines result self.old self.new (ordinary (load HANDLERS (slot_offset frame.now first) ∷ [])) }
@@ -107,7 +109,7 @@ impl Emitter {
         self.ordinary(&[load_word(frame, HANDLERS, first)])
     }
 
-    /// The newest handler's call is the current one again.
+    /// Restores the frame of the newest handler's call.
     fn unwound(&mut self) -> Result<(), AllocError>
         ensures { AddsLines result self.old self.new (ordinary unwound_code) }
     {
@@ -118,7 +120,7 @@ impl Emitter {
         ])
     }
 
-    /// An exception is thrown.
+    /// Emits the throw of an exception.
     pub(crate) fn throw(
         &mut self,
         frame: &Frame,

@@ -1,8 +1,10 @@
-//! The first line of a branch's target, in front of the branch.
+//! Hoists the first line of a branch target before the branch.
 ghost use Rattle.std.specs.Prelude.{◌≡◌, ◌+◌, ◌≤◌, slice_get};
 ghost use Rattle.cyc_select.specs.inside.Slots.{value_register, is_own};
 ghost use Rattle.cyc_select.specs.inside.Operands.{test_count};
-ghost use Rattle.cyc_select.specs.inside.Hoisting.{word_first, slot_first, operand_first, operands_first, operation_first, plan_first, divided_first, test_first, copy_first, load_first, move_first, first_line, given_register, own_register, target_of, tests_register, is_spare, may_write, copied_if};
+ghost use Rattle.cyc_select.specs.inside.Hoisting.{word_first, slot_first, operand_first, operands_first, operation_first, plan_first, divided_first};
+ghost use Rattle.cyc_select.specs.inside.Hoisting.{test_first, copy_first, load_first, move_first, first_line, given_register, own_register};
+ghost use Rattle.cyc_select.specs.inside.Hoisting.{target_of, tests_register, is_spare, may_write, copied_if};
 ghost use Rattle.cyc_select.specs.inside.Hoisting.{hoisted_at, hoisted, hoisted_count};
 
 use crate::code::Condition;
@@ -17,10 +19,10 @@ use crate::operators::{
 use crate::plan::{Operation, Plan, Test, binary_plan, test_of, unary_plan};
 use cyc_frame::Frame;
 use cyc_isa::Instr;
-use cyc_machine::constants::{ARGUMENT, GET_BYTE, SERVICE};
+use cyc_machine_model::constants::{ARGUMENT, GET_BYTE, SERVICE};
 use cyc_plain::{Instruction, Operand};
 
-/// The first line of what brings a word into a register.
+/// Returns the first line that loads a word into a register.
 fn word_first(target: u8, word: u32) -> Instr
     ensures { result ≡ word_first target word }
 {
@@ -33,24 +35,23 @@ fn word_first(target: u8, word: u32) -> Instr
     }
 }
 
-/// The first line of what brings an operand into a register, or else this one of what stands behind. None where the operand
-/// is loaded.
+/// Returns the first line that loads an operand into a register, or else `following`. None if the line reads memory.
 fn operand_first(
     frame: &Frame,
     register: u8,
     operand: Operand,
-    behind: Option<Instr>,
+    following: Option<Instr>,
 ) -> Option<Instr>
-    ensures { result ≡ operand_first frame.now register operand behind }
+    ensures { result ≡ operand_first frame.now register operand following }
 {
     match operand {
         Operand::Slot { number } => match value_register(frame, number) {
-            Some(_) => behind,
+            Some(_) => following,
             None => None,
         },
         Operand::Word { word } => {
             if is_zero_word(operand) {
-                behind
+                following
             } else {
                 Some(word_first(register, word))
             }
@@ -58,24 +59,24 @@ fn operand_first(
     }
 }
 
-/// The first line of two operands, or else this one of what stands behind.
+/// Returns the first line that loads two operands, or else `following`.
 fn operands_first(
     frame: &Frame,
     left: Operand,
     right: Operand,
-    behind: Option<Instr>,
+    following: Option<Instr>,
 ) -> Option<Instr>
-    ensures { result ≡ operands_first frame.now left right behind }
+    ensures { result ≡ operands_first frame.now left right following }
 {
     operand_first(
         frame,
         FIRST,
         left,
-        operand_first(frame, SECOND, right, behind),
+        operand_first(frame, SECOND, right, following),
     )
 }
 
-/// What computes a word in one line.
+/// Returns the instruction of an operation that computes a word in one line.
 fn operation_first(operation: Operation, target: u8, left: u8, right: u8) -> Option<Instr>
     ensures { result ≡ operation_first operation target left right }
 {
@@ -88,7 +89,7 @@ fn operation_first(operation: Operation, target: u8, left: u8, right: u8) -> Opt
     }
 }
 
-/// The first line of a plan whose word is made in this register.
+/// Returns the first line of a plan whose word is computed in this register.
 fn plan_first(frame: &Frame, target: u8, plan: Plan) -> Option<Instr>
     ensures { result ≡ plan_first frame.now target plan }
 {
@@ -98,15 +99,15 @@ fn plan_first(frame: &Frame, target: u8, plan: Plan) -> Option<Instr>
     operands_first(frame, plan.left, plan.right, computed)
 }
 
-/// The first line of a division that is tested.
+/// Returns the first line of a tested division.
 fn divided_first(frame: &Frame, left: Operand, right: Operand) -> Option<Instr>
     ensures { result ≡ divided_first frame.now left right }
 {
-    let behind = add_immediate(THIRD, ZERO, minus(1));
-    operands_first(frame, left, right, Some(behind))
+    let following = add_immediate(THIRD, ZERO, minus(1));
+    operands_first(frame, left, right, Some(following))
 }
 
-/// The first line of what a branch tests.
+/// Returns the first line of a branch's test.
 fn test_first(frame: &Frame, test: Test) -> Option<Instr>
     ensures { result ≡ test_first frame.now test }
 {
@@ -117,7 +118,7 @@ fn test_first(frame: &Frame, test: Test) -> Option<Instr>
     }
 }
 
-/// The first line of what brings an operand into a register of a value.
+/// Returns the first line that loads an operand into the register of a slot.
 fn load_first(frame: &Frame, register: u8, operand: Operand) -> Option<Instr>
     ensures { result ≡ load_first frame.now register operand }
 {
@@ -130,7 +131,7 @@ fn load_first(frame: &Frame, register: u8, operand: Operand) -> Option<Instr>
     }
 }
 
-/// The first line of what copies an operand into a slot.
+/// Returns the first line that copies an operand into a slot.
 fn move_first(frame: &Frame, destination: usize, source: Operand) -> Option<Instr>
     ensures { result ≡ move_first (value_register frame.now destination) frame.now source }
 {
@@ -140,8 +141,8 @@ fn move_first(frame: &Frame, destination: usize, source: Operand) -> Option<Inst
     }
 }
 
-/// The first line of an instruction, where it makes a word of what is in registers, and behind it the instruction has more lines
-/// or leads to the next one alone.
+/// Returns the first line of an instruction, if it computes a register from registers. More lines must follow, or the instruction must lead
+/// only to the next one.
 fn first_line(frame: &Frame, instruction: Instruction) -> Option<Instr>
     ensures { result ≡ first_line frame.now instruction }
 {
@@ -184,7 +185,7 @@ fn first_line(frame: &Frame, instruction: Instruction) -> Option<Instr>
     }
 }
 
-/// The register that an instruction computes a slot's word in, if the slot has one.
+/// Returns the register of the slot that an instruction computes, if the slot has one.
 fn given_register(frame: &Frame, instruction: Instruction) -> Option<u8>
     ensures { result ≡ given_register frame.now instruction }
 {
@@ -196,7 +197,7 @@ fn given_register(frame: &Frame, instruction: Instruction) -> Option<u8>
     }
 }
 
-/// The same of a place, where the frame says that it fills slots.
+/// Returns the register of the slot that an instruction computes, if the frame allows the place to fill delay slots.
 fn own_register(frame: &Frame, target: usize, instruction: Instruction) -> Option<u8>
     ensures { result ≡ own_register frame.now target instruction }
 {
@@ -207,7 +208,7 @@ fn own_register(frame: &Frame, target: usize, instruction: Instruction) -> Optio
     }
 }
 
-/// The register that an instruction makes a word in, of what is in registers alone.
+/// Returns the register that an instruction computes from registers only.
 fn target_of(instruction: Instr) -> Option<u8>
     ensures { result ≡ target_of instruction }
 {
@@ -231,7 +232,7 @@ fn tests_register(condition: Condition, register: u8) -> bool
     }
 }
 
-/// Whether no value has the register, and nothing keeps its word.
+/// Returns true for a temporary register: no slot has it, and its word is not used later.
 fn is_spare(register: u8) -> bool
     ensures { result ≡ is_spare register }
 {
@@ -247,7 +248,8 @@ fn is_own(own: Option<u8>, register: u8) -> bool
     }
 }
 
-/// Whether a line that makes a word in this register may stand in front of the branch, where only this value may get lost.
+/// Returns true if a line that writes this register may stand before the branch: it writes a temporary or `own`, and the branch does not
+/// test it.
 fn may_write(condition: Condition, own: Option<u8>, target: Option<u8>) -> bool
     ensures { result ≡ may_write condition own target }
 {
@@ -259,7 +261,7 @@ fn may_write(condition: Condition, own: Option<u8>, target: Option<u8>) -> bool
     }
 }
 
-/// A line, where it may stand in front of the branch.
+/// Returns a line if it may stand before the branch.
 fn copied_if(condition: Condition, own: Option<u8>, first: Option<Instr>) -> Option<Instr>
     ensures { result ≡ copied_if condition own first }
 {
@@ -275,7 +277,7 @@ fn copied_if(condition: Condition, own: Option<u8>, first: Option<Instr>) -> Opt
     }
 }
 
-/// What stands in front of a branch by this test to this place of the code: the first line of that place, where it may.
+/// Returns the line hoisted before a branch with this test to this place: the first line of the place, if allowed.
 pub(crate) fn hoisted(
     frame: &Frame,
     code: &[Instruction],
@@ -298,7 +300,7 @@ pub(crate) fn hoisted(
     }
 }
 
-/// The lines of a branch.
+/// Returns the number of lines of a branch.
 pub(crate) fn branch_count(frame: &Frame, code: &[Instruction], test: Test, target: usize) -> usize
     ensures { result ≡ test_count frame.now test + hoisted_count (hoisted frame.now code.now test target) + 1 }
 {

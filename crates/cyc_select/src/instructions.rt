@@ -1,7 +1,8 @@
-//! Single instructions of the machine, by what they are used for.
+//! Single instructions of the machine, named by their use.
 ghost use Rattle.std.specs.Prelude.{◌≡◌, ◌+◌, ◌*◌, ◌<◌, ◌≤◌};
 ghost use Rattle.cyc_isa.specs.Decoding.{register_of, shift_amount_of, trap_code_of};
-ghost use Rattle.cyc_select.specs.inside.Instructions.{load, store, copy, slot_offset, store_slot, add_immediate, small, minus, is_zero, syscall, load_upper, or_lower};
+ghost use Rattle.cyc_select.specs.inside.Instructions.{load, store, copy, slot_offset, store_slot, add_immediate, small, minus, is_zero, syscall};
+ghost use Rattle.cyc_select.specs.inside.Instructions.{load_upper, or_lower};
 ghost use Rattle.cyc_select.specs.inside.Slots.{load_slot, push_frame, pop_frame};
 ghost use Rattle.cyc_select.specs.inside.Operands.{or_immediate};
 ghost use Rattle.cyc_select.specs.inside.Emission.{IsReached};
@@ -14,7 +15,7 @@ use cyc_isa::{
 };
 use cyc_plain::MOST_FRAME_WORDS;
 
-/// The register of this number, which counts modulo 32.
+/// Returns the register of this number, taken modulo 32.
 pub(crate) fn register(number: u8) -> Register
     ensures { result ≡ register_of number }
 {
@@ -23,14 +24,14 @@ pub(crate) fn register(number: u8) -> Register
     }
 }
 
-/// How far a shift goes, which counts modulo 32.
+/// Returns this shift amount, taken modulo 32.
 pub(crate) fn shift_amount(number: u8) -> ShiftAmount
     ensures { result ≡ shift_amount_of number }
 {
     ShiftAmount { bits: number % 32 }
 }
 
-/// The offset of a word from a frame's lowest address on, in bytes.
+/// Returns the offset of a word from the frame's lowest address, in bytes.
 pub(crate) fn offset_of(word: usize) -> u16
     requires { word ≤ 2 * MOST_FRAME_WORDS }
     ensures { result ≡ 4 * word }
@@ -38,7 +39,7 @@ pub(crate) fn offset_of(word: usize) -> u16
     (4 * word) as u16
 }
 
-/// A half less than 0, by so much.
+/// Returns the 16-bit immediate of a negative number, given its absolute value.
 pub(crate) fn minus(number: u16) -> u16
     requires { 0 < number }
     ensures { result ≡ minus number }
@@ -46,7 +47,7 @@ pub(crate) fn minus(number: u16) -> u16
     u16::MAX - number + 1
 }
 
-/// A word of memory into a register, from an offset from the frame's address.
+/// Returns the load of a word at an offset from the frame's address.
 pub(crate) fn load(target: u8, offset: u16) -> Instr
     ensures { result ≡ load target offset }
 {
@@ -58,7 +59,7 @@ pub(crate) fn load(target: u8, offset: u16) -> Instr
     }
 }
 
-/// A register into a word of memory.
+/// Returns the store of a register to a word of memory.
 pub(crate) fn store(source: u8, offset: u16) -> Instr
     ensures { result ≡ store source offset }
 {
@@ -70,7 +71,7 @@ pub(crate) fn store(source: u8, offset: u16) -> Instr
     }
 }
 
-/// A register into another one.
+/// Returns the copy of a register into another one.
 pub(crate) fn copy(target: u8, source: u8) -> Instr
     ensures { result ≡ copy target source }
 {
@@ -82,7 +83,7 @@ pub(crate) fn copy(target: u8, source: u8) -> Instr
     }
 }
 
-/// A slot's word in the current frame into a register.
+/// Returns the load of a slot's word from the current frame into a register.
 pub(crate) fn load_word(frame: &Frame, target: u8, slot: usize) -> Instr
     requires { IsReached frame.now slot }
     ensures { result ≡ load target (slot_offset frame.now slot) }
@@ -90,7 +91,7 @@ pub(crate) fn load_word(frame: &Frame, target: u8, slot: usize) -> Instr
     load(target, offset_of(frame.first_slot + slot))
 }
 
-/// A slot's word into a register, from the one that the slot has or from the current frame.
+/// Returns the load of a slot's word into a register, from the slot's register or from the current frame.
 pub(crate) fn load_slot(frame: &Frame, target: u8, slot: usize) -> Instr
     requires { IsReached frame.now slot }
     ensures { result ≡ load_slot frame.now target slot }
@@ -101,7 +102,7 @@ pub(crate) fn load_slot(frame: &Frame, target: u8, slot: usize) -> Instr
     }
 }
 
-/// A register into a slot of the current frame.
+/// Returns the store of a register to a slot of the current frame.
 pub(crate) fn store_slot(frame: &Frame, source: u8, slot: usize) -> Instr
     requires { IsReached frame.now slot }
     ensures { result ≡ store_slot frame.now source slot }
@@ -109,7 +110,7 @@ pub(crate) fn store_slot(frame: &Frame, source: u8, slot: usize) -> Instr
     store(source, offset_of(frame.first_slot + slot))
 }
 
-/// A register's sum with a half.
+/// Returns the addition of an immediate to a register.
 pub(crate) fn add_immediate(target: u8, source: u8, half: u16) -> Instr
     ensures { result ≡ add_immediate target source half }
 {
@@ -121,14 +122,14 @@ pub(crate) fn add_immediate(target: u8, source: u8, half: u16) -> Instr
     }
 }
 
-/// A small number that is not negative.
+/// Returns the load of a small non-negative number.
 pub(crate) fn small(target: u8, number: u16) -> Instr
     ensures { result ≡ small target number }
 {
     add_immediate(target, ZERO, number)
 }
 
-/// A half that zeros come before.
+/// Returns the load of a zero-extended immediate.
 pub(crate) fn or_immediate(target: u8, half: u16) -> Instr
     ensures { result ≡ or_immediate target half }
 {
@@ -140,7 +141,7 @@ pub(crate) fn or_immediate(target: u8, half: u16) -> Instr
     }
 }
 
-/// 1 where the register is 0, and 0 elsewhere.
+/// Returns the instruction that sets a register to 1 if it is 0, else to 0.
 pub(crate) fn is_zero(number: u8) -> Instr
     ensures { result ≡ is_zero number }
 {
@@ -152,7 +153,7 @@ pub(crate) fn is_zero(number: u8) -> Instr
     }
 }
 
-/// A call of the system.
+/// Returns a system call.
 pub(crate) fn syscall() -> Instr
     ensures { result ≡ syscall }
 {
@@ -162,7 +163,7 @@ pub(crate) fn syscall() -> Instr
     }
 }
 
-/// The upper half of a word into a register.
+/// Returns the load of the upper half of a word into a register.
 pub(crate) fn load_upper(target: u8, word: u32) -> Instr
     ensures { result ≡ load_upper target word }
 {
@@ -172,7 +173,7 @@ pub(crate) fn load_upper(target: u8, word: u32) -> Instr
     }
 }
 
-/// The lower half of a word into a register that has the upper one.
+/// Returns the addition of the lower half of a word to a register that has the upper one.
 pub(crate) fn or_lower(target: u8, word: u32) -> Instr
     ensures { result ≡ or_lower target word }
 {
@@ -184,14 +185,14 @@ pub(crate) fn or_lower(target: u8, word: u32) -> Instr
     }
 }
 
-/// The frame of a function that is called comes below the current one.
+/// Returns the instruction that moves the frame pointer to the callee's frame, below the current one.
 pub(crate) fn push_frame() -> Instr
     ensures { result ≡ push_frame }
 {
     add_immediate(FRAME, FRAME, minus(offset_of(MOST_FRAME_WORDS)))
 }
 
-/// The current frame is left.
+/// Returns the instruction that moves the frame pointer back to the caller's frame.
 pub(crate) fn pop_frame() -> Instr
     ensures { result ≡ pop_frame }
 {

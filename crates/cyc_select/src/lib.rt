@@ -1,4 +1,4 @@
-//! Instruction selection: the plain program as labelled code of the machine.
+//! Instruction selection: translates the plain program to labelled machine code.
 #![tactic(auto)]
 
 mod asking;

@@ -1,4 +1,4 @@
-//! The lines that load and store words of memory.
+//! Emits the lines that load and store words of memory.
 ghost use Rattle.std.specs.Prelude.{◌≡◌, ◌+◌, ◌≤◌, OnOk};
 ghost use Rattle.cyc_select.specs.inside.Operands.{far_plan, address_code, address_register, near_half, at_address, address_count};
 ghost use Rattle.cyc_select.specs.inside.Selection.{ordinary, address_of, load_at, store_at};
@@ -16,7 +16,7 @@ use cyc_isa::{Instr, MemoryOp};
 use cyc_plain::Operand;
 use std::alloc::AllocError;
 
-/// The register that an offset is added to.
+/// Returns the register that the offset is relative to.
 fn address_register(frame: &Frame, address: Operand, offset: u32) -> u8
     ensures { result ≡ address_register frame.now address offset }
 {
@@ -27,7 +27,7 @@ fn address_register(frame: &Frame, address: Operand, offset: u32) -> u8
     }
 }
 
-/// The offset in the instruction.
+/// Returns the offset that is part of the instruction.
 fn near_half(offset: u32) -> u16
     ensures { result ≡ near_half offset }
 {
@@ -38,7 +38,7 @@ fn near_half(offset: u32) -> u16
     }
 }
 
-/// A word of memory is loaded into a register, or stored from one.
+/// Returns the load of a word of memory into a register, or the store from one.
 fn at_address(frame: &Frame, op: MemoryOp, target: u8, address: Operand, offset: u32) -> Instr
     ensures { result ≡ at_address frame.now op target address offset }
 {
@@ -50,7 +50,7 @@ fn at_address(frame: &Frame, op: MemoryOp, target: u8, address: Operand, offset:
     }
 }
 
-/// The lines of an address.
+/// Returns the number of lines that compute an address.
 pub(crate) fn address_count(frame: &Frame, address: Operand, offset: u32) -> usize
     ensures value { result ≡ address_count frame.now address offset }
     ensures few { result ≤ 6 }
@@ -63,7 +63,7 @@ pub(crate) fn address_count(frame: &Frame, address: Operand, offset: u32) -> usi
 }
 
 impl Emitter {
-    /// The address comes into a register, but for an offset that fits the instruction.
+    /// Computes an address in a register, except for an offset that fits the instruction.
     fn address(&mut self, frame: &Frame, address: Operand, offset: u32) -> Result<(), AllocError>
         requires { IsFound frame.now address }
         ensures { AddsLines result self.old self.new (ordinary (address_code frame.now address offset)) }
@@ -74,7 +74,7 @@ impl Emitter {
         self.operation_of(frame, FIRST, far_plan(address, offset))
     }
 
-    /// The address of a slot's word comes into a slot.
+    /// Emits the write of a slot's address to a slot.
     pub(crate) fn address_of(
         &mut self,
         frame: &Frame,
@@ -91,7 +91,7 @@ impl Emitter {
         self.keep(frame, destination)
     }
 
-    /// A word or a byte of memory comes into a slot.
+    /// Emits the load of a word or a byte of memory into a slot.
     pub(crate) fn load_at(
         &mut self,
         frame: &Frame,
@@ -110,7 +110,7 @@ impl Emitter {
         self.keep(frame, destination)
     }
 
-    /// An operand goes into a word or a byte of memory.
+    /// Emits the store of an operand in a word or a byte of memory.
     pub(crate) fn store_at(
         &mut self,
         frame: &Frame,

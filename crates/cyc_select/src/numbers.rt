@@ -1,18 +1,19 @@
-//! Numbers that stand in an instruction.
+//! Numbers that fit the immediate field of an instruction.
 ghost use Rattle.std.specs.Prelude.{◌≡◌};
-ghost use Rattle.cyc_select.specs.inside.Numbers.{fits_signed, half_of, signed_half, negated_half, next_half, low_half, is_word, is_zero_word, is_plain_divisor, shift_amount, power_of};
+ghost use Rattle.cyc_select.specs.inside.Numbers.{fits_signed, half_of, signed_half, negated_half, next_half, low_half, is_word, is_zero_word};
+ghost use Rattle.cyc_select.specs.inside.Numbers.{is_plain_divisor, shift_amount, power_of};
 
 use cyc_plain::Operand;
 use cyc_words::{add, sub};
 
-/// Whether a word is its lower half extended by its sign.
+/// Returns true if a word equals its lower half sign-extended.
 pub(crate) fn fits_signed(word: u32) -> bool
     ensures { result ≡ fits_signed word }
 {
     word < 0x8000 || 0xffff_8000 <= word
 }
 
-/// The half that is this word where it is extended by its sign.
+/// Returns the 16-bit immediate that sign-extends to this word.
 fn half_of(word: u32) -> Option<u16>
     ensures { result ≡ half_of word }
 {
@@ -23,7 +24,7 @@ fn half_of(word: u32) -> Option<u16>
     }
 }
 
-/// The half that is an operand's word.
+/// Returns the sign-extended immediate for an operand's word.
 pub(crate) fn signed_half(operand: Operand) -> Option<u16>
     ensures { result ≡ signed_half operand }
 {
@@ -33,7 +34,7 @@ pub(crate) fn signed_half(operand: Operand) -> Option<u16>
     }
 }
 
-/// The half that is an operand's word with the other sign.
+/// Returns the sign-extended immediate for the negation of an operand's word.
 pub(crate) fn negated_half(operand: Operand) -> Option<u16>
     ensures { result ≡ negated_half operand }
 {
@@ -43,7 +44,7 @@ pub(crate) fn negated_half(operand: Operand) -> Option<u16>
     }
 }
 
-/// The half that is one more than an operand's word.
+/// Returns the sign-extended immediate for the successor of an operand's word.
 pub(crate) fn next_half(operand: Operand) -> Option<u16>
     ensures { result ≡ next_half operand }
 {
@@ -53,7 +54,7 @@ pub(crate) fn next_half(operand: Operand) -> Option<u16>
     }
 }
 
-/// The half that is an operand's word where zeros come before it.
+/// Returns the zero-extended immediate for an operand's word.
 pub(crate) fn low_half(operand: Operand) -> Option<u16>
     ensures { result ≡ low_half operand }
 {
@@ -78,7 +79,7 @@ pub(crate) fn is_word(operand: Operand) -> bool
     }
 }
 
-/// Whether an operand is the word 0, which is in a register already.
+/// Returns true if an operand is the word 0, which is in a register already.
 pub(crate) fn is_zero_word(operand: Operand) -> bool
     ensures { result ≡ is_zero_word operand }
 {
@@ -88,7 +89,7 @@ pub(crate) fn is_zero_word(operand: Operand) -> bool
     }
 }
 
-/// Whether an operand is a word by which the machine divides any other.
+/// Returns true if an operand is a divisor by which the machine can divide every word.
 pub(crate) fn is_plain_divisor(operand: Operand) -> bool
     ensures { result ≡ is_plain_divisor operand }
 {
@@ -98,7 +99,7 @@ pub(crate) fn is_plain_divisor(operand: Operand) -> bool
     }
 }
 
-/// How far a shift goes by an operand that is a word.
+/// Returns the shift amount given by a constant operand.
 pub(crate) fn shift_amount(operand: Operand) -> Option<u8>
     ensures { result ≡ shift_amount operand }
 {
@@ -108,7 +109,7 @@ pub(crate) fn shift_amount(operand: Operand) -> Option<u8>
     }
 }
 
-/// How far a shift to the left goes that multiplies by an operand, where that is a word and a power of two.
+/// Returns the amount of the left shift that multiplies by an operand, if that is a constant power of two.
 pub(crate) fn power_of(operand: Operand) -> Option<u8>
     ensures { result ≡ power_of operand }
 {

@@ -1,9 +1,11 @@
-//! The lines that bring an operand into a register.
+//! Emits the lines that load an operand into a register.
 ghost use Rattle.std.specs.Prelude.{◌≡◌, ◌≤◌, length, OnOk};
 ghost use Rattle.cyc_registers.specs.inside.Interference.{home_of, both_count, saved_count};
 ghost use Rattle.cyc_registers.specs.declared.home.TheConstants.{MOST_BOTH, MOST_SAVED};
-ghost use Rattle.cyc_select.specs.inside.Slots.{coming, coming_home, arriving_home, arriving, arrivals, value_register, is_kept, made_in, keep_code, give_code, is_own, hand_code, bring_code, bring_all, reload, reloads, arrival_count};
-ghost use Rattle.cyc_select.specs.inside.Operands.{keep_count, give_count, hand_count, move_count, reload_count, word_code, load_code, operand_code, operand_register, word_count, load_count, operand_count};
+ghost use Rattle.cyc_select.specs.inside.Slots.{coming, coming_home, arriving_home, arriving, arrivals, value_register, is_kept, made_in, keep_code};
+ghost use Rattle.cyc_select.specs.inside.Slots.{give_code, is_own, hand_code, bring_code, bring_all, reload, reloads, arrival_count};
+ghost use Rattle.cyc_select.specs.inside.Operands.{keep_count, give_count, hand_count, move_count, reload_count, word_code, load_code, operand_code};
+ghost use Rattle.cyc_select.specs.inside.Operands.{operand_register, word_count, load_count, operand_count};
 ghost use Rattle.cyc_select.specs.inside.Passing.{is_taken, passed_from};
 ghost use Rattle.cyc_select.specs.inside.Selection.{ordinary};
 ghost use Rattle.cyc_select.specs.inside.Emission.{AddsLines, IsReached, AreReached, IsFound};
@@ -19,7 +21,7 @@ use cyc_plain::Operand;
 use cyc_registers::{FIRST_PRESERVED, Home};
 use std::alloc::AllocError;
 
-/// The home of a slot.
+/// Returns the home of a slot.
 fn home(frame: &Frame, slot: usize) -> Home
     ensures { result ≡ home_of frame.now.homes slot }
 {
@@ -29,7 +31,7 @@ fn home(frame: &Frame, slot: usize) -> Home
     }
 }
 
-/// The register that a slot has, if it has one.
+/// Returns the register of a slot, if it has one.
 pub(crate) fn value_register(frame: &Frame, slot: usize) -> Option<u8>
     ensures { result ≡ value_register frame.now slot }
 {
@@ -39,7 +41,7 @@ pub(crate) fn value_register(frame: &Frame, slot: usize) -> Option<u8>
     }
 }
 
-/// Whether a slot's word in the frame holds its value.
+/// Returns true if a slot's word in the frame holds its value.
 pub(crate) fn is_kept(frame: &Frame, slot: usize) -> bool
     ensures { result ≡ is_kept frame.now slot }
 {
@@ -49,7 +51,7 @@ pub(crate) fn is_kept(frame: &Frame, slot: usize) -> bool
     }
 }
 
-/// The register where a slot's word is made.
+/// Returns the register in which a slot's word is computed.
 pub(crate) fn made_in(frame: &Frame, slot: usize) -> u8
     ensures { result ≡ made_in frame.now slot }
 {
@@ -59,7 +61,7 @@ pub(crate) fn made_in(frame: &Frame, slot: usize) -> u8
     }
 }
 
-/// Where an argument comes that has this home in its function: in memory where that is a register that calls preserve.
+/// Returns the home in which a parameter with this home arrives: memory if the home is a callee-saved register.
 fn coming_home(home: Home) -> Home
     ensures { result ≡ coming_home home }
 {
@@ -71,14 +73,14 @@ fn coming_home(home: Home) -> Home
     }
 }
 
-/// Where the argument comes to this slot.
+/// Returns the home in which the parameter at this slot arrives.
 fn home_coming(callee: &Frame, slot: usize) -> Home
     ensures { result ≡ home_of (coming callee.now).homes slot }
 {
     coming_home(home(callee, slot))
 }
 
-/// The home that a parameter comes to from memory where its function begins, beside it.
+/// Returns the home into which a parameter that arrives in memory is loaded at the function's entry.
 fn arriving_home(home: Home) -> Home
     ensures { result ≡ arriving_home home }
 {
@@ -90,7 +92,7 @@ fn arriving_home(home: Home) -> Home
     }
 }
 
-/// That of this slot, if it is one of a parameter.
+/// Returns the home into which the parameter at this slot is loaded at the function's entry, if it is one.
 fn home_arriving(frame: &Frame, slot: usize) -> Home
     ensures { result ≡ home_of (arriving frame.now) slot }
 {
@@ -100,7 +102,7 @@ fn home_arriving(frame: &Frame, slot: usize) -> Home
     arriving_home(home(frame, slot))
 }
 
-/// The register that it comes in, if it comes in one.
+/// Returns the register in which a parameter arrives, if it arrives in one.
 fn register_coming(callee: &Frame, slot: usize) -> Option<u8>
     ensures { result ≡ value_register (coming callee.now) slot }
 {
@@ -110,7 +112,7 @@ fn register_coming(callee: &Frame, slot: usize) -> Option<u8>
     }
 }
 
-/// Whether it comes in memory, also.
+/// Returns true if a parameter arrives in memory, also or only.
 fn is_kept_coming(callee: &Frame, slot: usize) -> bool
     ensures { result ≡ is_kept (coming callee.now) slot }
 {
@@ -120,7 +122,7 @@ fn is_kept_coming(callee: &Frame, slot: usize) -> bool
     }
 }
 
-/// The register that it comes by.
+/// Returns the register through which a parameter is passed.
 pub(crate) fn comes_by(callee: &Frame, slot: usize) -> u8
     ensures { result ≡ made_in (coming callee.now) slot }
 {
@@ -130,7 +132,7 @@ pub(crate) fn comes_by(callee: &Frame, slot: usize) -> u8
     }
 }
 
-/// Whether one of the first arguments comes by this register.
+/// Returns true if one of the arguments before `slot` is passed through this register.
 fn is_taken(callee: &Frame, slot: usize, register: u8) -> bool
     ensures { result ≡ is_taken (coming callee.now) slot register }
 {
@@ -141,7 +143,7 @@ fn is_taken(callee: &Frame, slot: usize, register: u8) -> bool
     taken
 }
 
-/// The register that an argument is passed from, if it is passed from one.
+/// Returns the register that an argument is passed from, if it is passed from one.
 pub(crate) fn passed_from(caller: &Frame, callee: &Frame, source: usize, slot: usize) -> Option<u8>
     ensures { result ≡ passed_from caller.now (coming callee.now) source slot }
 {
@@ -157,7 +159,7 @@ pub(crate) fn passed_from(caller: &Frame, callee: &Frame, source: usize, slot: u
     }
 }
 
-/// The register of an operand, which is this one where it comes into one.
+/// Returns the register of an operand: its own, or the given one if it is loaded.
 pub(crate) fn operand_register(frame: &Frame, register: u8, operand: Operand) -> u8
     ensures { result ≡ operand_register frame.now register operand }
 {
@@ -176,7 +178,7 @@ pub(crate) fn operand_register(frame: &Frame, register: u8, operand: Operand) ->
     }
 }
 
-/// The lines that bring a slot's word from where it is made into the frame.
+/// Returns the number of lines that store a slot's word in the frame.
 pub(crate) fn keep_count(frame: &Frame, slot: usize) -> usize
     ensures value { result ≡ keep_count frame.now slot }
     ensures few { result ≤ 1 }
@@ -184,7 +186,7 @@ pub(crate) fn keep_count(frame: &Frame, slot: usize) -> usize
     if is_kept(frame, slot) { 1 } else { 0 }
 }
 
-/// The lines that bring a register's word into a slot.
+/// Returns the number of lines that write a register to a slot.
 pub(crate) fn give_count(frame: &Frame, slot: usize) -> usize
     ensures value { result ≡ give_count frame.now slot }
     ensures few { result ≤ 2 }
@@ -195,7 +197,7 @@ pub(crate) fn give_count(frame: &Frame, slot: usize) -> usize
     }
 }
 
-/// The lines that bring an argument from where it comes by into the callee's frame, and those that bring a register's word to it.
+/// Returns the number of lines that store an argument in the callee's frame.
 pub(crate) fn keep_coming_count(callee: &Frame, slot: usize) -> usize
     ensures value { result ≡ keep_count (coming callee.now) slot }
     ensures few { result ≤ 1 }
@@ -212,7 +214,7 @@ fn is_own_coming(callee: &Frame, source: u8, slot: usize) -> bool
     }
 }
 
-/// The lines that bring a register's word to an argument's slot.
+/// Returns the number of lines that write a register to an argument's slot.
 pub(crate) fn hand_coming_count(callee: &Frame, source: u8, slot: usize) -> usize
     ensures value { result ≡ hand_count (coming callee.now) source slot }
     ensures few { result ≤ 2 }
@@ -254,7 +256,7 @@ fn saved_count(home: Home) -> usize
     }
 }
 
-/// The lines that bring parameters to registers which calls preserve.
+/// Returns the number of lines that load parameters into callee-saved registers.
 pub(crate) fn arrival_count(frame: &Frame) -> usize
     requires { arrival_count frame.now ≤ MOST_SAVED }
     ensures { result ≡ arrival_count frame.now }
@@ -266,7 +268,7 @@ pub(crate) fn arrival_count(frame: &Frame) -> usize
     count
 }
 
-/// The lines that read registers again which stand beside memory.
+/// Returns the number of lines that reload registers of slots with a copy in memory.
 pub(crate) fn reload_count(frame: &Frame) -> usize
     requires { reload_count frame.now ≤ MOST_BOTH }
     ensures { result ≡ reload_count frame.now }
@@ -289,7 +291,7 @@ pub(crate) fn word_count(word: u32) -> usize
     }
 }
 
-/// The lines of an operand that comes into a register.
+/// Returns the number of lines that load an operand into a register.
 pub(crate) fn load_count(operand: Operand) -> usize
     ensures value { result ≡ load_count operand }
     ensures few { result ≤ 2 }
@@ -300,7 +302,7 @@ pub(crate) fn load_count(operand: Operand) -> usize
     }
 }
 
-/// The lines of an operand that is in a register.
+/// Returns the number of lines that make an operand available in a register.
 pub(crate) fn operand_count(frame: &Frame, operand: Operand) -> usize
     ensures value { result ≡ operand_count frame.now operand }
     ensures few { result ≤ 2 }
@@ -320,7 +322,7 @@ pub(crate) fn operand_count(frame: &Frame, operand: Operand) -> usize
     }
 }
 
-/// The lines that copy an operand into a slot.
+/// Returns the number of lines that copy an operand into a slot.
 pub(crate) fn move_count(frame: &Frame, destination: usize, source: Operand) -> usize
     ensures value { result ≡ move_count frame.now destination source }
     ensures few { result ≤ 3 }
@@ -332,7 +334,7 @@ pub(crate) fn move_count(frame: &Frame, destination: usize, source: Operand) -> 
 }
 
 impl Emitter {
-    /// A word comes into a register.
+    /// Loads a word into a register.
     pub(crate) fn word(&mut self, target: u8, word: u32) -> Result<(), AllocError>
         ensures { AddsLines result self.old self.new (ordinary (word_code target word)) }
     {
@@ -348,7 +350,7 @@ impl Emitter {
         self.ordinary(&[load_upper(target, word), or_lower(target, word)])
     }
 
-    /// An operand comes into a register.
+    /// Loads an operand into a register.
     pub(crate) fn load(
         &mut self,
         frame: &Frame,
@@ -364,7 +366,7 @@ impl Emitter {
         }
     }
 
-    /// An operand is in a register.
+    /// Makes an operand available in a register.
     pub(crate) fn operand(
         &mut self,
         frame: &Frame,
@@ -390,7 +392,7 @@ impl Emitter {
         }
     }
 
-    /// A slot's word comes from where it is made into the frame, where it lives there.
+    /// Stores a slot's word in the frame, if its home includes memory.
     pub(crate) fn keep(&mut self, frame: &Frame, slot: usize) -> Result<(), AllocError>
         requires { IsReached frame.now slot }
         ensures { AddsLines result self.old self.new (ordinary (keep_code frame.now slot)) }
@@ -401,7 +403,7 @@ impl Emitter {
         self.ordinary(&[store_slot(frame, made_in(frame, slot), slot)])
     }
 
-    /// A register's word comes into a slot.
+    /// Writes a register to a slot.
     pub(crate) fn give(&mut self, frame: &Frame, source: u8, slot: usize) -> Result<(), AllocError>
         requires { IsReached frame.now slot }
         ensures { AddsLines result self.old self.new (ordinary (give_code frame.now source slot)) }
@@ -415,8 +417,7 @@ impl Emitter {
         }
     }
 
-    /// The same, where registers that stand beside memory may be read again behind it: such a slot gets the word in memory
-    /// alone then.
+    /// Writes a register to a slot. If registers are reloaded afterwards, a slot with a register and memory is written in memory only.
     fn bring(
         &mut self,
         frame: &Frame,
@@ -433,7 +434,7 @@ impl Emitter {
         self.give(frame, source, slot)
     }
 
-    /// The words of registers come into the slots from one on.
+    /// Writes registers to the slots from `slot` on.
     pub(crate) fn bring_all(
         &mut self,
         frame: &Frame,
@@ -452,7 +453,7 @@ impl Emitter {
         Ok(())
     }
 
-    /// An argument comes from where it comes by into the callee's frame, where it comes there.
+    /// Stores an argument in the callee's frame, if it arrives there.
     pub(crate) fn keep_coming(&mut self, callee: &Frame, slot: usize) -> Result<(), AllocError>
         requires { IsReached callee.now slot }
         ensures { AddsLines result self.old self.new (ordinary (keep_code (coming callee.now) slot)) }
@@ -463,7 +464,7 @@ impl Emitter {
         self.ordinary(&[store_slot(callee, comes_by(callee, slot), slot)])
     }
 
-    /// A register's word comes to an argument's slot.
+    /// Writes a register to an argument's slot.
     fn give_coming(&mut self, callee: &Frame, source: u8, slot: usize) -> Result<(), AllocError>
         requires { IsReached callee.now slot }
         ensures { AddsLines result self.old self.new (ordinary (give_code (coming callee.now) source slot)) }
@@ -477,7 +478,7 @@ impl Emitter {
         }
     }
 
-    /// The same, where the register may be the one that the argument comes in: then its word is there already.
+    /// Writes a register to an argument's slot; no move is needed if the argument arrives in that register.
     pub(crate) fn hand_coming(
         &mut self,
         callee: &Frame,
@@ -493,7 +494,7 @@ impl Emitter {
         self.give_coming(callee, source, slot)
     }
 
-    /// The register of a home is read again, where it stands beside memory.
+    /// Reloads the register of a home that includes memory.
     fn reload(&mut self, frame: &Frame, home: Home, slot: usize) -> Result<(), AllocError>
         requires { IsReached frame.now slot }
         ensures { AddsLines result self.old self.new (ordinary (reload frame.now home slot)) }
@@ -504,7 +505,7 @@ impl Emitter {
         }
     }
 
-    /// All such registers are read again.
+    /// Reloads all registers of slots with a copy in memory.
     pub(crate) fn reloads(&mut self, frame: &Frame) -> Result<(), AllocError>
         requires { AreReached frame.now 0 (length frame.now.homes) }
         ensures { AddsLines result self.old self.new (ordinary (reloads frame.now)) }
@@ -515,7 +516,7 @@ impl Emitter {
         Ok(())
     }
 
-    /// Parameters that came in memory come to their registers, which calls preserve.
+    /// Loads parameters that arrived in memory into their callee-saved registers.
     pub(crate) fn arrivals(&mut self, frame: &Frame) -> Result<(), AllocError>
         requires { AreReached frame.now 0 (length frame.now.homes) }
         ensures { AddsLines result self.old self.new (ordinary (arrivals frame.now)) }

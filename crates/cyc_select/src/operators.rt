@@ -1,9 +1,12 @@
-//! The lines of an operator, of a test, and of what else a function does with its own slots.
+//! Emits the lines of operators and tests, and of other work on a function's own slots.
 ghost use Rattle.std.specs.Prelude.{◌≡◌, ◌+◌, ◌*◌, ◌<◌, ◌≤◌, ◌^◌, [], ◌∷◌, ◌++◌, OnOk};
 ghost use Rattle.cyc_select.specs.inside.Instructions.{small, syscall, arithmetic_of, immediate_of, shift_of, shift_by_of, multiply_divide_of, move_from_of};
 ghost use Rattle.cyc_select.specs.inside.Slots.{give_code};
-ghost use Rattle.cyc_select.specs.inside.Operands.{operation_code, outcome_code, operands_code, operation_of, computed_code, plan_code, test_code, branch_on, condition_of, operation_count, outcome_count, count_of_operation, plan_count, test_count, is_tested};
-ghost use Rattle.cyc_select.specs.inside.Selection.{ordinary, product_code, quotient_code, divided_code, divide_code, part_of, operator_code, move_code, branch_code, write_code, uncaught_code};
+ghost use Rattle.cyc_select.specs.inside.Operands.{operation_code, outcome_code, operands_code, operation_of, computed_code, plan_code, test_code};
+ghost use Rattle.cyc_select.specs.inside.Operands.{branch_on, condition_of, operation_count, outcome_count, count_of_operation, plan_count};
+ghost use Rattle.cyc_select.specs.inside.Operands.{test_count, is_tested};
+ghost use Rattle.cyc_select.specs.inside.Selection.{ordinary, product_code, quotient_code, divided_code, divide_code, part_of, operator_code};
+ghost use Rattle.cyc_select.specs.inside.Selection.{move_code, branch_code, write_code, uncaught_code};
 ghost use Rattle.cyc_select.specs.inside.Emission.{AddsLines, IsReached, IsFound, IsPlanFound, IsTestFound, most_lines};
 
 use crate::code::{Condition, Line};
@@ -17,13 +20,13 @@ use crate::operands::{keep_count, made_in, operand_count, operand_register, valu
 use crate::plan::{Operation, Outcome, Plan, Test, binary_plan};
 use cyc_frame::Frame;
 use cyc_isa::{ArithmeticOp, BranchOp, ImmediateOp, Instr, MoveFromOp, MultiplyDivideOp, ShiftOp};
-use cyc_machine::constants::{
+use cyc_machine_model::constants::{
     ARGUMENT, END_UNCAUGHT, GET_BYTE, PUT_BYTE, SECOND_ARGUMENT, SERVICE,
 };
 use cyc_plain::{BinaryOperator, Operand};
 use std::alloc::AllocError;
 
-/// What a binary operator works on, and where its result goes.
+/// The operands of a binary operator, and the slot of its result.
 #[derive(Clone, Copy)]
 pub(crate) struct Parts {
     pub(crate) destination: usize,
@@ -31,7 +34,7 @@ pub(crate) struct Parts {
     pub(crate) right: Operand,
 }
 
-/// An operation on two registers, into another one.
+/// Returns an operation on two registers, into another one.
 pub(crate) fn arithmetic(op: ArithmeticOp, target: u8, left: u8, right: u8) -> Instr
     ensures { result ≡ arithmetic_of op target left right }
 {
@@ -54,7 +57,7 @@ pub(crate) fn shift(op: ShiftOp, target: u8, source: u8, by: u8) -> Instr
     }
 }
 
-/// An operation on a register and a number.
+/// Returns an operation on a register and an immediate.
 pub(crate) fn immediate(op: ImmediateOp, target: u8, left: u8, half: u16) -> Instr
     ensures { result ≡ immediate_of op target left half }
 {
@@ -66,7 +69,7 @@ pub(crate) fn immediate(op: ImmediateOp, target: u8, left: u8, half: u16) -> Ins
     }
 }
 
-/// A shift by a number, which counts modulo 32.
+/// Returns a shift by a constant, taken modulo 32.
 pub(crate) fn shift_by(op: ShiftOp, target: u8, source: u8, amount: u8) -> Instr
     ensures { result ≡ shift_by_of op target source amount }
 {
@@ -120,7 +123,7 @@ fn outcome_count(outcome: Outcome) -> usize
     }
 }
 
-/// The lines of a plan up to its outcome.
+/// Returns the number of lines of a plan without its final step.
 pub(crate) fn count_of_operation(frame: &Frame, plan: Plan) -> usize
     ensures value { result ≡ count_of_operation frame.now plan }
     ensures few { result ≤ 6 }
@@ -130,14 +133,14 @@ pub(crate) fn count_of_operation(frame: &Frame, plan: Plan) -> usize
         + operation_count(plan.operation)
 }
 
-/// The lines of a plan whose word goes to a slot.
+/// Returns the number of lines of a plan whose word is written to a slot.
 pub(crate) fn plan_count(frame: &Frame, plan: Plan, destination: usize) -> usize
     ensures { result ≡ plan_count frame.now plan destination }
 {
     count_of_operation(frame, plan) + outcome_count(plan.outcome) + keep_count(frame, destination)
 }
 
-/// The lines before a branch.
+/// Returns the number of lines of a branch's test.
 pub(crate) fn test_count(frame: &Frame, test: Test) -> usize
     ensures value { result ≡ test_count frame.now test }
     ensures few { result ≤ 6 }
@@ -151,7 +154,7 @@ pub(crate) fn test_count(frame: &Frame, test: Test) -> usize
     }
 }
 
-/// Where an outcome would be 1.
+/// Returns the branch taken if the outcome would be 1.
 fn branch_on(outcome: Outcome) -> BranchOp
     ensures { result ≡ branch_on outcome }
 {
@@ -161,7 +164,7 @@ fn branch_on(outcome: Outcome) -> BranchOp
     }
 }
 
-/// When the branch of a test is taken, behind what it tests.
+/// Returns the condition of the branch, after the lines of its test.
 pub(crate) fn condition_of(frame: &Frame, test: Test) -> Condition
     ensures { result ≡ condition_of frame.now test }
 {
@@ -183,7 +186,7 @@ pub(crate) fn condition_of(frame: &Frame, test: Test) -> Condition
     }
 }
 
-/// Whether a division has lines of its own, since its divisor may be -1.
+/// Returns true if a division needs a test, since its divisor may be -1.
 pub(crate) fn is_tested(operator: BinaryOperator, divisor: Operand) -> bool
     ensures { result ≡ is_tested operator divisor }
 {
@@ -193,7 +196,7 @@ pub(crate) fn is_tested(operator: BinaryOperator, divisor: Operand) -> bool
     }
 }
 
-/// Which result of a division is read.
+/// Returns the result register of a division: quotient or remainder.
 fn part_of(operator: BinaryOperator) -> MoveFromOp
     ensures { result ≡ part_of operator }
 {
@@ -203,7 +206,7 @@ fn part_of(operator: BinaryOperator) -> MoveFromOp
     }
 }
 
-/// What has the quotient and the remainder by -1 as its words.
+/// Returns the instruction that computes the quotient and the remainder by -1.
 fn product(which: MoveFromOp, left: u8) -> Instr
     ensures { result ≡ product_code which left }
 {
@@ -214,7 +217,7 @@ fn product(which: MoveFromOp, left: u8) -> Instr
 }
 
 impl Emitter {
-    /// An operand is copied into a slot.
+    /// Emits the copy of an operand into a slot.
     pub(crate) fn copy(
         &mut self,
         frame: &Frame,
@@ -233,7 +236,7 @@ impl Emitter {
         self.ordinary(&[store_slot(frame, operand_register(frame, FIRST, source), destination)])
     }
 
-    /// What makes a word of the words in two registers, in another one.
+    /// Returns the instruction that computes a word from two registers, into another one.
     fn operation(
         &mut self,
         operation: Operation,
@@ -258,7 +261,7 @@ impl Emitter {
         }
     }
 
-    /// What is made of such a word.
+    /// Emits the final step of a plan.
     fn outcome(&mut self, outcome: Outcome, target: u8) -> Result<(), AllocError>
         ensures { AddsLines result self.old self.new (ordinary (outcome_code outcome target)) }
     {
@@ -271,7 +274,7 @@ impl Emitter {
         }
     }
 
-    /// Two operands, each in a register.
+    /// Makes two operands available, each in a register.
     fn operands(&mut self, frame: &Frame, left: Operand, right: Operand) -> Result<(), AllocError>
         requires left { IsFound frame.now left }
         requires right { IsFound frame.now right }
@@ -281,7 +284,7 @@ impl Emitter {
         self.operand(frame, SECOND, right)
     }
 
-    /// A plan up to its outcome, into a register.
+    /// Emits the operation of a plan, without its final step, into a register.
     pub(crate) fn operation_of(
         &mut self,
         frame: &Frame,
@@ -300,7 +303,7 @@ impl Emitter {
         )
     }
 
-    /// A word that is computed.
+    /// Emits a plan into a register.
     fn computed(&mut self, frame: &Frame, target: u8, plan: Plan) -> Result<(), AllocError>
         requires { IsPlanFound frame.now plan }
         ensures { AddsLines result self.old self.new (ordinary (computed_code frame.now target plan)) }
@@ -309,7 +312,7 @@ impl Emitter {
         self.outcome(plan.outcome, target)
     }
 
-    /// It goes to a slot.
+    /// Emits a plan into a slot.
     pub(crate) fn plan(
         &mut self,
         frame: &Frame,
@@ -324,7 +327,7 @@ impl Emitter {
         self.keep(frame, destination)
     }
 
-    /// What a branch tests.
+    /// Emits the test of a branch.
     fn test(&mut self, frame: &Frame, test: Test) -> Result<(), AllocError>
         requires { IsTestFound frame.now test }
         ensures { AddsLines result self.old self.new (ordinary (test_code frame.now test)) }
@@ -336,7 +339,7 @@ impl Emitter {
         }
     }
 
-    /// A jump where a test holds, with what was hoisted in front of it.
+    /// Emits a branch on a test, with the hoisted line before it.
     pub(crate) fn branch_where(
         &mut self,
         frame: &Frame,
@@ -362,7 +365,7 @@ impl Emitter {
         }
     }
 
-    /// Dividend and divisor are in registers, and -1 comes into a third.
+    /// Makes dividend and divisor available in registers, and loads -1 into a third.
     fn dividend_and_divisor(
         &mut self,
         frame: &Frame,
@@ -377,7 +380,7 @@ impl Emitter {
         self.ordinary(&[add_immediate(THIRD, ZERO, minus(1))])
     }
 
-    /// The registers are divided, and a result of it comes to a slot.
+    /// Divides the registers and writes one of the results to a slot.
     fn quotient(
         &mut self,
         frame: &Frame,
@@ -397,8 +400,8 @@ impl Emitter {
         self.keep(frame, destination)
     }
 
-    /// A quotient or a remainder. By -1 the machine does not divide the least number, so there it multiplies, and the word
-    /// is read in the same place.
+    /// Emits a quotient or a remainder. For the divisor -1 it multiplies instead, since the machine cannot divide the least number by -1.
+    /// The product is read from the place of the quotient.
     fn divide(
         &mut self,
         frame: &Frame,
@@ -424,7 +427,7 @@ impl Emitter {
         self.quotient(frame, which, parts.destination, left, right)
     }
 
-    /// An operator on two operands.
+    /// Emits an operator on two operands.
     pub(crate) fn binary(
         &mut self,
         frame: &Frame,
@@ -445,7 +448,7 @@ impl Emitter {
         self.plan(frame, plan, parts.destination)
     }
 
-    /// A byte of the input comes into a slot.
+    /// Emits the read of an input byte into a slot.
     pub(crate) fn read_byte(&mut self, frame: &Frame, destination: usize) -> Result<(), AllocError>
         requires { IsReached frame.now destination }
         ensures { AddsLines result self.old self.new (ordinary (small SERVICE GET_BYTE ∷ syscall ∷ give_code frame.now SERVICE destination)) }
@@ -454,7 +457,7 @@ impl Emitter {
         self.give(frame, SERVICE, destination)
     }
 
-    /// An operand's low byte is printed.
+    /// Emits the output of an operand's low byte.
     pub(crate) fn write_byte(&mut self, frame: &Frame, source: Operand) -> Result<(), AllocError>
         requires { IsFound frame.now source }
         ensures { AddsLines result self.old self.new (write_code frame.now source) }
@@ -463,7 +466,7 @@ impl Emitter {
         self.ordinary(&[small(SERVICE, PUT_BYTE as u16), syscall()])
     }
 
-    /// The run ends with an exception that nothing caught.
+    /// Emits the end of the run with an uncaught exception.
     pub(crate) fn uncaught(
         &mut self,
         frame: &Frame,

@@ -1,8 +1,10 @@
-//! How the machine computes what an operator or a comparison says: by which instructions, and of which operands.
+//! Plans: the machine operations and operands that compute an operator or a comparison.
 ghost use Rattle.std.specs.Prelude.{◌≡◌};
 ghost use Rattle.cyc_select.specs.inside.Operands.{far_plan};
-ghost use Rattle.cyc_select.specs.inside.Plans.{arithmetic_plan, immediate_plan, immediate_or, shift_plan, multiply_divide_plan, product_plan, mirrored, zero_plan, equal_plan, less_plan, less_unsigned_plan, at_most_plan};
-ghost use Rattle.cyc_select.specs.inside.Plans.{compared_plan, is_mirrored, comparison_plan, unary_plan, sum_plan, difference_plan, bits_plan, operator_plan, is_swapped, binary_plan, sign_of, sign_or, order_test, test_of};
+ghost use Rattle.cyc_select.specs.inside.Plans.{arithmetic_plan, immediate_plan, immediate_or, shift_plan, multiply_divide_plan, product_plan};
+ghost use Rattle.cyc_select.specs.inside.Plans.{mirrored, zero_plan, equal_plan, less_plan, less_unsigned_plan, at_most_plan};
+ghost use Rattle.cyc_select.specs.inside.Plans.{compared_plan, is_mirrored, comparison_plan, unary_plan, sum_plan, difference_plan, bits_plan};
+ghost use Rattle.cyc_select.specs.inside.Plans.{operator_plan, is_swapped, binary_plan, sign_of, sign_or, order_test, test_of};
 
 use crate::numbers::{
     is_word, is_zero_word, low_half, negated_half, next_half, power_of, shift_amount, signed_half,
@@ -12,45 +14,44 @@ use cyc_isa::{
 };
 use cyc_plain::{BinaryOperator, Comparison, Operand, UnaryOperator};
 
-/// What makes a word of the words in two registers, or of that in the left one and a number.
+/// An operation that computes a word from two registers, or from a register and a constant.
 #[derive(Clone, Copy)]
 pub(crate) enum Operation {
     Arithmetic {
         op: ArithmeticOp,
     },
-    /// The right one stands in the instruction.
+    /// The right operand is an immediate.
     Immediate {
         op: ImmediateOp,
         half: u16,
     },
-    /// The left one is shifted.
+    /// The left operand is shifted.
     Shift {
         op: ShiftOp,
     },
-    /// By a number that stands in the instruction.
+    /// The shift amount is a constant.
     ShiftBy {
         op: ShiftOp,
         amount: u8,
     },
-    /// A word of their product, or a result of their division.
+    /// A word of the product, or a result of the division.
     MultiplyDivide {
         op: MultiplyDivideOp,
         from: MoveFromOp,
     },
 }
 
-/// What is made of such a word.
+/// The final step of a plan, on the computed word.
 #[derive(Clone, Copy)]
 pub(crate) enum Outcome {
     AsItIs,
-    /// 1 where it is 0, and 0 elsewhere.
+    /// The result is 1 if the computed word is 0, else 0.
     WhetherZero,
-    /// 0 where it is 0, and 1 elsewhere.
+    /// The result is 0 if the computed word is 0, else 1.
     WhetherNotZero,
 }
 
-/// A word that is computed of two operands. Where a number stands in the instruction, the right one is the word 0, which
-/// needs no line.
+/// A computation from two operands. If the instruction contains an immediate, the right operand is the word 0, which needs no line.
 #[derive(Clone, Copy)]
 pub(crate) struct Plan {
     pub(crate) operation: Operation,
@@ -59,21 +60,21 @@ pub(crate) struct Plan {
     pub(crate) outcome: Outcome,
 }
 
-/// What a branch tests.
+/// The test of a branch.
 #[derive(Clone, Copy)]
 pub(crate) enum Test {
-    /// Two operands.
+    /// Compares two operands.
     Operands {
         op: BranchOp,
         left: Operand,
         right: Operand,
     },
-    /// The sign of an operand.
+    /// Tests the sign of an operand.
     Sign {
         op: BranchZeroOp,
         operand: Operand,
     },
-    /// Whether a word that is computed is not 0.
+    /// Tests that a computed word is not 0.
     Computed {
         plan: Plan,
     },
@@ -90,7 +91,7 @@ fn arithmetic_plan(op: ArithmeticOp, left: Operand, right: Operand, outcome: Out
     }
 }
 
-/// The sum of an address and an offset, both in registers.
+/// Returns the plan of the sum of an address and an offset.
 pub(crate) fn far_plan(address: Operand, offset: u32) -> Plan
     ensures { result ≡ far_plan address offset }
 {
@@ -109,7 +110,7 @@ fn immediate_plan(op: ImmediateOp, left: Operand, half: u16, outcome: Outcome) -
     }
 }
 
-/// A plan with a number in the instruction, if there is one, and otherwise another.
+/// Returns a plan with an immediate, if there is one, else another plan.
 fn immediate_or(
     half: Option<u16>,
     op: ImmediateOp,
@@ -156,7 +157,7 @@ fn multiply_divide_plan(
     }
 }
 
-/// A product: by a power of two it is a shift.
+/// Returns the plan of a product: a shift if one factor is a power of two.
 fn product_plan(left: Operand, right: Operand) -> Plan
     ensures { result ≡ product_plan left right }
 {
@@ -174,7 +175,7 @@ fn product_plan(left: Operand, right: Operand) -> Plan
     }
 }
 
-/// The comparison with its operands the other way round.
+/// Returns the comparison with its operands exchanged.
 fn mirrored(comparison: Comparison) -> Comparison
     ensures { result ≡ mirrored comparison }
 {
@@ -187,7 +188,7 @@ fn mirrored(comparison: Comparison) -> Comparison
     }
 }
 
-/// Whether a word is 0, or is not.
+/// Returns the plan of the test that a word is 0, or is not.
 fn zero_plan(operand: Operand, holds: bool) -> Plan
     ensures { result ≡ zero_plan operand holds }
 {
@@ -203,7 +204,7 @@ fn zero_plan(operand: Operand, holds: bool) -> Plan
     }
 }
 
-/// Whether two words are equal, or are not: their difference is 0, or is not.
+/// Returns the plan of the test that two words are equal, or differ: their difference is 0, or is not.
 fn equal_plan(left: Operand, right: Operand, holds: bool) -> Plan
     ensures { result ≡ equal_plan left right holds }
 {
@@ -225,7 +226,7 @@ fn equal_plan(left: Operand, right: Operand, holds: bool) -> Plan
     )
 }
 
-/// Whether the left word is less than the right one, or is not.
+/// Returns the plan of the test that the left word is less than the right one, or of its negation.
 fn less_plan(left: Operand, right: Operand, outcome: Outcome) -> Plan
     ensures { result ≡ less_plan left right outcome }
 {
@@ -252,7 +253,7 @@ fn less_unsigned_plan(left: Operand, right: Operand, outcome: Outcome) -> Plan
     )
 }
 
-/// Whether the left word is at most the right one, which is whether it is less than one more, or is not.
+/// Returns the plan of the test that the left word is at most the right one: it is less than its successor.
 fn at_most_plan(left: Operand, right: Operand, holds: bool) -> Plan
     ensures { result ≡ at_most_plan left right holds }
 {
@@ -271,7 +272,7 @@ fn at_most_plan(left: Operand, right: Operand, holds: bool) -> Plan
     )
 }
 
-/// Whether a comparison holds whose left operand is no word, as far as that can be had.
+/// Returns the plan of a comparison whose left operand is no constant, if possible.
 fn compared_plan(comparison: Comparison, left: Operand, right: Operand) -> Plan
     ensures { result ≡ compared_plan comparison left right }
 {
@@ -289,7 +290,7 @@ fn compared_plan(comparison: Comparison, left: Operand, right: Operand) -> Plan
     }
 }
 
-/// Whether the operands are better the other way round: the left one is a word, and the comparison can be mirrored.
+/// Returns true if the operands should be exchanged: the left one is a constant, and the comparison can be mirrored.
 fn is_mirrored(comparison: Comparison, left: Operand) -> bool
     ensures { result ≡ is_mirrored comparison left }
 {
@@ -299,7 +300,7 @@ fn is_mirrored(comparison: Comparison, left: Operand) -> bool
     }
 }
 
-/// Whether a comparison holds: 1 or 0.
+/// Returns the plan of a comparison's value: 1 or 0.
 pub(crate) fn comparison_plan(comparison: Comparison, left: Operand, right: Operand) -> Plan
     ensures { result ≡ comparison_plan comparison left right }
 {
@@ -351,7 +352,7 @@ fn difference_plan(left: Operand, right: Operand) -> Plan
     )
 }
 
-/// An operation on bits, of registers and of a register and a number.
+/// Returns the plan of a bitwise operation, on two registers or on a register and an immediate.
 fn bits_plan(op: ArithmeticOp, number_op: ImmediateOp, left: Operand, right: Operand) -> Plan
     ensures { result ≡ bits_plan op number_op left right }
 {
@@ -365,8 +366,8 @@ fn bits_plan(op: ArithmeticOp, number_op: ImmediateOp, left: Operand, right: Ope
     )
 }
 
-/// An operator on two operands of which the left one is no word, as far as that can be had. (A division's plan is for a
-/// divisor by which the machine divides any word.)
+/// Returns the plan of an operator whose left operand is no constant, if possible. (The plan of a division assumes a divisor by which the
+/// machine can divide every word.)
 fn operator_plan(operator: BinaryOperator, left: Operand, right: Operand) -> Plan
     ensures { result ≡ operator_plan operator left right }
 {
@@ -391,7 +392,7 @@ fn operator_plan(operator: BinaryOperator, left: Operand, right: Operand) -> Pla
     }
 }
 
-/// Whether the operands are better the other way round: the left one is a word, and the operator commutes.
+/// Returns true if the operands should be exchanged: the left one is a constant, and the operator commutes.
 fn is_swapped(operator: BinaryOperator, left: Operand) -> bool
     ensures { result ≡ is_swapped operator left }
 {
@@ -405,7 +406,7 @@ fn is_swapped(operator: BinaryOperator, left: Operand) -> bool
     }
 }
 
-/// An operator on two operands.
+/// Returns the plan of an operator on two operands.
 pub(crate) fn binary_plan(operator: BinaryOperator, left: Operand, right: Operand) -> Plan
     ensures { result ≡ binary_plan operator left right }
 {
@@ -416,7 +417,7 @@ pub(crate) fn binary_plan(operator: BinaryOperator, left: Operand, right: Operan
     }
 }
 
-/// The branch on a sign that is a comparison with 0, if there is one.
+/// Returns the branch on a sign that performs a comparison with 0, if there is one.
 fn sign_of(comparison: Comparison) -> Option<BranchZeroOp>
     ensures { result ≡ sign_of comparison }
 {
@@ -429,7 +430,7 @@ fn sign_of(comparison: Comparison) -> Option<BranchZeroOp>
     }
 }
 
-/// By this branch on a sign, or else another test.
+/// Returns the test by this branch on a sign, or else another test.
 fn sign_or(sign: Option<BranchZeroOp>, operand: Operand, other: Test) -> Test
     ensures { result ≡ sign_or sign operand other }
 {
@@ -439,7 +440,7 @@ fn sign_or(sign: Option<BranchZeroOp>, operand: Operand, other: Test) -> Test
     }
 }
 
-/// A test for order: with 0 by the sign.
+/// Returns the test of an order; a comparison with 0 tests the sign.
 fn order_test(comparison: Comparison, left: Operand, right: Operand) -> Test
     ensures { result ≡ order_test comparison left right }
 {
@@ -455,7 +456,7 @@ fn order_test(comparison: Comparison, left: Operand, right: Operand) -> Test
     }
 }
 
-/// What a branch tests.
+/// Returns the test of a branch.
 pub(crate) fn test_of(comparison: Comparison, left: Operand, right: Operand) -> Test
     ensures { result ≡ test_of comparison left right }
 {

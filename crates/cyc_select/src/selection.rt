@@ -1,4 +1,4 @@
-//! The labelled code of a plain program.
+//! Emits the labelled code of a plain program.
 ghost use Rattle.std.specs.Prelude.{◌≡◌, ℕ, ◌+◌, ◌<◌, ◌≤◌, ◌++◌, length, sum_by, IfOk, IfErr, OnOk};
 ghost use Rattle.cyc_plain.specs.inside.Program.{routine_at};
 ghost use Rattle.cyc_plain.specs.inside.WellFormed.{IsPlain};
@@ -20,14 +20,14 @@ use crate::operators::{arithmetic, shift_by};
 use crate::tables::{FunctionLines, Ready, Tables};
 use cyc_frame::Frames;
 use cyc_isa::{ArithmeticOp, ShiftOp};
-use cyc_machine::constants::ARGUMENT;
+use cyc_machine_model::constants::ARGUMENT;
 use cyc_plain::{Instruction, Plain};
 use cyc_words::Fault;
 use std::alloc::{AllocError, Global};
 
 impl Emitter {
-    /// The register of globals is set, and `main`, whose first line is the label, is called: its frame lies below the end of
-    /// the stack, and there is room for those of as many calls as may be under way.
+    /// Emits the start: loads the base register of the globals and calls `main`, whose first line has this label. The frame of `main` lies
+    /// below the end of the stack, which has room for the frames of all allowed calls.
     fn start(&mut self, label: usize) -> Result<(), AllocError>
         ensures { AddsLines result self.old self.new (start_code label) }
     {
@@ -41,11 +41,13 @@ impl Emitter {
         self.line(Line::Jump { label })
     }
 
-    /// The lines of a function's code.
+    /// Emits the lines of a function's code.
     fn code(&mut self, tables: &Tables, code: &[Instruction]) -> Result<(), AllocError>
         requires known { IsKnown tables.now }
         requires code { code.now ≡ (routine_at tables.now.plain.now tables.now.function).code }
-        ensures { AddsLines result self.old self.new (code_lines tables.now.plain.now tables.now.frames.now tables.now.function 0 (function_line tables.now.plain.now tables.now.frames.now tables.now.function + saving_count (frame_at tables.now.frames.now tables.now.function)) code.now) }
+        ensures { AddsLines result self.old self.new (code_lines tables.now.plain.now tables.now.frames.now tables.now.function 0
+            (function_line tables.now.plain.now tables.now.frames.now tables.now.function + saving_count
+            (frame_at tables.now.frames.now tables.now.function)) code.now) }
     {
         for index in 0..code.len() {
             self.instruction(tables, index, code[index])?;
@@ -53,11 +55,12 @@ impl Emitter {
         Ok(())
     }
 
-    /// The lines of a function.
+    /// Emits the lines of a function.
     fn function(&mut self, program: &Ready, function: usize) -> Result<(), AllocError>
         requires ready { IsReady program.now }
         requires function { function < length program.now.plain.now.functions }
-        ensures { AddsLines result self.old self.new (routine_lines program.now.plain.now program.now.frames.now function (function_line program.now.plain.now program.now.frames.now function) (routine_at program.now.plain.now function)) }
+        ensures { AddsLines result self.old self.new (routine_lines program.now.plain.now program.now.frames.now function
+            (function_line program.now.plain.now program.now.frames.now function) (routine_at program.now.plain.now function)) }
     {
         let routine = program.plain.function(function);
         let code = &routine.code;
@@ -73,10 +76,11 @@ impl Emitter {
         self.code(&tables, code)
     }
 
-    /// The lines of all functions.
+    /// Emits the lines of all functions.
     fn functions(&mut self, program: &Ready) -> Result<(), AllocError>
         requires { IsReady program.now }
-        ensures { AddsLines result self.old self.new (function_lines program.now.plain.now program.now.frames.now 0 START_LINES program.now.plain.now.functions) }
+        ensures { AddsLines result self.old self.new (function_lines program.now.plain.now program.now.frames.now 0 START_LINES
+            program.now.plain.now.functions) }
     {
         let count = program.plain.functions().len();
         for function in 0..count {
@@ -86,7 +90,7 @@ impl Emitter {
     }
 }
 
-/// Where the lines of each function of a plain program begin, in the code that `select` gives.
+/// Returns the line numbers of each function of a plain program, in the code that `select` returns.
 pub fn lines_of(
     alloc: Global,
     plain: &Plain,
@@ -99,7 +103,7 @@ pub fn lines_of(
     Ok(numbered.functions)
 }
 
-/// The code, where memory suffices.
+/// Returns the code, if memory suffices.
 fn selected(alloc: Global, plain: &Plain, frames: &Frames) -> Result<Code, AllocError>
     requires { AreFrames plain.now frames.now }
     ensures code { IfOk result (λ code. code ≡ select_of plain.now frames.now) }
@@ -109,7 +113,7 @@ fn selected(alloc: Global, plain: &Plain, frames: &Frames) -> Result<Code, Alloc
     let numbered = number_lines(alloc, plain, frames)?;
     let globals = Vec::from_slice(alloc, plain.globals())?;
     let main = plain.main();
-    let mut emitter = Emitter::new(alloc, numbered.behind)?;
+    let mut emitter = Emitter::new(alloc, numbered.following)?;
     emitter.start(numbered.functions[main].first)?;
     emitter.functions(&Ready {
         plain,
@@ -119,12 +123,12 @@ fn selected(alloc: Global, plain: &Plain, frames: &Frames) -> Result<Code, Alloc
     Ok(Code::new(emitter.lines, globals))
 }
 
-/// The labelled code of a plain program whose functions have these frames, as `layout` gives them.
+/// Returns the labelled code of a plain program whose functions have these frames, as `layout` returns them.
 ///
-/// Nothing is refused but for want of memory.
+/// The only error is lack of memory.
 pub fn select(alloc: Global, plain: &Plain, frames: &Frames) -> Result<Code, Fault>
     requires { AreFrames plain.now frames.now }
-    // Each line belongs to one instruction of the program or to the start, and the code does what the program does.
+    // Each line belongs to one instruction of the program or to the start, and the code behaves as the program.
     ensures selected { IfOk result (λ code. IsCodeOf plain.now code) }
     // The data range begins with the program's globals.
     ensures globals { IfOk result (λ code. code.globals ≡ plain.now.globals) }

@@ -1,4 +1,4 @@
-//! What the lines of a function are made from.
+//! The data from which the lines of a function are emitted.
 ghost use Rattle.std.specs.Prelude.{◌≡◌, ◌+◌, ◌<◌, ◌≤◌, ◌==◌, length};
 ghost use Rattle.cyc_plain.specs.inside.Program.{routine_at};
 ghost use Rattle.cyc_frame.specs.inside.Layout.{frame_at};
@@ -11,16 +11,16 @@ use crate::counting::{frame_in, results_of};
 use cyc_frame::Frame;
 use cyc_plain::{GREATEST_VALUE, MOST_FRAME_WORDS, Plain};
 
-/// Where the lines of a function begin.
+/// The line numbers of a function.
 #[derive(Drop)]
 pub struct FunctionLines {
-    /// The number of the first one.
+    /// The number of the first line.
     pub first: usize,
-    /// The number of the first line of each instruction, or of what comes behind where one has none.
+    /// The number of the first line of each instruction; for an instruction without lines, that of the next line.
     pub lines: Vec<usize>,
 }
 
-/// A program, its functions' frames, and where the lines of each function begin.
+/// A program, the frames of its functions, and their line numbers.
 #[derive(Clone, Copy)]
 pub(crate) struct Ready<'a> {
     pub(crate) plain: &'a Plain,
@@ -28,12 +28,12 @@ pub(crate) struct Ready<'a> {
     pub(crate) functions: &'a [FunctionLines],
 }
 
-/// A function of a program, and what its lines name besides it.
+/// A function of a program, with the tables that its lines refer to.
 #[derive(Clone, Copy)]
 pub(crate) struct Tables<'a> {
     pub(crate) plain: &'a Plain,
     pub(crate) frames: &'a [Frame],
-    /// Where the lines of each function begin.
+    /// The line numbers of each function.
     pub(crate) functions: &'a [FunctionLines],
     /// The number of the first line of each instruction of the function.
     pub(crate) lines: &'a [usize],
@@ -41,7 +41,7 @@ pub(crate) struct Tables<'a> {
 }
 
 impl<'a> Tables<'a> {
-    /// The frame of a function.
+    /// Returns the frame of a function.
     pub(crate) fn frame(&self, function: usize) -> &'a Frame
         requires known { IsKnown self.now }
         requires function { function < length self.now.plain.now.functions }
@@ -56,7 +56,7 @@ impl<'a> Tables<'a> {
         frame_in(self.plain, self.frames, function)
     }
 
-    /// The number of the first line of a function.
+    /// Returns the number of the first line of a function.
     pub(crate) fn start(&self, function: usize) -> usize
         requires known { IsKnown self.now }
         requires function { function < length self.now.plain.now.functions }
@@ -65,7 +65,7 @@ impl<'a> Tables<'a> {
         self.functions[function].first
     }
 
-    /// The number of the first line of an instruction.
+    /// Returns the number of the first line of an instruction.
     pub(crate) fn line(&self, index: usize) -> usize
         requires known { IsKnown self.now }
         requires index { index < length (routine_at self.now.plain.now self.now.function).code }
@@ -74,7 +74,7 @@ impl<'a> Tables<'a> {
         self.lines[index]
     }
 
-    /// How many words a function returns.
+    /// Returns the number of words that a function returns.
     pub(crate) fn results(&self, function: usize) -> usize
         requires known { IsKnown self.now }
         requires function { function < length self.now.plain.now.functions }
@@ -84,7 +84,7 @@ impl<'a> Tables<'a> {
         results_of(self.plain, function)
     }
 
-    /// Whether the function is called first.
+    /// Returns true if the function is `main`.
     pub(crate) fn is_main(&self) -> bool
         ensures { result ≡ (self.now.function == self.now.plain.now.main) }
     {

@@ -1,4 +1,4 @@
--- An ordinary instruction that is safe is performed, and does what it does.
+-- An ordinary instruction that is safe does not trap and has its usual effect.
 use Rattle.std.proofs.Common.{◌≡◌, ◌≢◌, ℕ, ◌+◌, ◌-◌, ◌%◌, ◌^◌, Bool, true, false, not, ◌&&◌, ◌||◌, List, [], ◌∷◌, drop, Option, None, Some, refl, sym, ap, subst, ◌∙◌, arith, inl, inr, ◌++◌}
 use Rattle.std.specs.Prelude.{◌==◌, if◌then◌else◌, slice_get, unwrap_or, is_none}
 use Rattle.std.proofs.lemmas.Bool.{cases_eq, eq-eqb, ne_eqb, or_from, and_left, and_right, not_from_true}
@@ -17,16 +17,16 @@ use Rattle.cyc_isa.specs.Effect.{immediate_result, load_upper_result, arithmetic
 use Rattle.cyc_store.specs.State.{StoreState, word_at}
 use Rattle.cyc_store.specs.Services as services
 use Rattle.cyc_store.specs.Services.{Call, Answer, refusal}
-use Rattle.cyc_machine.specs.declared.event.Cause.TheVariants as causes
-use Rattle.cyc_machine.specs.declared.event.End.TheVariants as ends
-use Rattle.cyc_machine.specs.declared.event.Event.{Event}
-use Rattle.cyc_machine.specs.declared.event.Event.TheVariants.{Ran, WantsByte, Puts, Ended}
-use Rattle.cyc_machine.specs.declared.phase.Phase.TheVariants as phases
-use Rattle.cyc_machine.specs.State as machines
-use Rattle.cyc_machine.specs.State.{Place, with_register, place_of, is_dead, loaded, over}
-use Rattle.cyc_machine.specs.Step.{Action, Does, Calls, Acts, Service, GetByte, PutByte, EndReturned, EndUncaught, EndFull, Asks, told_by, answered, with_store, Serves, service_of, asked, calls, executes, after, cause_of, first_of, is_nowhere, is_text, is_aligned}
-use Rattle.cyc_machine.specs.Run.{told}
-use Rattle.cyc_machine.proofs.StepLaws.{executes-performs}
+use Rattle.cyc_machine_model.specs.declared.event.Cause.TheVariants as causes
+use Rattle.cyc_machine_model.specs.declared.event.End.TheVariants as ends
+use Rattle.cyc_machine_model.specs.declared.event.Event.{Event}
+use Rattle.cyc_machine_model.specs.declared.event.Event.TheVariants.{Ran, WantsByte, Puts, Ended}
+use Rattle.cyc_machine_model.specs.declared.phase.Phase.TheVariants as phases
+use Rattle.cyc_machine_model.specs.State as machines
+use Rattle.cyc_machine_model.specs.State.{Place, with_register, place_of, is_dead, loaded, over}
+use Rattle.cyc_machine_model.specs.Step.{Action, Does, Calls, Acts, Service, GetByte, PutByte, EndReturned, EndUncaught, EndFull, Asks, reported_by, answered, with_store, Serves, service_of, asked, calls, executes, after, cause_of, first_of, is_nowhere, is_text, is_aligned}
+use Rattle.cyc_machine_model.specs.Run.{reported}
+use Rattle.cyc_machine_model.proofs.StepLaws.{executes-performs}
 use Rattle.cyc_plain.specs.inside.State.{Words, put}
 use Rattle.cyc_plain.specs.declared.instruction.Request.{Request}
 use Rattle.cyc_plain.specs.declared.instruction.Request.TheVariants as requests
@@ -36,15 +36,15 @@ use Rattle.cyc_select.specs.inside.Machine as labelled
 use Rattle.cyc_select.proofs.relation.Cells.{IsCell, IsLive, cell, place_of-data, place_of-stack}
 use Rattle.cyc_select.proofs.effects.Views.{Contents, saved_in, View, Width, OneWord, OneByte, load_op, store_op, word_place, loaded_part, stored_word, answered_registers, does_r, does_w, IsSafe, IsWritable, moved, live_place, view_put, view_product, view_store, view_saved}
 
--- what is performed without an event leaves this
+-- An instruction that is performed without an event reaches this state.
 performs_to : (c : Configuration) (i : Instr) (left : machines.State) (next : State) → executes (machine_of c) i ≡ Does Ran left → left.phase ≡ phases.Running
     → Performs c i next → next ≡ Running (from_world (record { machine = left; output = c.output; input = c.input }) (c.line + 1))
 performs_to c i left next does running (event, s, acts, is) =
     let acted : Acts (Does Ran left) (machine_of c) event s = subst (λ (a : Action). Acts a (machine_of c) event s) does acts in
     is
-    ∙ (ap (λ (e : Event). settled (told (world_of c) e s) (c.line + 1) (told (world_of c) e s).machine.phase) acted.0
-    ∙ (ap (λ (t : machines.State). settled (told (world_of c) Ran t) (c.line + 1) t.phase) acted.1
-    ∙ ap (settled (told (world_of c) Ran left) (c.line + 1)) running))
+    ∙ (ap (λ (e : Event). settled (reported (world_of c) e s) (c.line + 1) (reported (world_of c) e s).machine.phase) acted.0
+    ∙ (ap (λ (t : machines.State). settled (reported (world_of c) Ran t) (c.line + 1) t.phase) acted.1
+    ∙ ap (settled (reported (world_of c) Ran left) (c.line + 1)) running))
 
 -- ---- division and memory, which may trap
 
@@ -63,7 +63,7 @@ division_has_result a b nonzero least = or_from (b == 0) (a == 2 ^ 31 && b == 2 
   | inr other ↦ and_left (a == 2 ^ 31) (b == 2 ^ 32 - 1) (ne_eqb a (2 ^ 31) other)
 ])
 
--- a load goes on where its word has a place, and a store where that is none of text
+-- A load continues if its address has a place, and a store if that place is not in the text.
 module _ (c : Configuration) (base : Register) (offset : ℕ) where
   abbrev goes_to : Width → Place
   goes_to width = place_of (memory_of c) (word_place width (memory_address (word_in c base.number) offset))
@@ -86,7 +86,7 @@ module _ (c : Configuration) (base : Register) (offset : ℕ) where
       let i : Instr = Memory StoreByte source base offset in
       performs_to c i (after (machine_of c) i) next (executes-performs (machine_of c) i (no_cause false _ _ _ _ refl aligned there live apart)) refl goes
 
--- a cell has a place that can be written
+-- A memory cell is at an address that may be written.
 module _ (globals stack : ℕ) (c : Configuration) (r : Words) (w : Contents) (view : View globals stack c r w) where
   stands : (a : ℕ) → IsCell globals stack a → (is_nowhere (place_of (memory_of c) a) ≡ false) × (is_dead (memory_of c) (place_of (memory_of c) a) ≡ false) × (is_text (place_of (memory_of c) a) ≡ false)
   stands a (inl (aligned, from, below)) =
@@ -123,7 +123,7 @@ module _ (globals stack : ℕ) (c : Configuration) (r : Words) (w : Contents) (v
       let there = stands a (at_cell width base offset at) in
       store_performs c base offset width source next (aligned a (at_cell width base offset at)) there.0 there.1 there.2 goes
 
-  -- it goes on to the next line
+  -- A safe instruction continues with the next line.
   pub performed : (i : Instr) (next : State) → IsSafe globals stack i r → Performs c i next → next ≡ Running (moved c i)
   performed (Immediate op target source half) next safe goes = performs_to c (Immediate op target source half) (after (machine_of c) (Immediate op target source half)) next refl refl goes
   performed (LoadUpper target half) next safe goes = performs_to c (LoadUpper target half) (after (machine_of c) (LoadUpper target half)) next refl refl goes
@@ -150,7 +150,7 @@ module _ (globals stack : ℕ) (c : Configuration) (r : Words) (w : Contents) (v
   performed (JumpRegisterLink destination source) next safe goes = absurd safe
   performed (Exception op code) next safe goes = absurd safe
 
-  -- and what it leaves is seen so
+  -- The view of registers and memory after a safe instruction.
   pub moved_view : (i : Instr) → IsSafe globals stack i r → View globals stack (moved c i) (does_r i r w) (does_w i r w)
   moved_view (Immediate op target source half) safe =
       view_put globals stack c r w view target.number (immediate_result op (word_in c source.number) half) (immediate_result op (r source.number) half) (c.line + 1) target.in_range safe
@@ -200,7 +200,7 @@ module _ (globals stack : ℕ) (c : Configuration) (r : Words) (w : Contents) (v
 -- ---- words of live blocks
 
 module _ (globals stack : ℕ) (c : Configuration) (r : Words) (w : Contents) (view : View globals stack c r w) where
-  -- nothing is wrong with a load or a store there
+  -- A load or a store at a word of a live block does not trap.
   lives : (a word : ℕ) → IsLive w.store a word → (is_nowhere (place_of (memory_of c) a) ≡ false) × (is_dead (memory_of c) (place_of (memory_of c) a) ≡ false) × (is_text (place_of (memory_of c) a) ≡ false)
   lives a word live =
       let there = live_place globals stack c r w view a word live in
@@ -213,7 +213,7 @@ module _ (globals stack : ℕ) (c : Configuration) (r : Words) (w : Contents) (v
   at_live : (width : Width) (base : Register) (offset word : ℕ) → IsLive w.store (word_place width (memory_address (r base.number) offset)) word → IsLive w.store (word_place width (memory_address (word_in c base.number) offset)) word
   at_live width base offset word live = subst (λ (n : ℕ). IsLive w.store (word_place width (memory_address n offset)) word) (sym (view.reg base.number base.in_range)) live
 
-  -- the word is found there
+  -- A load from a word of a live block finds the word.
   live_cell : (a word : ℕ) → IsLive w.store a word → cell (memory_of c) a ≡ word
   live_cell a word live =
       let found : word_at c.store a ≡ Some word = ap (λ (s : StoreState). word_at s a) view.store ∙ live.there in
@@ -263,32 +263,32 @@ module _ (globals stack : ℕ) (c : Configuration) (r : Words) (w : Contents) (v
 
 -- ---- services
 
--- a service that is asked for is called
+-- A `syscall` with a requested service calls that service.
 called : (c : Configuration) (code : TrapCode) (service : Service) → asked (core_of c) ≡ Some service → executes (machine_of c) (Exception Syscall code) ≡ Calls service
 called c code service asks =
     let fine : cause_of (machine_of c) (Exception Syscall code) ≡ None = ap (λ (o : Option Service). if is_none o then Some causes.BadService else None) asks in
     executes-performs (machine_of c) (Exception Syscall code) fine ∙ ap (λ (o : Option Service). calls o (machine_of c)) asks
 
--- what it tells and leaves
+-- The effect of a service: the event and the next state.
 abbrev Served : Configuration → Service → State → Type 0
 Served c service next =
     (event : Event) × (s : machines.State) × Serves service (machine_of c) event s
-    × (next ≡ settled (told (world_of c) event s) (c.line + 1) (told (world_of c) event s).machine.phase)
+    × (next ≡ settled (reported (world_of c) event s) (c.line + 1) (reported (world_of c) event s).machine.phase)
 
 service_serves : (c : Configuration) (code : TrapCode) (service : Service) (number : ℕ) (next : State) → word_in c 2 ≡ number → service_of (core_of c) number ≡ Some service → Performs c (Exception Syscall code) next → Served c service next
 service_serves c code service number next is_number asks (event, s, acts, is) =
     (event, s, subst (λ (a : Action). Acts a (machine_of c) event s) (called c code service (ap (service_of (core_of c)) is_number ∙ asks)) acts, is)
 
--- from an event and a state to the state that is seen
-seen : (c : Configuration) (next : State) (event told_event : Event) (s left : machines.State) → event ≡ told_event → s ≡ left
-    → next ≡ settled (told (world_of c) event s) (c.line + 1) (told (world_of c) event s).machine.phase
-    → next ≡ settled (told (world_of c) told_event left) (c.line + 1) (told (world_of c) told_event left).machine.phase
-seen c next event told_event s left same_event same is =
+-- The observed state that follows from an event and a machine state.
+seen : (c : Configuration) (next : State) (event reported_event : Event) (s left : machines.State) → event ≡ reported_event → s ≡ left
+    → next ≡ settled (reported (world_of c) event s) (c.line + 1) (reported (world_of c) event s).machine.phase
+    → next ≡ settled (reported (world_of c) reported_event left) (c.line + 1) (reported (world_of c) reported_event left).machine.phase
+seen c next event reported_event s left same_event same is =
     is
-    ∙ (ap (λ (e : Event). settled (told (world_of c) e s) (c.line + 1) (told (world_of c) e s).machine.phase) same_event
-    ∙ ap (λ (t : machines.State). settled (told (world_of c) told_event t) (c.line + 1) (told (world_of c) told_event t).machine.phase) same)
+    ∙ (ap (λ (e : Event). settled (reported (world_of c) e s) (c.line + 1) (reported (world_of c) e s).machine.phase) same_event
+    ∙ ap (λ (t : machines.State). settled (reported (world_of c) reported_event t) (c.line + 1) (reported (world_of c) reported_event t).machine.phase) same)
 
--- the byte that a program is given, or -1
+-- The byte that a program reads, or -1 at the end of the input.
 abbrev pub byte_of : List ℕ → ℕ
 byte_of input = unwrap_or (slice_get input 0) (2 ^ 32 - 1)
 
@@ -332,9 +332,9 @@ ends_full c code next number goes =
     let (event, s, (same_event, same), is) = service_serves c code EndFull 11 next number refl goes in
     seen c next event (Ended ends.Full) s (over (machine_of c) ends.Full) same_event same is
 
--- ---- calls of the store
+-- ---- requests to the store
 
--- the call that registers ask for
+-- The call of the store that the argument registers describe.
 abbrev pub call_by : Request → (first second : ℕ) → Call
 call_by (requests.OpenLexical destination) first second = services.OpenLexical
 call_by (requests.CloseTo mark) first second = services.CloseTo first
@@ -354,18 +354,18 @@ service_is c (requests.CloseDynamic handle) = refl
 service_is c (requests.Allocate destination handle words) = refl
 service_is c (requests.Free address) = refl
 
--- the store's answer is in registers
+-- The configuration after the store's result is written to the registers.
 abbrev pub given_answer : Configuration → Answer → StoreState → Configuration
 given_answer c a store = record c { registers = answered_registers c a; store = store; line = c.line + 1 }
 
--- the state that is seen behind an answer
-abbrev behind_answer : Configuration → Answer → StoreState → State
-behind_answer c a store =
-    settled (told (world_of c) (told_by a) (answered (with_store (machine_of c) store) a)) (c.line + 1)
-    (told (world_of c) (told_by a) (answered (with_store (machine_of c) store) a)).machine.phase
+-- The observed state after the store's result.
+abbrev after_answer : Configuration → Answer → StoreState → State
+after_answer c a store =
+    settled (reported (world_of c) (reported_by a) (answered (with_store (machine_of c) store) a)) (c.line + 1)
+    (reported (world_of c) (reported_by a) (answered (with_store (machine_of c) store) a)).machine.phase
 
 asked_goes_on : (c : Configuration) (old : StoreState) (call : Call) (choice : services.Choice) (store : StoreState)
-    → behind_answer c (services.answer old call choice) store ≡ Running (given_answer c (services.answer old call choice) store)
+    → after_answer c (services.answer old call choice) store ≡ Running (given_answer c (services.answer old call choice) store)
 asked_goes_on c old services.OpenLexical choice store = refl
 asked_goes_on c old (services.CloseTo mark) choice store = refl
 asked_goes_on c old services.OpenDynamic choice store = refl
@@ -388,7 +388,7 @@ store_serves c code next request number free goes =
     ∙ ap (λ (t : StoreState). answered (with_store (machine_of c) t) (services.answer c.store (asked_call request c) choice)) store_is) in (
       choice,
       allowed,
-      seen c next event (told_by (services.answer c.store (asked_call request c) choice)) s left (same_event ∙ ap told_by answer_is) left_is is
+      seen c next event (reported_by (services.answer c.store (asked_call request c) choice)) s left (same_event ∙ ap reported_by answer_is) left_is is
           ∙ asked_goes_on c c.store (asked_call request c) choice (services.served c.store (asked_call request c) choice),
     )
 
@@ -397,4 +397,4 @@ pub store_is_full : (c : Configuration) (code : TrapCode) (next : State) (reques
 store_is_full c code next request number full goes =
     let (event, s, (answer, store, serving, same_event, same), is) = service_serves c code (Asks (asked_call request c)) (service_number request) next number (service_is c request) goes in
     let (answer_is, store_is) = subst (λ (o : Option services.Refusal). services.ServesBy c.store (asked_call request c) o answer store) full serving in
-    seen c next event (Ended ends.Full) s (over (with_store (machine_of c) store) ends.Full) (same_event ∙ ap told_by answer_is) (same ∙ ap (λ (a : Answer). answered (with_store (machine_of c) store) a) answer_is) is
+    seen c next event (Ended ends.Full) s (over (with_store (machine_of c) store) ends.Full) (same_event ∙ ap reported_by answer_is) (same ∙ ap (λ (a : Answer). answered (with_store (machine_of c) store) a) answer_is) is

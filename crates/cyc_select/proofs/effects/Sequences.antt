@@ -1,4 +1,4 @@
--- What walks are made of: places that rise, code that stands at a line, and ordinary instructions one after another.
+-- The parts of walks: ascending places, code at a line, and consecutive ordinary instructions.
 use Rattle.std.proofs.Common.{◌≡◌, ◌≢◌, ℕ, suc, ◌+◌, ◌<◌, ◌≤◌, ◌%◌, true, List, [], ◌∷◌, ◌++◌, length, Some, slice_get, refl, subst, arith}
 use Rattle.std.specs.Prelude.{Contains}
 use Rattle.std.specs.List.{AllByRecursion, range_with_len}
@@ -23,7 +23,7 @@ use Rattle.cyc_words.proofs.Ranges.{Contains-range}
 use Rattle.cyc_select.specs.inside.Selection.{ordinary}
 use Rattle.cyc_select.proofs.effects.Views.{Contents, Width, OneWord, OneByte, loaded_part, stored_word, does_r, does_w, IsSafe}
 
--- ---- rising places
+-- ---- ascending places
 
 abbrev pub Rises : (lo hi : ℕ) → List ℕ → Type 0
 Rises lo hi [] = lo ≤ hi
@@ -46,14 +46,14 @@ rising_inside a n lo [] from rises = tt
 rising_inside a n lo (p ∷ places) from (first, rest) =
     (Contains-range a n p (omega arith) (omega (arith, rising_below (suc p) (a + n) places rest)), rising_inside a n (suc p) places (omega arith) rest)
 
--- a stretch seen otherwise
+-- A stretch of a run with weaker conditions on its way and its goal.
 pub comes_map : (m : Machine) (Way Goal Way' Goal' : m.State → Type 0) (places : List m.Place) (s : m.State)
     → ((t : m.State) → Way t → Way' t) → ((t : m.State) → Goal t → Goal' t) → Comes m Way Goal places s → Comes m Way' Goal' places s
 comes_map m Way Goal Way' Goal' [] s ways goals comes = goals s comes
 comes_map m Way Goal Way' Goal' (p ∷ places) s ways goals (stands, way, goes) =
     (stands, ways s way, λ next step. comes_map m Way Goal Way' Goal' places next ways goals (goes next step))
 
--- ---- code that stands at a line
+-- ---- code at a line
 
 abbrev pub Stands : Labelled → ℕ → List Line → Type 0
 Stands code k [] = Unit {0}
@@ -70,21 +70,21 @@ pub stands_back : (code : Labelled) (k : ℕ) (xs ys : List Line) → Stands cod
 stands_back code k [] ys stands = stands_to code k (k + 0) ys (omega arith) stands
 stands_back code k (x ∷ xs) ys (first, rest) = stands_to code (k + 1 + length xs) (k + suc (length xs)) ys (omega arith) (stands_back code (k + 1) xs ys rest)
 
--- up to a line, and with it
+-- Code up to a line, with and without it.
 pub stands_until : (code : Labelled) (k : ℕ) (xs : List Line) (y : Line) (ys : List Line) → Stands code k (xs ++ y ∷ ys) → Stands code k (xs ++ y ∷ [])
 stands_until code k [] y ys (first, rest) = (first, tt)
 stands_until code k (x ∷ xs) y ys (first, rest) = (first, stands_until code (k + 1) xs y ys rest)
 
--- the same of ordinary lines
+-- A prefix of ordinary lines is at the same line as the whole.
 pub stands_first : (code : Labelled) (k : ℕ) (xs ys : List Instr) → Stands code k (ordinary (xs ++ ys)) → Stands code k (ordinary xs)
 stands_first code k [] ys stands = tt
 stands_first code k (x ∷ xs) ys (first, rest) = (first, stands_first code (k + 1) xs ys rest)
 
-pub stands_behind : (code : Labelled) (k : ℕ) (xs ys : List Instr) → Stands code k (ordinary (xs ++ ys)) → Stands code (k + length xs) (ordinary ys)
-stands_behind code k [] ys stands = stands_to code k (k + 0) (ordinary ys) (omega arith) stands
-stands_behind code k (x ∷ xs) ys (first, rest) = stands_to code (k + 1 + length xs) (k + suc (length xs)) (ordinary ys) (omega arith) (stands_behind code (k + 1) xs ys rest)
+pub stands_after : (code : Labelled) (k : ℕ) (xs ys : List Instr) → Stands code k (ordinary (xs ++ ys)) → Stands code (k + length xs) (ordinary ys)
+stands_after code k [] ys stands = stands_to code k (k + 0) (ordinary ys) (omega arith) stands
+stands_after code k (x ∷ xs) ys (first, rest) = stands_to code (k + 1 + length xs) (k + suc (length xs)) (ordinary ys) (omega arith) (stands_after code (k + 1) xs ys rest)
 
--- ---- one after another
+-- ---- consecutive instructions
 
 abbrev pub after_r : List Instr → (r : Words) (w : Contents) → Words
 after_r [] r w = r
@@ -106,7 +106,7 @@ pub after_w-append : (is js : List Instr) (r : Words) (w : Contents) → after_w
 after_w-append [] js r w = refl
 after_w-append (i ∷ is) js r w = after_w-append is js (does_r i r w) (does_w i r w)
 
--- what is loaded of a word is one, and so is what a store leaves of it
+-- The loaded part of a word is a word, and so is the word after a store of a part.
 pub part_word : (width : Width) (address word : ℕ) → IsWord word → IsWord (loaded_part width address word)
 part_word OneWord address word is = is
 part_word OneByte address word is = let small = byte-small word (address % 4) in omega (arith, small)

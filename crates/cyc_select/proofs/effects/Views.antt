@@ -1,4 +1,4 @@
--- What an ordinary instruction does to registers and memory, where both are seen as functions from numbers to words.
+-- The effect of an ordinary instruction on registers and memory, both viewed as functions from numbers to words.
 use Rattle.std.proofs.Common.{◌≡◌, ◌≢◌, ℕ, ◌+◌, ◌-◌, ◌%◌, ◌^◌, ◌<◌, ◌≤◌, false, List, [], length, refl, sym, ap, subst, ◌∙◌, arith, inl, inr}
 use Rattle.std.specs.Prelude.{◌==◌, if◌then◌else◌, slice_set, slice_index}
 use Rattle.std.proofs.lemmas.Bool.{cases_eq, cond-false}
@@ -13,29 +13,29 @@ use Rattle.cyc_isa.specs.declared.instr.MultiplyDivideOp.TheVariants.{Multiply, 
 use Rattle.cyc_isa.specs.Effect.{immediate_result, load_upper_result, arithmetic_result, shift_result, high_result, low_result, memory_address}
 use Rattle.cyc_store.specs.State.{StoreState, saved}
 use Rattle.cyc_store.specs.Services.{Answer, Refused, Done, Opened, OpenedLexical, Allocated}
-use Rattle.cyc_machine.specs.State as machines
-use Rattle.cyc_machine.specs.State.{Core, Place, InText, InGlobals, InStack, InStore, Nowhere, register, with_register, place_of, stored}
-use Rattle.cyc_machine.specs.Step.{after}
-use Rattle.cyc_machine.proofs.MemoryLaws.{length-globals-stored, length-stack-stored}
+use Rattle.cyc_machine_model.specs.State as machines
+use Rattle.cyc_machine_model.specs.State.{Core, Place, InText, InGlobals, InStack, InStore, Nowhere, register, with_register, place_of, stored}
+use Rattle.cyc_machine_model.specs.Step.{after}
+use Rattle.cyc_machine_model.proofs.MemoryLaws.{length-globals-stored, length-stack-stored}
 use Rattle.cyc_plain.specs.inside.State.{Words, put}
 use Rattle.cyc_plain.proofs.SlotLaws.{put-same, put-other}
 use Rattle.cyc_select.specs.inside.Machine.{Configuration, core_of, memory_of, machine_of, from_world, word_in}
 use Rattle.cyc_select.proofs.relation.Cells.{IsCell, IsLive, cell, place_of-data, place_of-stack, place_of-live, cell-store, cell-stored}
 
--- What memory holds: the words of the data range and the stack, by their addresses, and the store.
+-- The contents of memory: the words of the data range and the stack, by address, and the store.
 pub record Contents : Type 0 where
   pub words : Words
   pub store : StoreState
 
--- a word of the data range or the stack is written
+-- The contents after a word of the data range or the stack is written.
 abbrev pub written : Contents → (address word : ℕ) → Contents
 written w address word = record w { words = put w.words address word }
 
--- a word of a live block is written
+-- The view after a word of a live block is written.
 abbrev pub saved_in : Contents → (address word : ℕ) → Contents
 saved_in w address word = record w { store = saved w.store address word }
 
--- The registers, with HI and LO as 32 and 33, and the memory of a configuration are these. The ranges have so many words.
+-- The configuration has these registers (HI and LO are numbers 32 and 33) and this memory, and its ranges have these sizes.
 pub record View (globals stack : ℕ) (c : Configuration) (r : Words) (w : Contents) : Type 0 where
   pub wide : length c.registers ≡ 32
   pub data_words : length c.globals ≡ globals
@@ -62,12 +62,12 @@ abbrev pub store_op : Width → MemoryOp
 store_op OneWord = StoreWord
 store_op OneByte = StoreByte
 
--- where the word lies that it needs
+-- The address of the word that an access needs.
 abbrev pub word_place : Width → (address : ℕ) → ℕ
 word_place OneWord address = address
 word_place OneByte address = word_of address
 
--- what is loaded, of that word, and what it is after a store
+-- The loaded part of that word, and the word after a store.
 abbrev pub loaded_part : Width → (address word : ℕ) → ℕ
 loaded_part OneWord address word = word
 loaded_part OneByte address word = byte_in word (address % 4)
@@ -76,7 +76,7 @@ abbrev pub stored_word : Width → (address old word : ℕ) → ℕ
 stored_word OneWord address old word = word
 stored_word OneByte address old word = with_byte old (address % 4) (word % 256)
 
--- ---- what an instruction does
+-- ---- the effect of an instruction
 
 abbrev pub does_r : Instr → (r : Words) (w : Contents) → Words
 does_r (Immediate op target source half) r w = put r target.number (immediate_result op (r source.number) half)
@@ -99,11 +99,11 @@ does_w (Memory StoreByte source base offset) r w =
     written w (word_of address) (stored_word OneByte address (w.words (word_of address)) (r source.number))
 does_w i r w = w
 
--- a register that can be written
+-- A register that code may write.
 abbrev pub IsWritable : ℕ → Type 0
 IsWritable number = (number == 0) ≡ false
 
--- when it does so, and does not trap
+-- The instruction has its usual effect and does not trap.
 abbrev pub IsSafe : (globals stack : ℕ) → Instr → Words → Type 0
 IsSafe globals stack (Immediate op target source half) r = IsWritable target.number
 IsSafe globals stack (LoadUpper target half) r = IsWritable target.number
@@ -122,7 +122,7 @@ IsSafe globals stack (MultiplyDivide Divide left right) r =
 IsSafe globals stack (Arithmetic op destination left right) r = IsWritable destination.number
 IsSafe globals stack i r = ⊥
 
--- what the store answers is in registers
+-- The registers after the store's result is written to the registers.
 abbrev pub answered_r : Answer → Words → Words
 answered_r (Refused why) r = r
 answered_r Done r = r
@@ -138,7 +138,7 @@ answered_registers c (OpenedLexical handle mark) =
     (with_register (with_register (core_of c) 2 handle) 3 mark).registers
 answered_registers c (Allocated address) = (with_register (core_of c) 2 address).registers
 
--- the configuration after an instruction that is performed
+-- The configuration after an instruction without a jump.
 abbrev pub moved : Configuration → Instr → Configuration
 moved c i = from_world (record { machine = after (machine_of c) i; output = c.output; input = c.input }) (c.line + 1)
 
@@ -160,7 +160,7 @@ set_register core n v m wide below writable =
     ]
 
 module _ (globals stack : ℕ) (c : Configuration) (r : Words) (w : Contents) (view : View globals stack c r w) where
-  -- one register is written
+  -- The view after one register is written.
   pub view_put : (n v word line : ℕ) → n < 32 → IsWritable n → v ≡ word
       → View globals stack (record c { registers = (with_register (core_of c) n v).registers; line = line }) (put r n word) w
   view_put n v word line below writable same = record {
@@ -181,7 +181,7 @@ module _ (globals stack : ℕ) (c : Configuration) (r : Words) (w : Contents) (v
     store = view.store;
   }
 
-  -- another line is next, and other things are printed and read
+  -- The view does not depend on the next line, the output and the input.
   pub view_seen : (line : ℕ) (output input : List ℕ) → View globals stack (record c { line = line; output = output; input = input }) r w
   view_seen line output input = record {
     wide = view.wide;
@@ -199,7 +199,7 @@ module _ (globals stack : ℕ) (c : Configuration) (r : Words) (w : Contents) (v
   pub view_at : (line : ℕ) → View globals stack (record c { line = line }) r w
   view_at line = view_seen line c.output c.input
 
-  -- HI and LO are written
+  -- The view after HI and LO are written.
   pub view_product : (h l high low line : ℕ) → h ≡ high → l ≡ low → View globals stack (record c { high = h; low = l; line = line }) (put (put r 32 high) 33 low) w
   view_product h l high low line same_high same_low = record {
     wide = view.wide;
@@ -216,7 +216,7 @@ module _ (globals stack : ℕ) (c : Configuration) (r : Words) (w : Contents) (v
     store = view.store;
   }
 
-  -- a word of the data range or the stack is written, and the store stays
+  -- The store is unchanged if a word of the data range or the stack is written.
   same_store : (a word : ℕ) → IsCell globals stack a → (stored (memory_of c) (place_of (memory_of c) a) word).store ≡ c.store
   same_store a word (inl (aligned, from, below)) =
       ap (λ (p : Place). (stored (memory_of c) p word).store) (place_of-data c.globals c.stack c.store a (aligned, from, omega (arith, below, view.data_words)))
@@ -224,7 +224,7 @@ module _ (globals stack : ℕ) (c : Configuration) (r : Words) (w : Contents) (v
       ap (λ (p : Place). (stored (memory_of c) p word).store)
       (place_of-stack c.globals c.stack c.store a (omega (arith, view.data_words, view.few_globals)) (omega (arith, view.stack_words, view.few_stack)) (aligned, omega (arith, from, view.stack_words), below))
 
-  -- the place of a word of a live block
+  -- The place of a word of a live block.
   pub live_place : (a word : ℕ) → IsLive w.store a word → place_of (memory_of c) a ≡ InStore a
   live_place a word live =
       place_of-live c.globals c.stack c.store a word (omega (arith, view.data_words, view.few_globals)) (omega (arith, view.stack_words, view.few_stack))
@@ -272,7 +272,7 @@ module _ (globals stack : ℕ) (c : Configuration) (r : Words) (w : Contents) (v
         | inr other ↦ put-other (cell (memory_of c)) a b word other ∙ (view.mem b b_at ∙ sym (put-other w.words a b word other))
       ]
 
-  -- the store is another
+  -- The view after the store changes.
   pub view_stored : (line : ℕ) (store other : StoreState) → other ≡ store → View globals stack (record c { store = other; line = line }) r (record w { store = store })
   view_stored line store other same = record {
     wide = view.wide;
@@ -290,7 +290,7 @@ module _ (globals stack : ℕ) (c : Configuration) (r : Words) (w : Contents) (v
     store = same;
   }
 
-  -- a word of a live block is written
+  -- The view after a word of a live block is written.
   pub view_saved : (a old address v word line : ℕ) → IsLive w.store a old → address ≡ a → v ≡ word
       → View globals stack (record c {
         globals = (stored (memory_of c) (place_of (memory_of c) address) v).globals;
@@ -322,7 +322,7 @@ module _ (globals stack : ℕ) (c : Configuration) (r : Words) (w : Contents) (v
           ∙ (ap (λ (p : Place). stored (memory_of c) p v) (live_place a old live)
           ∙ ap (λ (x : ℕ). let m : machines.Memory = record (memory_of c) { store = saved c.store a x } in m) same)
 
--- the store answered a call
+-- The view after the store's result.
 pub view_answered : (globals stack : ℕ) (c : Configuration) (r : Words) (w : Contents) → View globals stack c r w → (a : Answer) (line : ℕ) (store other : StoreState) → other ≡ store
     → View globals stack (record c { registers = answered_registers c a; store = other; line = line }) (answered_r a r) (record w { store = store })
 view_answered globals stack c r w view (Refused why) line store other same = view_stored globals stack c r w view line store other same

@@ -1,4 +1,4 @@
--- How many lines operands, plans and tests have, as they are counted: so many, and few.
+-- The numbers of lines of operands, plans and tests: they are as counted, and small.
 use Rattle.std.proofs.Common.{◌≡◌, ℕ, zero, suc, ◌+◌, ◌-◌, ◌*◌, ◌%◌, ◌^◌, ◌<◌, ◌≤◌, Bool, true, false, List, [], ◌∷◌, length, Option, None, Some, refl, sym, ap, ◌∙◌, arith, length-append}
 use Rattle.std.specs.Prelude.{◌==◌, nat_lt, if◌then◌else◌}
 use Rattle.std.proofs.lemmas.Bool.{false≢true}
@@ -38,9 +38,9 @@ use Rattle.cyc_select.specs.inside.Selection.{move_to, moves, all_moved, moved_c
 use Rattle.cyc_select.proofs.relation.Values.{memory_kept}
 use Rattle.cyc_isa.specs.declared.instr.MemoryOp.{MemoryOp}
 
--- ---- few
+-- ---- upper bounds
 
--- one of three forms, or two lines
+-- A word takes one line in three cases, else two.
 word_either : (a b c : Bool) → (if a then 1 else (if b then 1 else (if c then 1 else 2))) ≤ 2
 word_either true b c = omega arith
 word_either false true c = omega arith
@@ -59,7 +59,7 @@ word_some word = go (fits_signed word) (nat_lt word (2 ^ 16)) (word % 2 ^ 16 == 
     go false false true = omega arith
     go false false false = omega arith
 
--- what is loaded, and what is computed, has some lines
+-- A load and a computation have at least one line.
 pub load_some : (o : Operand) → 0 < load_count o
 load_some (operands.Slot number) = omega arith
 load_some (operands.Word word) = word_some word
@@ -148,7 +148,7 @@ module _ (frame : Frame) where
   pub plan_small : (plan : Plan) (destination : ℕ) → plan_count frame plan destination ≤ 8
   plan_small plan destination = omega (arith, computed_small plan, outcome_small plan.outcome, keep_few destination)
 
-  -- what is no multiplication and no division has one line less
+  -- A plan without a multiplication or division has at most seven lines.
 
   arithmetic_small : (destination : ℕ) (op : ArithmeticOp) (left right : Operand) (o : Outcome) → plan_count frame (arithmetic_plan op left right o) destination ≤ 7
   arithmetic_small destination op left right o = omega (arith, operand_small left, operand_small right, outcome_small o, keep_few destination)
@@ -201,7 +201,7 @@ pub argument_small : (o : Option Operand) → argument_count o ≤ operand_size 
 argument_small None = omega arith
 argument_small (Some operand) = omega (arith, load_small operand)
 
--- and so much do those have that count regions, with the first word that is taken
+-- The lines that count regions fit the size of the request together with those of its first operand.
 pub regions_small : (request : Request) → argument_count (first_operand request) + regions_count request ≤ operand_size (first_operand request) + answer_count request
 regions_small (requests.OpenLexical destination) = omega arith
 regions_small (requests.CloseTo mark) = omega (arith, load_small mark)
@@ -234,7 +234,7 @@ length_regions (requests.CloseDynamic handle) = refl
 length_regions (requests.Allocate destination handle words) = refl
 length_regions (requests.Free address) = refl
 
--- ---- so many
+-- ---- exact numbers of lines
 
 pub length_word : (target word : ℕ) → length (word_code target word) ≡ word_count word
 length_word target word = length_either (fits_signed word) (nat_lt word (2 ^ 16)) (word % 2 ^ 16 == 0)
@@ -333,7 +333,7 @@ length_test frame (tests.Operands op left right) = length_operands frame left ri
 length_test frame (tests.Sign op operand) = length_operand frame FIRST operand
 length_test frame (tests.Computed plan) = length_operation_of frame FIRST plan
 
--- with a line that was hoisted
+-- The length of a block with the hoisted line.
 pub length_hoisted : (is : List Instr) (first : Option Instr) → length (with_hoisted is first) ≡ length is + hoisted_count first
 length_hoisted is None = omega arith
 length_hoisted is (Some x) = length-append is (x ∷ [])
@@ -356,7 +356,7 @@ length_brought : (again : Bool) (f : Frame) (source slot : ℕ) → length (brin
 length_brought false f source slot = length_give f source slot
 length_brought true f source slot = go (is_kept f slot) refl
   where
-    -- what no memory holds is in a register
+    -- A slot that is not in memory is in a register.
     given : (o : Option ℕ) → value_register f slot ≡ o → is_kept f slot ≡ false → length (give_to o f source slot) ≡ 1
     given None none unkept = absurd (false≢true (sym unkept ∙ memory_kept f slot none))
     given (Some register) has unkept = ap (λ (b : Bool). suc (length (if b then store_slot f (made_in f slot) slot ∷ [] else []))) unkept
@@ -365,7 +365,7 @@ length_brought true f source slot = go (is_kept f slot) refl
     go true kept = refl
     go false unkept = given (value_register f slot) refl unkept
 
--- where registers are read again behind it, each word has one
+-- If registers are reloaded afterwards, each word takes one line.
 pub length_results : (f : Frame) (slot : ℕ) (sources : List ℕ) → length (bring_all true f slot sources) ≡ length sources
 length_results f slot [] = refl
 length_results f slot (source ∷ sources) =
@@ -397,7 +397,7 @@ pub moves_some : (f : Frame) (destination source count : ℕ) → 0 < count → 
 moves_some f destination source zero some = absurd (omega (arith, some))
 moves_some f destination source (suc count) some = omega (arith, move_some f destination (operands.Slot source))
 
--- one word more
+-- The count for one more word of a move.
 pub moves_next : (f : Frame) (destination source count word : ℕ) → word < count
     → moves_count f (destination + word) (source + word) (count - word)
     ≡ move_count f (destination + word) (operands.Slot (source + word)) + moves_count f (destination + (word + 1)) (source + (word + 1)) (count - (word + 1))
@@ -434,7 +434,7 @@ spills_few caller callee source slot (suc count) = omega (arith, one (passed_fro
     one None = unkept (is_kept caller source)
     one (Some register) = omega arith
 
--- one slot more
+-- The count for one more spilled slot.
 pub spills_next : (caller callee : Frame) (source count word : ℕ) → word < count
     → spills_count caller callee (source + word) word (count - word)
     ≡ spill_count caller callee (source + word) word + spills_count caller callee (source + (word + 1)) (word + 1) (count - (word + 1))
@@ -471,7 +471,7 @@ copies_few caller callee source slot (suc count) = omega (arith, one (passed_fro
         handed true = omega (arith, keep_few callee slot)
         handed false = give_small callee slot
 
--- one argument more
+-- The count for one more argument.
 pub copies_next : (caller callee : Frame) (source count word : ℕ) → word < count
     → copies_count caller callee (source + word) word (count - word)
     ≡ pass_count caller callee (source + word) word + copies_count caller callee (source + (word + 1)) (word + 1) (count - (word + 1))
@@ -483,7 +483,7 @@ copies_next caller callee source count word below =
     ∙ ap (λ (n : ℕ). pass_count caller callee (source + word) word + copies_count caller callee n (suc word) (count - (word + 1))) from
     ∙ ap (λ (n : ℕ). pass_count caller callee (source + word) word + copies_count caller callee (source + (word + 1)) n (count - (word + 1))) to
 
--- no more registers than words
+-- The number of result registers is at most the number of result words.
 pub registers_few : (count : ℕ) → length (result_registers count) ≤ count
 registers_few zero = omega arith
 registers_few (suc zero) = omega arith
@@ -498,7 +498,7 @@ length_registers (suc (suc zero)) few_results = refl
 length_registers (suc (suc (suc zero))) few_results = refl
 length_registers (suc (suc (suc (suc count)))) few_results = absurd (omega (arith, few_results))
 
--- several words
+-- The number of lines of a move of several words.
 pub length_moved : (f : Frame) (destination source count : ℕ) → length (moved_code f destination source count) ≡ move_words_count f destination source count
 length_moved f destination source count = go (is_crossing destination source count)
   where
@@ -521,7 +521,7 @@ move_words_some f destination source count some few = go (is_crossing destinatio
     go true = omega (arith, length_registers count few, some)
     go false = moves_some f destination source count some
 
--- ---- calls of the store
+-- ---- requests to the store
 
 pub length_argument : (frame : Frame) (register : ℕ) (o : Option Operand) → length (argument_code frame register o) ≡ argument_count o
 length_argument frame register None = refl

@@ -1,4 +1,4 @@
--- Numbers of lines: sums over what stands before.
+-- Line numbers as sums over the preceding lines.
 use Rattle.std.proofs.Common.{◌≡◌, ℕ, zero, suc, ◌+◌, ◌<◌, ◌≤◌, Bool, true, false, List, [], ◌∷◌, ◌++◌, length, drop, take, Some, slice_get, refl, sym, ap, subst, ◌∙◌, inl, inr, arith}
 use Rattle.std.specs.Prelude.{sum_by, slice_index_or, if◌then◌else◌, ◌||◌}
 use Rattle.std.proofs.lemmas.Bool.{cases_lt}
@@ -20,8 +20,8 @@ use Rattle.cyc_select.specs.declared.constants.TheConstants.{START_LINES}
 use Rattle.cyc_select.specs.inside.Slots.{coming, arrival_count, way_count, saving_count}
 use Rattle.cyc_select.specs.inside.Operands.{reload_count}
 use Rattle.cyc_select.specs.inside.Hoisting.{is_idle, hoisted}
-use Rattle.cyc_select.specs.inside.Counts.{ending_count, body_count, behind_count, count_of, code_count, function_count, functions_count, function_line, instruction_line}
-use Rattle.cyc_select.specs.inside.Selection.{behind, place_lines, code_lines, function_lines, routine_lines}
+use Rattle.cyc_select.specs.inside.Counts.{ending_count, body_count, after_count, count_of, code_count, function_count, functions_count, function_line, instruction_line}
+use Rattle.cyc_select.specs.inside.Selection.{following, place_lines, code_lines, function_lines, routine_lines}
 use Rattle.cyc_select.specs.inside.Plans.{test_of}
 use Rattle.cyc_select.specs.inside.Emission.{AreReached, AreFew, most_lines, instruction_lines, lines_in, IsNumbered, AreNumbered, AreReady, AreTables}
 use Rattle.cyc_select.specs.declared.tables.FunctionLines.{FunctionLines}
@@ -33,7 +33,7 @@ use Rattle.cyc_select.proofs.emission.Counts.{move_small, move_words_small, spil
 abbrev no_frame : Frame
 no_frame = record { return_address = 0; saves = false; first_saved = 0; saved = 0; first_slot = 0; parameters = 0; homes = []; idle = []; fills = [] }
 
--- ---- an instruction has few lines for each unit of its size
+-- ---- bounds of an instruction's lines by its size
 
 if_at_most_four : (b : Bool) → (if b then 4 else 0) ≤ 4
 if_at_most_four true = omega arith
@@ -49,7 +49,7 @@ way_small frame = go frame.saves
     go true = omega arith
     go false = omega arith
 
--- how many words keep the way back of code
+-- The number of words that save the return address: 1 if the code overwrites its register, else 0.
 abbrev pub losing : List Instruction → ℕ
 losing code = if loses_any code then 1 else 0
 
@@ -60,7 +60,7 @@ losing_next i code = go (loses i)
     go true = omega arith
     go false = omega arith
 
--- and how many it has room for that save registers, and bring parameters to them
+-- The number of words that the code reserves to save registers and load parameters into them.
 abbrev pub returning : List Instruction → ℕ
 returning code = if returns_any code then 14 else 0
 
@@ -71,11 +71,11 @@ returning_next i code = go (returns i)
     go true = omega arith
     go false = omega arith
 
--- a function with this code saves where it begins what the code has room for
+-- A function with this code saves at its entry no more than the code has room for.
 abbrev pub IsSaving : Frame → List Instruction → Type 0
 IsSaving frame code = (frame.saves ≡ loses_any code) × (frame.saved + arrival_count frame ≤ returning code)
 
--- no more parameters come to such registers than it saves
+-- No more parameters are loaded into callee-saved registers than the function saves.
 pub arrivals_few : (program : Program) (r : Routine) (frame : Frame) → IsFrame r frame → AreHomes program r frame.saved frame.homes → arrival_count frame ≤ frame.saved
 arrivals_few program r frame is right = subst (λ (n : ℕ). sum_by saved_count (take n frame.homes) ≤ frame.saved) (sym is.parameters) right.arrivals
 
@@ -88,7 +88,7 @@ is_saving program r frame is right = (is.saved, go frame.saved refl)
         let room : returning r.code ≡ 14 = ap (λ (b : Bool). if b then 14 else 0) (is.returning (omega (arith, some))) in
         omega (arith, room, is.most_saved, arrivals_few program r frame is right)
 
--- these functions, from this index on, do so by their frames
+-- The functions from this index on save no more than their code has room for.
 abbrev pub AreSaved : List Frame → (first : ℕ) → List Routine → Type 0
 AreSaved frames first routines = (k : ℕ) → k < length routines → IsSaving (frame_at frames (first + k)) (slice_index_or routines k no_routine).code
 
@@ -107,17 +107,17 @@ are_saved program frames fit k below =
     let same : k ≡ 0 + k = omega arith in
     subst (λ (n : ℕ). IsSaving (frame_at frames n) (routine_at program k).code) same (is_saving program (routine_at program k) (frame_at frames k) (fit.each k below) (fit.homes k below))
 
--- an operator has words for its lines
+-- An operator's code has at most as many lines as its size.
 operator_fits : (operator : BinaryOperator) → 11 ≤ operator_size operator
 operator_fits binary.Divide = omega arith
 operator_fits binary.Remainder = omega arith
 operator_fits operator = omega arith
 
--- few registers of a function are read again behind a call, and few are saved
+-- A function reloads few registers after a call, and saves few.
 abbrev pub ReadsFew : List Frame → (function : ℕ) → Type 0
 ReadsFew frames function = (reload_count (frame_at frames function) ≤ 6) × ((frame_at frames function).saved ≤ 7)
 
-body_small : (program : Program) (frames : List Frame) (function : ℕ) → ReadsFew frames function → AreFew program → (i : Instruction) → body_count program frames function i + behind_count program frames function i + (if loses i then 1 else 0) + (if returns i then 14 else 0) ≤ instruction_size i
+body_small : (program : Program) (frames : List Frame) (function : ℕ) → ReadsFew frames function → AreFew program → (i : Instruction) → body_count program frames function i + after_count program frames function i + (if loses i then 1 else 0) + (if returns i then 14 else 0) ≤ instruction_size i
 body_small program frames function fit few (plain.Move destination source) = omega (arith, move_small (frame_at frames function) destination source)
 body_small program frames function fit few (plain.Unary operator destination operand) = omega (arith, unary_small (frame_at frames function) operator operand destination)
 body_small program frames function fit few (plain.Binary operator destination left right) = omega (arith, operator_small (frame_at frames function) operator destination left right, operator_fits operator)
@@ -151,7 +151,7 @@ function_count_small program frames function fit few index i = omega (arith, bod
     go true = omega arith
     go false = omega arith
 
--- where there is no function no register is read again
+-- Every function number, in range or not, has few registers to reload.
 pub function_reads_few : (program : Program) (frames : List Frame) → AreFrames program frames → (k : ℕ) → ReadsFew frames k
 function_reads_few program frames fit k = elim (cases_lt k (length program.functions)) [
   | inl below ↦ ((fit.homes k below).few, (fit.each k below).most_saved)
@@ -159,7 +159,7 @@ function_reads_few program frames fit k = elim (cases_lt k (length program.funct
       subst (λ (frame : Frame). (reload_count frame ≤ 6) × (frame.saved ≤ 7)) (sym (get_or_past frames k no_frame (omega (arith, past, fit.as_many)))) ((omega arith), (omega arith))
 ]
 
-pub body_fits : (program : Program) (frames : List Frame) (function : ℕ) → AreFrames program frames → AreFew program → (i : Instruction) → body_count program frames function i + behind_count program frames function i ≤ instruction_size i
+pub body_fits : (program : Program) (frames : List Frame) (function : ℕ) → AreFrames program frames → AreFew program → (i : Instruction) → body_count program frames function i + after_count program frames function i ≤ instruction_size i
 body_fits program frames function fit few i = omega (arith, body_small program frames function (function_reads_few program frames fit function) few i)
 
 code_small : (program : Program) (frames : List Frame) (function : ℕ) → ReadsFew frames function → AreFew program → (index : ℕ) (code : List Instruction) → code_count program frames function index code + losing code + returning code ≤ sum_by instruction_size code
@@ -167,14 +167,14 @@ code_small program frames function fit few index [] = omega arith
 code_small program frames function fit few index (i ∷ code) =
     omega (arith, sum_by-cons instruction_size i code, function_count_small program frames function fit few index i, code_small program frames function fit few (suc index) code, losing_next i code, returning_next i code)
 
--- with the lines that save
+-- The lines of a function, with those that save registers, are within its size.
 pub routine_small : (program : Program) (frames : List Frame) (function : ℕ) → ReadsFew frames function → AreFew program → (code : List Instruction) → IsSaving (frame_at frames function) code
     → saving_count (frame_at frames function) + code_count program frames function 0 code ≤ sum_by instruction_size code
 routine_small program frames function fit few code saved =
     let same : way_count (frame_at frames function) ≡ losing code = ap (λ (b : Bool). if b then 1 else 0) saved.0 in
     omega (arith, same, saved.1, code_small program frames function fit few 0 code)
 
--- the first instructions have no more lines than all
+-- A prefix of the code has no more lines than the whole.
 count_take : (program : Program) (frames : List Frame) (function first : ℕ) (code : List Instruction) (k : ℕ) → code_count program frames function first (take k code) ≤ code_count program frames function first code
 count_take program frames function first [] zero = omega arith
 count_take program frames function first [] (suc k) = omega arith
@@ -194,21 +194,21 @@ functions_count_small program frames first fit few (r ∷ routines) saved (suc k
       functions_count_small program frames (suc first) fit few routines (saved_next frames first r routines saved) k,
     )
 
--- a function begins where it still fits
+-- The first line of each function fits a machine word.
 pub start_fits : (program : Program) (frames : List Frame) → AreFrames program frames → ((k : ℕ) → ReadsFew frames k) → AreFew program → (k : ℕ) → k < length program.functions
     → function_line program frames k + size (routine_at program k) ≤ START_LINES + sum_by size program.functions
 start_fits program frames are fit few k below =
     omega (arith, functions_count_small program frames 0 fit few program.functions (are_saved program frames are) k, sum_by-drop_more size program.functions k no_routine below, sum_by-take-drop size program.functions k)
 
--- and so do its instructions
+-- The line of each instruction fits a machine word.
 pub line_fits : (program : Program) (frames : List Frame) → AreFrames program frames → ((k : ℕ) → ReadsFew frames k) → AreFew program → (k : ℕ) → k < length program.functions → (index : ℕ)
     → instruction_line program frames k index ≤ START_LINES + sum_by size program.functions
 line_fits program frames are fit few k below index =
     omega (arith, start_fits program frames are fit few k below, routine_small program frames k (fit k) few (routine_at program k).code (is_saving program (routine_at program k) (frame_at frames k) (are.each k below) (are.homes k below)), count_take program frames k 0 (routine_at program k).code index)
 
--- ---- what a well-formed program says of all its functions
+-- ---- properties of all functions of a well-formed program
 
--- where there is none, nothing is returned
+-- Every function number, in range or not, has few result words.
 routines_few : (routines : List Routine) → ((k : ℕ) → k < length routines → (slice_index_or routines k no_routine).results ≤ GREATEST_VALUE)
     → (k : ℕ) → (slice_index_or routines k no_routine).results ≤ GREATEST_VALUE
 routines_few [] few zero = omega arith
@@ -234,7 +234,7 @@ slots_reached r frame fit = slots_below r frame fit r.slots refl
 pub homes_reached : (program : Program) (r : Routine) (frame : Frame) → IsFrame r frame → AreHomes program r frame.saved frame.homes → AreReached frame 0 (length frame.homes)
 homes_reached program r frame fit right = slots_below r frame fit (length frame.homes) right.as_many
 
--- the slots of a function are so few
+-- A function's slots fit its frame.
 slots_end : (r : Routine) (frame : Frame) → IsFrame r frame → (past : ℕ) → past ≤ r.slots → past ≤ MOST_FRAME_WORDS
 slots_end r frame fit zero below = omega arith
 slots_end r frame fit (suc slot) below = omega (arith, fit.inside slot (omega (arith, below)), fit.small)
@@ -257,7 +257,7 @@ lines_at program frames function index here (i ∷ code) zero d below = omega ar
 lines_at program frames function index here (i ∷ code) (suc k) d below =
     omega (arith, lines_at program frames function (suc index) (here + count_of program frames function index i) code k d (omega arith))
 
--- one function's lines more
+-- The table of line numbers stays right when one more function is appended.
 pub numbered_more : (program : Program) (frames : List Frame) (k : ℕ) (functions : List FunctionLines) (its : FunctionLines) → AreNumbered program frames k functions → IsNumbered program frames k its
     → AreNumbered program frames (k + 1) (functions ++ its ∷ [])
 numbered_more program frames k functions its are one = record {
@@ -278,7 +278,7 @@ pub routine_is_small : (program : Program) → IsPlain program → (k : ℕ) →
 routine_is_small program plain k below =
     omega (arith, plain.small, sum_by-drop_more size program.functions k no_routine below, sum_by-take-drop size program.functions k)
 
--- a function's lines begin where there is room for all of them
+-- A function begins at a line from which all its lines fit.
 pub function_fits : (program : Program) (frames : List Frame) → IsPlain program → AreFrames program frames → (k : ℕ) → k < length program.functions
     → function_line program frames k + size (routine_at program k) ≤ most_lines
 function_fits program frames plain fit k below =
@@ -299,17 +299,17 @@ module _ {program : Program} {frames : List Frame} {functions : List FunctionLin
   known_fits k =
       omega (arith, line_fits program frames known.ready.fit (function_reads_few program frames known.ready.fit) (are_few program known.ready.well_formed) function known.function_in_range k, known.ready.few)
 
--- ---- one instruction behind the other
+-- ---- one more instruction
 
 pub code_next : (program : Program) (frames : List Frame) (function : ℕ) (code : List Instruction) (k : ℕ) (d : Instruction) → code ≡ (routine_at program function).code → k < length code
     → code_lines program frames function k (instruction_line program frames function k) (drop k code)
-    ≡ place_lines program frames function k (instruction_line program frames function k) (slice_index_or code k d) ++ behind program frames function (slice_index_or code k d)
+    ≡ place_lines program frames function k (instruction_line program frames function k) (slice_index_or code k d) ++ following program frames function (slice_index_or code k d)
     ++ code_lines program frames function (k + 1) (instruction_line program frames function (k + 1)) (drop (k + 1) code)
 code_next program frames function code k d same below =
     let one : suc k ≡ k + 1 = omega arith in
     let line = instruction_line program frames function k in
     let i = slice_index_or code k d in
-    let own = place_lines program frames function k line i ++ behind program frames function i in
+    let own = place_lines program frames function k line i ++ following program frames function i in
     let (j, at_j) = slice_get_below code k below in
     let at : slice_get (routine_at program function).code k ≡ Some (slice_index_or code k d) =
     ap (λ (l : List Instruction). slice_get l k) (sym same) ∙ at_j ∙ ap Some (sym (get_or_from_slice_get code k j d at_j)) in
@@ -317,7 +317,7 @@ code_next program frames function code k d same below =
     ∙ ap (λ (n : ℕ). own ++ code_lines program frames function n (line + count_of program frames function k i) (drop (k + 1) code)) one
     ∙ ap (λ (n : ℕ). own ++ code_lines program frames function (k + 1) n (drop (k + 1) code)) (sym (line_next program frames function k i at))
 
--- ---- one function behind the other
+-- ---- one more function
 
 routines_count_next : (program : Program) (frames : List Frame) (first : ℕ) (routines : List Routine) (k n : ℕ) → n ≡ first + k → k < length routines
     → functions_count program frames first (take (suc k) routines) ≡ functions_count program frames first (take k routines) + function_count program frames n (slice_index_or routines k no_routine)

@@ -1,4 +1,4 @@
--- The code has few words for each unit of the program's size.
+-- The number of words of the code is bounded by the program's size.
 use Rattle.std.proofs.Common.{◌≡◌, ℕ, suc, ◌+◌, ◌*◌, ◌≤◌, Bool, true, false, List, [], ◌∷◌, ◌++◌, length, refl, ap, arith, length-append}
 use Rattle.std.specs.Prelude.{Option, sum_by, ◌==◌, if◌then◌else◌}
 use Rattle.std.specs.List.{range_with_len}
@@ -14,7 +14,7 @@ use Rattle.cyc_plain.specs.inside.Requests.{first_operand, second_operand, answe
 use Rattle.cyc_isa.specs.declared.instr.MemoryOp.{MemoryOp}
 use Rattle.cyc_isa.specs.declared.instr.MemoryOp.TheVariants.{LoadWord, StoreWord, LoadByte, StoreByte}
 use Rattle.cyc_isa.specs.declared.instr.MoveFromOp.{MoveFromOp}
-use Rattle.cyc_machine.specs.declared.constants.TheConstants.{ARGUMENT, END_UNCAUGHT, PUT_BYTE, SECOND_ARGUMENT, SERVICE, RETURN_ADDRESS}
+use Rattle.cyc_machine_model.specs.declared.constants.TheConstants.{ARGUMENT, END_UNCAUGHT, PUT_BYTE, SECOND_ARGUMENT, SERVICE, RETURN_ADDRESS}
 use Rattle.cyc_plain.specs.inside.Program.{Routine, Program, routine_at, operator_size, instruction_size, size}
 use Rattle.cyc_frame.specs.inside.Layout.{frame_at, loses, loses_any, returns}
 use Rattle.cyc_frame.specs.inside.Frame.{Frame}
@@ -31,9 +31,9 @@ use Rattle.cyc_select.specs.inside.Instructions.{slot_offset, small, syscall, st
 use Rattle.cyc_select.specs.inside.Slots.{arrivals, coming, value_register, keep_code, give_code, reloads, made_in, bring_all, result_registers, push_frame, global_code, saves_from, way_code, saving_code, restoring_code, way_count, saving_count}
 use Rattle.cyc_select.specs.inside.Operands.{operand_count, operand_register, reload_count, address_code, at_address, word_code, load_code, load_count, operand_code, plan_code, test_code, condition_of, is_tested}
 use Rattle.cyc_select.specs.inside.Passing.{copies, spills, spills_count}
-use Rattle.cyc_select.specs.inside.Hoisting.{hoisted, with_hoisted, behind_hoisted, is_idle}
+use Rattle.cyc_select.specs.inside.Hoisting.{hoisted, with_hoisted, after_hoisted, is_idle}
 use Rattle.cyc_select.specs.inside.Counts.{count_of, function_count, function_line, instruction_line}
-use Rattle.cyc_select.specs.inside.Selection.{product_code, quotient_code, recorded_code, caught_code, move_to, moved_code, opened_code, ordinary, argument_code, service_number, answer_code, unwound_code, branch_code, divided_code, divide_code, part_of, ending_code, operator_code, body, behind}
+use Rattle.cyc_select.specs.inside.Selection.{product_code, quotient_code, recorded_code, caught_code, move_to, moved_code, opened_code, ordinary, argument_code, service_number, answer_code, unwound_code, branch_code, divided_code, divide_code, part_of, ending_code, operator_code, body, following}
 use Rattle.cyc_select.specs.inside.Selection.{place_lines, code_lines, function_lines, regions_code, load_at, store_at, calling_code, returning_code, routine_lines}
 use Rattle.cyc_isa.specs.Decoding.{register_of}
 use Rattle.cyc_isa.specs.declared.instr.BranchOp.TheVariants as branch
@@ -51,7 +51,7 @@ words_ordinary : (is : List Instr) → all_words (ordinary is) ≡ length is
 words_ordinary [] = refl
 words_ordinary (i ∷ is) = omega (arith, sum_by-cons words_of (lines.Ordinary i) (ordinary is), words_ordinary is)
 
--- the words of lines that stand
+-- The number of words of lines that stand at a place.
 pub words_range : (code : Labelled) (a : ℕ) (ls : List Line) → Stands code a ls → sum_by (words_at code) (range_with_len a (length ls)) ≡ all_words ls
 words_range code a [] stands = refl
 words_range code a (l ∷ ls) (first, rest) =
@@ -79,7 +79,7 @@ module _ (program : Program) (frames : List Frame) (reads_few : (function : ℕ)
       words_either (is_tested operator right) (divide_code frame here (part_of operator) destination left right) (ordinary (plan_code frame (binary_plan operator left right) destination))
       (divide_words frame here (part_of operator) destination left right) (plan_words frame (binary_plan operator left right) destination)
 
-  -- only a division has the words of one that is tested
+  -- Only a division takes as many words as a tested division.
   operator_words : (frame : Frame) (here : ℕ) (operator : BinaryOperator) (destination : ℕ) (left right : Operand) → all_words (operator_code frame here operator destination left right) ≤ operator_size operator
   operator_words frame here binary.Divide destination left right = omega (arith, tested_words frame here binary.Divide destination left right)
   operator_words frame here binary.Remainder destination left right = omega (arith, tested_words frame here binary.Remainder destination left right)
@@ -88,7 +88,7 @@ module _ (program : Program) (frames : List Frame) (reads_few : (function : ℕ)
   test_words : (frame : Frame) (test : Test) (first : Option Instr) (label : ℕ) → all_words (branch_code frame test first label) ≤ 11
   test_words frame test first label =
       let is : List Instr = with_hoisted (test_code frame test) first in
-      omega (arith, sum_by-append words_of (ordinary is) (lines.Branch (condition_of frame test) (behind_hoisted first label) ∷ []), words_ordinary is, length_hoisted (test_code frame test) first, hoisted_few first, length_test frame test, test_small frame test)
+      omega (arith, sum_by-append words_of (ordinary is) (lines.Branch (condition_of frame test) (after_hoisted first label) ∷ []), words_ordinary is, length_hoisted (test_code frame test) first, hoisted_few first, length_test frame test, test_small frame test)
 
   ending_words : (b : Bool) (frame : Frame) (here value : ℕ) → all_words (ending_code b frame here value) ≤ 7
   ending_words true frame here value = omega arith
@@ -125,7 +125,7 @@ module _ (program : Program) (frames : List Frame) (reads_few : (function : ℕ)
       let front = sum_by-append words_of ends loads in
       omega (arith, whole, all, front, restoring_words function, words_ordinary (loaded frame value (routine_at program function).results), length_loaded frame value (routine_at program function).results (few_results function), ending_words (function == program.main) frame there value, few_results function, (reads_few function).1)
 
-  body_words : (function here : ℕ) (i : Instruction) → all_words (body program frames function here i) + all_words (behind program frames function i) + (if loses i then 1 else 0) + (if returns i then 14 else 0) ≤ instruction_size i
+  body_words : (function here : ℕ) (i : Instruction) → all_words (body program frames function here i) + all_words (following program frames function i) + (if loses i then 1 else 0) + (if returns i then 14 else 0) ≤ instruction_size i
   body_words function here (plain.Move destination source) =
       omega (arith, words_ordinary (move_to (value_register (frame_at frames function) destination) (frame_at frames function) destination source), length_move (frame_at frames function) destination source, move_small (frame_at frames function) destination source)
   body_words function here (plain.Unary operator destination operand) =
@@ -201,14 +201,14 @@ module _ (program : Program) (frames : List Frame) (reads_few : (function : ℕ)
       omega (arith, words_ordinary (word_code ARGUMENT tag ++ loads), length-append (word_code ARGUMENT tag) loads, length_word ARGUMENT tag, length-append (load_code (frame_at frames function) SECOND_ARGUMENT value) last, length_load (frame_at frames function) SECOND_ARGUMENT value, load_small value, word_small tag)
   body_words function here (plain.Enter callee) = omega arith
 
-  place_words : (function index here : ℕ) (i : Instruction) → all_words (place_lines program frames function index here i) + all_words (behind program frames function i) + (if loses i then 1 else 0) + (if returns i then 14 else 0) ≤ instruction_size i
+  place_words : (function index here : ℕ) (i : Instruction) → all_words (place_lines program frames function index here i) + all_words (following program frames function i) + (if loses i then 1 else 0) + (if returns i then 14 else 0) ≤ instruction_size i
   place_words function index here i = omega (arith, body_words function here i, go (is_idle (frame_at frames function) index i))
     where
       go : (b : Bool) → all_words (if b then [] else body program frames function here i) ≤ all_words (body program frames function here i)
       go true = omega arith
       go false = omega arith
 
-  -- with the words that save
+  -- The words of the code, with those that save registers, are within its size.
   pub code_words : (function index here : ℕ) (code : List Instruction) → all_words (code_lines program frames function index here code) + losing code + returning code ≤ sum_by instruction_size code
   code_words function index here [] = omega arith
   code_words function index here (i ∷ code) =
@@ -216,8 +216,8 @@ module _ (program : Program) (frames : List Frame) (reads_few : (function : ℕ)
         arith,
         place_words function index here i,
         code_words function (suc index) (here + count_of program frames function index i) code,
-        sum_by-append words_of (place_lines program frames function index here i ++ behind program frames function i) (code_lines program frames function (suc index) (here + count_of program frames function index i) code),
-        sum_by-append words_of (place_lines program frames function index here i) (behind program frames function i),
+        sum_by-append words_of (place_lines program frames function index here i ++ following program frames function i) (code_lines program frames function (suc index) (here + count_of program frames function index i) code),
+        sum_by-append words_of (place_lines program frames function index here i) (following program frames function i),
         sum_by-cons instruction_size i code,
         losing_next i code,
         returning_next i code,

@@ -1,4 +1,4 @@
--- Each line of the code is formed, and each part has few words.
+-- Each line of the code is well-formed, and each part has few words.
 use Rattle.std.proofs.Common.{◌≡◌, ℕ, zero, suc, ◌+◌, ◌-◌, ◌*◌, ◌/◌, ◌%◌, ◌^◌, ◌<◌, ◌≤◌, Bool, true, false, List, [], ◌∷◌, ◌++◌, length, take, Option, None, Some, slice_get, refl, ap, subst, ◌∙◌, arith}
 use Rattle.std.specs.Prelude.{◌==◌, if◌then◌else◌, slice_index_or}
 use Rattle.std.specs.List.{AllByRecursion}
@@ -8,7 +8,7 @@ use Rattle.cyc_words.proofs.Lists.{all_append}
 use Rattle.cyc_words.proofs.Members.{All_from_recursion, All_at}
 use Rattle.cyc_registers.specs.inside.Bars.{is_crossing}
 use Rattle.cyc_isa.specs.declared.instr.Instr.{Instr}
-use Rattle.cyc_machine.specs.State.{data_base}
+use Rattle.cyc_machine_model.specs.State.{data_base}
 use Rattle.cyc_plain.specs.declared.instruction.Instruction.{Instruction}
 use Rattle.cyc_plain.specs.declared.instruction.Instruction.TheVariants as plain
 use Rattle.cyc_plain.specs.declared.instruction.Operand.{Operand}
@@ -17,12 +17,12 @@ use Rattle.cyc_isa.specs.declared.instr.BranchOp.TheVariants as branch
 use Rattle.cyc_isa.specs.declared.instr.Instr.TheVariants as machine
 use Rattle.cyc_isa.specs.declared.instr.MemoryOp.{MemoryOp}
 use Rattle.cyc_isa.specs.declared.instr.MemoryOp.TheVariants.{LoadWord, StoreWord, LoadByte, StoreByte}
-use Rattle.cyc_machine.specs.declared.constants.TheConstants.{ARGUMENT, END_UNCAUGHT, RETURN_ADDRESS, SECOND_ARGUMENT, SERVICE}
+use Rattle.cyc_machine_model.specs.declared.constants.TheConstants.{ARGUMENT, END_UNCAUGHT, RETURN_ADDRESS, SECOND_ARGUMENT, SERVICE}
 use Rattle.cyc_plain.specs.inside.Program.{Routine, Program, no_routine, routine_at}
 use Rattle.cyc_plain.specs.inside.Step.{instruction_at}
 use Rattle.cyc_plain.specs.inside.Requests.{first_operand, second_operand, answer_count, destination_of}
 use Rattle.cyc_plain.specs.inside.WellFormed.{IsInRange, IsWellFormed, HasWords, HasWord, leaves}
-use Rattle.cyc_plain.proofs.Placed.{routine_in, goes_behind, has_code}
+use Rattle.cyc_plain.proofs.Placed.{routine_in, goes_after, has_code}
 use Rattle.cyc_plain.specs.declared.limits.TheConstants.{MOST_FRAME_WORDS}
 use Rattle.cyc_frame.specs.inside.Layout.{AreFrames, frame_at, slot_word}
 use Rattle.cyc_frame.specs.inside.Frame.{Frame}
@@ -41,8 +41,8 @@ use Rattle.cyc_select.specs.inside.Operands.{word_code, load_code, load_count, o
 use Rattle.cyc_select.specs.inside.Operands.{test_code, condition_of}
 use Rattle.cyc_select.specs.inside.Passing.{copies, spills, spills_count}
 use Rattle.cyc_select.specs.inside.Hoisting.{hoisted, is_idle, first_line}
-use Rattle.cyc_select.specs.inside.Counts.{behind_count, ending_count, body_count, count_of, code_count, function_count, functions_count, function_line, instruction_line}
-use Rattle.cyc_select.specs.inside.Selection.{opened_code, ordinary, argument_code, service_number, answer_code, unwound_code, moves, all_moved, branch_code, ending_code, body, behind, place_lines, code_lines}
+use Rattle.cyc_select.specs.inside.Counts.{after_count, ending_count, body_count, count_of, code_count, function_count, functions_count, function_line, instruction_line}
+use Rattle.cyc_select.specs.inside.Selection.{opened_code, ordinary, argument_code, service_number, answer_code, unwound_code, moves, all_moved, branch_code, ending_code, body, following, place_lines, code_lines}
 use Rattle.cyc_select.specs.inside.Selection.{function_lines, start_lines, select_of, regions_code, calling_code, returning_code, routine_lines, store_global}
 use Rattle.cyc_select.proofs.relation.Arriving.{length_arriving}
 use Rattle.cyc_select.proofs.layout.Lines.{line_first, line_next}
@@ -54,15 +54,15 @@ use Rattle.cyc_select.proofs.layout.Inside.{few_results, range_at, count_some, b
 use Rattle.cyc_select.proofs.layout.FormedOperations.{slot_fits, formed_append, regions_formed, low_fits, word_formed, loaded_formed, loads_formed, words_formed, reload_formed, keep_formed, give_formed, stores_formed, brought_formed, spills_formed, copies_formed}
 use Rattle.cyc_select.proofs.layout.FormedOperations.{IsThere, load_formed, argument_formed, operand_formed, plan_formed, unary_there, operator_formed, move_formed, moves_formed, load_formed_at, store_formed_at, branch_test_formed, read_formed, write_formed}
 
--- ---- over all parts of the code
+-- ---- properties of all parts of the code
 
 module _ (program : Program) (frames : List Frame) (P : Line → Type 0) where
   code_all : (function first here : ℕ) (code : List Instruction)
-      → ((k index n : ℕ) (i : Instruction) → slice_get code k ≡ Some i → index ≡ first + k → n ≡ here + code_count program frames function first (take k code) → AllByRecursion P (place_lines program frames function index n i ++ behind program frames function i))
+      → ((k index n : ℕ) (i : Instruction) → slice_get code k ≡ Some i → index ≡ first + k → n ≡ here + code_count program frames function first (take k code) → AllByRecursion P (place_lines program frames function index n i ++ following program frames function i))
       → AllByRecursion P (code_lines program frames function first here code)
   code_all function first here [] each = tt
   code_all function first here (i ∷ code) each =
-      all_append P (place_lines program frames function first here i ++ behind program frames function i) (code_lines program frames function (suc first) (here + count_of program frames function first i) code)
+      all_append P (place_lines program frames function first here i ++ following program frames function i) (code_lines program frames function (suc first) (here + count_of program frames function first i) code)
       (each 0 first here i refl (omega arith) (omega arith))
       (code_all function (suc first) (here + count_of program frames function first i) code
       (λ k index n j at index_is is. each (suc k) index n j at (omega (arith, index_is)) (omega (arith, is))))
@@ -87,7 +87,7 @@ module _ (program : Program) (well : IsWellFormed program) (words : HasWords pro
   abbrev Formed : List Line → Type 0
   Formed ls = AllByRecursion (IsFormedLine line_count) ls
 
-  -- the lines of an instruction are in the code
+  -- The lines of an instruction are in the code.
   line_known : (function index : ℕ) (i : Instruction) → instruction_at program (record { function = function; index = index }) ≡ Some i → is_idle (frame_at frames function) index i ≡ false
       → instruction_line program frames function index + body_count program frames function i ≤ line_count
   line_known function index i at busy =
@@ -131,7 +131,7 @@ module _ (program : Program) (well : IsWellFormed program) (words : HasWords pro
         let four : ending_count program function ≡ 4 = ap (λ (b : Bool). if b then 4 else 0) is in
         ((omega (arith, long, four)), ((loaded_formed line_count frame routine within (value_register frame value) ARGUMENT value (omega (arith, fits, one))).0, ((refl, (omega arith)), ((refl, tt), tt))))
 
-    -- the registers that calls preserve, into the frame and from there
+    -- The saves and restores of callee-saved registers are well-formed.
     saved_fits : (j : ℕ) → j < 7 → 4 * (frame.first_saved + j) < 2 ^ 16
     saved_fits j below = (let f = fit.each function known in let inside = f.saved_inside j below in omega (arith, inside, f.small))
 
@@ -143,7 +143,7 @@ module _ (program : Program) (well : IsWellFormed program) (words : HasWords pro
     restores_formed j zero few = tt
     restores_formed j (suc count) few = ((refl, saved_fits j (omega (arith, few))), restores_formed (suc j) count (omega (arith, few)))
 
-    -- and the way back
+    -- The save of the return address is well-formed.
     way_formed : Formed (ordinary (way_code frame))
     way_formed = go frame.saves
       where
@@ -195,12 +195,12 @@ module _ (program : Program) (well : IsWellFormed program) (words : HasWords pro
         formed_append line_count (operand_code frame FIRST source) (global_code StoreWord (operand_register frame FIRST source) global) (operand_formed line_count frame routine within FIRST source there)
         (global_formed StoreWord (operand_register frame FIRST source) global below)
 
-    -- a line that may stand in front of a branch
+    -- A line that may stand before a branch is well-formed.
     first_formed : (i : Instruction) (n : ℕ) (x : Instr) → first_line frame i ≡ Some x → IsInRange program routine i → HasWord i → n + body_count program frames function i ≤ line_count
         → IsFormedLine line_count (lines.Ordinary x)
     first_formed i n x is in_range fits long = go i is in_range fits long
       where
-        -- where all lines are formed that it stands before
+        -- The first line is well-formed if the lines of its instruction are.
         at_head : (j : Instruction) → first_line frame j ≡ Some x → Formed (body program frames function n j) → IsFormedLine line_count (lines.Ordinary x)
         at_head j begun all = let head = first_begins program frames function j x begun n in (subst Formed head.1 all).0
 
@@ -220,7 +220,7 @@ module _ (program : Program) (well : IsWellFormed program) (words : HasWords pro
         go (plain.StoreGlobal global source) begun (a, b) words_fit below = at_head (plain.StoreGlobal global source) begun (global_stored_formed global source a (b, words_fit))
         go j begun inside words_fit below = absurd (none-some x begun)
 
-    -- behind an instruction that has more than its first line stands another
+    -- An instruction with more than its first line is followed by another.
     stays : (i : Instruction) (x : Instr) → first_line frame i ≡ Some x → leaves i ≡ false
     stays (plain.Move destination source) x is = refl
     stays (plain.Unary operator destination operand) x is = refl
@@ -231,22 +231,22 @@ module _ (program : Program) (well : IsWellFormed program) (words : HasWords pro
     stays (plain.StoreGlobal global source) x is = refl
     stays i x is = absurd (none-some x is)
 
-    -- a line that was hoisted is formed, and so is the label behind it
+    -- A hoisted line is well-formed, and so is the label after it.
     module _ (target : ℕ) (condition : Condition) (x : Instr) (its : Hoists program frames function target condition x) where
       hoisted_formed : IsFormedLine line_count (lines.Ordinary x)
       hoisted_formed =
           first_formed its.i (instruction_line program frames function target) x its.line (range_at program well (record { function = function; index = target }) its.i its.at)
           (All_at HasWord routine.code target its.i (words.functions function no_routine known) its.at) (line_known function target its.i its.at its.busy)
 
-      behind_known : instruction_line program frames function target + 1 < line_count
-      behind_known =
-          let further = goes_behind program routine target its.i (routine_in program function well known) its.at (stays its.i x its.line) in
+      following_known : instruction_line program frames function target + 1 < line_count
+      following_known =
+          let further = goes_after program routine target its.i (routine_in program function well known) its.at (stays its.i x its.line) in
           let some = count_some program frames function its.i (range_at program well (record { function = function; index = target }) its.i its.at) in
-          let counted = ap (λ (b : Bool). (if b then 0 else body_count program frames function its.i) + behind_count program frames function its.i) its.busy in
+          let counted = ap (λ (b : Bool). (if b then 0 else body_count program frames function its.i) + after_count program frames function its.i) its.busy in
           omega (arith, target_known function (target + 1) further, line_next program frames function target its.i its.at, counted, some)
 
-    -- (The branch of `Enter` leads to the first line of the next place. That there is one goes by what stands behind it, so
-    -- `place_formed` shows that.)
+    -- The branch of `Enter` leads to the first line of the next place. The lemma `place_formed` proves that this line exists, which depends
+    -- on the next instruction.
     abbrev IsFormedBy : Instruction → List Line → Type 0
     IsFormedBy (plain.Enter callee) ls = Unit {0}
     IsFormedBy i ls = Formed ls
@@ -273,7 +273,7 @@ module _ (program : Program) (well : IsWellFormed program) (words : HasWords pro
             let its = hoists program frames function target (test_of comparison left right) x is in
             all_append (IsFormedLine line_count) (ordinary (test_code frame (test_of comparison left right) ++ x ∷ [])) (lines.Branch (condition_of frame (test_of comparison left right)) (instruction_line program frames function target + 1) ∷ [])
             (formed_append line_count (test_code frame test) (x ∷ []) test_there (hoisted_formed target (condition_of frame test) x its, tt))
-            (behind_known target (condition_of frame test) x its, tt)
+            (following_known target (condition_of frame test) x its, tt)
     body_formed (plain.Call callee arguments count result) n in_range fits long =
         let its = fit.each callee in_range.function_in_range in
         let spilled : ℕ = n + spills_count frame (coming (frame_at frames callee)) arguments 0 count in
@@ -363,40 +363,40 @@ module _ (program : Program) (well : IsWellFormed program) (words : HasWords pro
         (formed_append line_count (load_code frame SECOND_ARGUMENT value) (small SERVICE END_UNCAUGHT ∷ syscall ∷ []) (load_formed line_count frame routine within SECOND_ARGUMENT value (below, value_fits)) ((refl, (omega arith)), ((refl, tt), tt)))
     body_formed (plain.Enter callee) n in_range fits long = tt
 
-    behind_formed : (i : Instruction) → IsInRange program routine i → Formed (behind program frames function i)
-    behind_formed (plain.Call callee arguments count result) in_range =
+    after_formed : (i : Instruction) → IsInRange program routine i → Formed (following program frames function i)
+    after_formed (plain.Call callee arguments count result) in_range =
         let registers = length_registers (routine_at program callee).results (few_results program well callee) in
         formed_append line_count (bring_all true frame result (result_registers (routine_at program callee).results)) (reloads frame)
         (brought_formed line_count frame routine within true result (result_registers (routine_at program callee).results) (omega (arith, registers, in_range.result_in_range))) reloads_formed
-    behind_formed (plain.Move destination source) in_range = tt
-    behind_formed (plain.Unary operator destination operand) in_range = tt
-    behind_formed (plain.Binary operator destination left right) in_range = tt
-    behind_formed (plain.Jump target) in_range = tt
-    behind_formed (plain.Branch comparison left right target) in_range = tt
-    behind_formed (plain.Return value) in_range = tt
-    behind_formed (plain.ReadByte destination) in_range = tt
-    behind_formed (plain.WriteByte source) in_range = tt
-    behind_formed (plain.AddressOf destination slot count) in_range = tt
-    behind_formed (plain.LoadGlobal destination global) in_range = tt
-    behind_formed (plain.StoreGlobal global source) in_range = tt
-    behind_formed (plain.MoveWords destination source count) in_range = tt
-    behind_formed (plain.Load destination address offset) in_range = tt
-    behind_formed (plain.Store address offset source) in_range = tt
-    behind_formed (plain.LoadByte destination address offset) in_range = tt
-    behind_formed (plain.StoreByte address offset source) in_range = tt
-    behind_formed (plain.Ask request) in_range = tt
-    behind_formed (plain.CountLexical destination) in_range = tt
-    behind_formed (plain.Try first handler) in_range = tt
-    behind_formed (plain.Leave first) in_range = tt
-    behind_formed (plain.Throw tag value) in_range = tt
-    behind_formed (plain.Finish value) in_range = tt
-    behind_formed (plain.Uncaught tag value) in_range = tt
-    behind_formed (plain.Enter callee) in_range = tt
+    after_formed (plain.Move destination source) in_range = tt
+    after_formed (plain.Unary operator destination operand) in_range = tt
+    after_formed (plain.Binary operator destination left right) in_range = tt
+    after_formed (plain.Jump target) in_range = tt
+    after_formed (plain.Branch comparison left right target) in_range = tt
+    after_formed (plain.Return value) in_range = tt
+    after_formed (plain.ReadByte destination) in_range = tt
+    after_formed (plain.WriteByte source) in_range = tt
+    after_formed (plain.AddressOf destination slot count) in_range = tt
+    after_formed (plain.LoadGlobal destination global) in_range = tt
+    after_formed (plain.StoreGlobal global source) in_range = tt
+    after_formed (plain.MoveWords destination source count) in_range = tt
+    after_formed (plain.Load destination address offset) in_range = tt
+    after_formed (plain.Store address offset source) in_range = tt
+    after_formed (plain.LoadByte destination address offset) in_range = tt
+    after_formed (plain.StoreByte address offset source) in_range = tt
+    after_formed (plain.Ask request) in_range = tt
+    after_formed (plain.CountLexical destination) in_range = tt
+    after_formed (plain.Try first handler) in_range = tt
+    after_formed (plain.Leave first) in_range = tt
+    after_formed (plain.Throw tag value) in_range = tt
+    after_formed (plain.Finish value) in_range = tt
+    after_formed (plain.Uncaught tag value) in_range = tt
+    after_formed (plain.Enter callee) in_range = tt
 
   place_formed : (function index n : ℕ) (i : Instruction) → function < length program.functions → instruction_at program (record { function = function; index = index }) ≡ Some i → n ≡ instruction_line program frames function index
       → Formed (place_lines program frames function index n i)
   place_formed function index n (plain.Enter callee) known at here =
-      let further : index + 1 < length (routine_at program function).code = goes_behind program (routine_at program function) index (plain.Enter callee) (routine_in program function well known) at refl in
+      let further : index + 1 < length (routine_at program function).code = goes_after program (routine_at program function) index (plain.Enter callee) (routine_in program function well known) at refl in
       let next = target_known function (index + 1) further in
       let line = line_next program frames function index (plain.Enter callee) at in
       (omega (arith, here, next, line), ((refl, (omega arith)), ((refl, tt), tt)))
@@ -417,9 +417,9 @@ module _ (program : Program) (well : IsWellFormed program) (words : HasWords pro
       let same : index ≡ k = omega (arith, index_is) in
       let there : slice_get (routine_at program function).code index ≡ Some i = ap (slice_get (routine_at program function).code) same ∙ at in
       let here : m ≡ instruction_line program frames function index = omega (arith, m_is, is, ap (instruction_line program frames function) same) in
-      all_append (IsFormedLine line_count) (place_lines program frames function index m i) (behind program frames function i)
+      all_append (IsFormedLine line_count) (place_lines program frames function index m i) (following program frames function i)
       (place_formed function index m i known there here)
-      (behind_formed function known i (range_at program well (record { function = function; index = index }) i there))))
+      (after_formed function known i (range_at program well (record { function = function; index = index }) i there))))
 
   pub formed : IsFormed (select_of program frames)
   formed =

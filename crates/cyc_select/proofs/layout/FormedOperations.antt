@@ -1,4 +1,4 @@
--- What reads slots, computes of them and writes them is formed, and so is what moves, loads and stores.
+-- The lines that read slots, compute and write slots are well-formed, and so are moves, loads and stores.
 use Rattle.std.proofs.Common.{◌≡◌, ℕ, zero, suc, ◌+◌, ◌-◌, ◌/◌, ◌%◌, ◌^◌, ◌<◌, ◌≤◌, Bool, true, false, List, [], ◌∷◌, ◌++◌, length, Option, None, Some, refl, arith}
 use Rattle.std.specs.Prelude.{◌==◌, ◌&&◌, nat_lt, if◌then◌else◌}
 use Rattle.std.specs.List.{AllByRecursion}
@@ -17,7 +17,7 @@ use Rattle.cyc_isa.specs.declared.instr.BranchOp.TheVariants as branch
 use Rattle.cyc_isa.specs.declared.instr.MemoryOp.{MemoryOp}
 use Rattle.cyc_isa.specs.declared.instr.MoveFromOp.{MoveFromOp}
 use Rattle.cyc_isa.specs.declared.instr.MoveFromOp.TheVariants.{High, Low}
-use Rattle.cyc_machine.specs.declared.constants.TheConstants.{ARGUMENT, GET_BYTE, PUT_BYTE, SERVICE}
+use Rattle.cyc_machine_model.specs.declared.constants.TheConstants.{ARGUMENT, GET_BYTE, PUT_BYTE, SERVICE}
 use Rattle.cyc_plain.specs.inside.Program.{Routine}
 use Rattle.cyc_plain.specs.declared.instruction.Request.{Request}
 use Rattle.cyc_plain.specs.declared.instruction.Request.TheVariants as requests
@@ -50,7 +50,7 @@ use Rattle.cyc_select.specs.inside.Selection.{product_code, quotient_code, move_
 use Rattle.cyc_select.specs.inside.Selection.{regions_code, load_at, store_at, write_code}
 use Rattle.cyc_select.proofs.values.Plans.{AllOfTest, all_unary, all_binary, all_test}
 
--- in code of so many lines
+-- Lines that are well-formed in code of `line_count` lines.
 module _ (line_count : ℕ) where
   abbrev Formed : List Line → Type 0
   Formed ls = AllByRecursion (IsFormedLine line_count) ls
@@ -103,7 +103,7 @@ module _ (line_count : ℕ) where
   outcome_formed outcomes.WhetherZero target = ((refl, (omega arith)), tt)
   outcome_formed outcomes.WhetherNotZero target = ((refl, tt), tt)
 
-  -- in a function's frame, whose slots are within reach of its instructions
+  -- In a function's frame whose slots are reached by offsets.
   module _ (frame : Frame) (routine : Routine) (within : (slot : ℕ) → slot < routine.slots → slot_word frame slot < MOST_FRAME_WORDS) where
     pub slot_fits : (slot : ℕ) → slot < routine.slots → slot_offset frame slot < 2 ^ 16
     slot_fits slot below = omega (arith, within slot below)
@@ -194,7 +194,7 @@ module _ (line_count : ℕ) where
 
     -- ---- operands, plans and tests
 
-    -- an operand that there is
+    -- An operand of an existing slot, whose constant is a word.
     abbrev pub IsThere : Operand → Type 0
     IsThere o = IsOperand routine o × IsOfWord o
 
@@ -218,7 +218,7 @@ module _ (line_count : ℕ) where
     operands_formed left right l r =
         formed_append (operand_code frame FIRST left) (operand_code frame SECOND right) (operand_formed FIRST left l) (operand_formed SECOND right r)
 
-    -- a plan whose operands and whose number are there
+    -- A plan whose operands exist and whose immediate fits.
     abbrev IsPlanThere : Plan → Type 0
     IsPlanThere plan = IsThere plan.left × IsThere plan.right × HalfFits plan.operation
 

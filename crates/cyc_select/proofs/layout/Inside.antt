@@ -11,7 +11,7 @@ use Rattle.cyc_plain.specs.declared.instruction.Instruction.TheVariants as plain
 use Rattle.cyc_plain.specs.inside.Program.{Routine, Program, CodePlace, no_routine, routine_at}
 use Rattle.cyc_plain.specs.inside.Step.{instruction_at}
 use Rattle.cyc_plain.specs.inside.WellFormed.{IsInRange, IsWellFormed, leaves}
-use Rattle.cyc_plain.proofs.Placed.{routine_in, goes_behind}
+use Rattle.cyc_plain.proofs.Placed.{routine_in, goes_after}
 use Rattle.cyc_plain.proofs.Steps.{function_known}
 use Rattle.cyc_frame.specs.inside.Layout.{AreFrames, frame_at}
 use Rattle.cyc_frame.specs.inside.Frame.{Frame}
@@ -21,13 +21,13 @@ use Rattle.cyc_select.specs.inside.Labelled.{Labelled}
 use Rattle.cyc_select.specs.inside.Operands.{is_tested}
 use Rattle.cyc_select.specs.inside.Hoisting.{is_idle}
 use Rattle.cyc_select.specs.inside.Counts.{body_count, instruction_line}
-use Rattle.cyc_select.specs.inside.Selection.{body, behind, place_lines}
+use Rattle.cyc_select.specs.inside.Selection.{body, following, place_lines}
 use Rattle.cyc_select.proofs.layout.Lines.{line_next}
 use Rattle.cyc_select.proofs.emission.Counts.{operation_some, move_some, move_words_some, give_some}
 use Rattle.cyc_select.proofs.layout.Structure.{stand}
 use Rattle.cyc_select.proofs.effects.Sequences.{Stands, stands_front}
 
--- what stands lies within the code
+-- Lines that stand at a place lie within the code.
 pub within_code : (code : Labelled) (n : ℕ) (ls : List Line) → 0 < length ls → Stands code n ls → n + length ls ≤ length code.lines
 within_code code n [] some stands = absurd (omega (arith, some))
 within_code code n (l ∷ []) some (first, rest) = omega (arith, below_from_slice_get code.lines n l first)
@@ -43,7 +43,7 @@ some_either : (b : Bool) (m n : ℕ) → 0 < m → 0 < n → 0 < (if b then m el
 some_either true m n first second = first
 some_either false m n first second = second
 
--- what an instruction of the program names is there
+-- Everything that an instruction of the program names exists.
 pub range_at : (program : Program) → IsWellFormed program → (place : CodePlace) (i : Instruction) → instruction_at program place ≡ Some i → IsInRange program (routine_at program place.function) i
 range_at program well place i at =
     All_at (IsInRange program (routine_at program place.function)) (routine_at program place.function).code place.index i
@@ -78,13 +78,13 @@ count_some program frames function (plain.Enter callee) in_range = omega arith
 
 module _ (program : Program) (well : IsWellFormed program) (frames : List Frame) (fit : AreFrames program frames) (code : Labelled)
     (stand : (function index : ℕ) (i : Instruction) → instruction_at program (record { function = function; index = index }) ≡ Some i
-    → Stands code (instruction_line program frames function index) (place_lines program frames function index (instruction_line program frames function index) i ++ behind program frames function i))
+    → Stands code (instruction_line program frames function index) (place_lines program frames function index (instruction_line program frames function index) i ++ following program frames function i))
     (long : (function line : ℕ) (i : Instruction) → length (body program frames function line i) ≡ body_count program frames function i) where
-  -- the lines of an instruction that is not idle
+  -- The lines of an instruction that is not idle.
   pub body_stands : (function index : ℕ) (i : Instruction) → instruction_at program (record { function = function; index = index }) ≡ Some i → is_idle (frame_at frames function) index i ≡ false
-      → Stands code (instruction_line program frames function index) (body program frames function (instruction_line program frames function index) i ++ behind program frames function i)
+      → Stands code (instruction_line program frames function index) (body program frames function (instruction_line program frames function index) i ++ following program frames function i)
   body_stands function index i at busy =
-      subst (λ (b : Bool). Stands code (instruction_line program frames function index) ((if b then [] else body program frames function (instruction_line program frames function index) i) ++ behind program frames function i)) busy
+      subst (λ (b : Bool). Stands code (instruction_line program frames function index) ((if b then [] else body program frames function (instruction_line program frames function index) i) ++ following program frames function i)) busy
       (stand function index i at)
 
   pub body_inside : (function index : ℕ) (i : Instruction) → instruction_at program (record { function = function; index = index }) ≡ Some i → is_idle (frame_at frames function) index i ≡ false
@@ -96,10 +96,10 @@ module _ (program : Program) (well : IsWellFormed program) (frames : List Frame)
         arith,
         long function line i,
         within_code code line (body program frames function line i) (omega (arith, long function line i, some))
-            (stands_front code line (body program frames function line i) (behind program frames function i) (body_stands function index i at busy)),
+            (stands_front code line (body program frames function line i) (following program frames function i) (body_stands function index i at busy)),
       )
 
-  -- behind an idle place stands another
+  -- The place after an idle one is in the code.
   idle_before : (function index : ℕ) (i : Instruction) → instruction_at program (record { function = function; index = index }) ≡ Some i → is_idle (frame_at frames function) index i ≡ true
       → index + 1 < length (routine_at program function).code
   idle_before function index i at idle = go i at idle
@@ -108,7 +108,7 @@ module _ (program : Program) (well : IsWellFormed program) (frames : List Frame)
       known = function_known program (record { function = function; index = index }) i at
 
       stays : (j : Instruction) → slice_get (routine_at program function).code index ≡ Some j → leaves j ≡ false → index + 1 < length (routine_at program function).code
-      stays j there other = goes_behind program (routine_at program function) index j (routine_in program function well known) there other
+      stays j there other = goes_after program (routine_at program function) index j (routine_in program function well known) there other
 
       go : (j : Instruction) → instruction_at program (record { function = function; index = index }) ≡ Some j → is_idle (frame_at frames function) index j ≡ true → index + 1 < length (routine_at program function).code
       go (plain.Move destination source) there is = stays (plain.Move destination source) there refl
@@ -122,7 +122,7 @@ module _ (program : Program) (well : IsWellFormed program) (frames : List Frame)
           omega (arith, further, below)
       go j there is = absurd (let e : false ≡ true = is in cc)
 
-  -- the line of each place is there: it is the place's own, or that of one behind it
+  -- The line of each place exists: it is the place's own, or that of a later place.
   pub place_inside : (function index : ℕ) → index < length (routine_at program function).code → instruction_line program frames function index < length code.lines
   place_inside function index below = go (length (routine_at program function).code - suc index) index (omega (arith, below))
     where

@@ -1,4 +1,4 @@
--- Which lines are each place's own.
+-- The lines that belong to each place.
 use Rattle.std.proofs.Common.{◌≡◌, ℕ, zero, suc, ◌+◌, ◌-◌, ◌≤◌, List, Option, Some, None, slice_get, refl, ap, arith}
 use Rattle.std.specs.List.{range_with_len}
 use Rattle.cyc_plain.specs.declared.instruction.Instruction.{Instruction}
@@ -6,17 +6,17 @@ use Rattle.cyc_plain.specs.inside.Program.{Program, CodePlace, routine_at}
 use Rattle.cyc_frame.specs.inside.Layout.{frame_at}
 use Rattle.cyc_frame.specs.inside.Frame.{Frame}
 use Rattle.cyc_select.specs.inside.Slots.{saving_count}
-use Rattle.cyc_select.specs.inside.Counts.{behind_count, place_count, instruction_line}
+use Rattle.cyc_select.specs.inside.Counts.{after_count, place_count, instruction_line}
 use Rattle.cyc_select.proofs.layout.Lines.{line_next, line_first}
 
--- the lines behind a call belong to the next place
-abbrev pub behind_of : Program → List Frame → (function : ℕ) → Option Instruction → ℕ
-behind_of program frames function (Some i) = behind_count program frames function i
-behind_of program frames function None = 0
+-- The lines after a call belong to the next place.
+abbrev pub after_of : Program → List Frame → (function : ℕ) → Option Instruction → ℕ
+after_of program frames function (Some i) = after_count program frames function i
+after_of program frames function None = 0
 
 abbrev pub previous_count : Program → List Frame → (function : ℕ) → List Instruction → (index : ℕ) → ℕ
 previous_count program frames function code zero = saving_count (frame_at frames function)
-previous_count program frames function code (suc index) = behind_of program frames function (slice_get code index)
+previous_count program frames function code (suc index) = after_of program frames function (slice_get code index)
 
 abbrev pub body_of : Program → List Frame → (function index : ℕ) → Option Instruction → ℕ
 body_of program frames function index (Some i) = place_count program frames function index i
@@ -29,12 +29,12 @@ own_of program frames place =
     (instruction_line program frames place.function place.index - previous_count program frames place.function code place.index)
     (previous_count program frames place.function code place.index + body_of program frames place.function place.index (slice_get code place.index))
 
--- the lines before a place are there
+-- The lines that belong to a place but stand before it exist.
 pub previous_fits : (program : Program) (frames : List Frame) (function index : ℕ) → previous_count program frames function (routine_at program function).code index ≤ instruction_line program frames function index
 previous_fits program frames function zero = omega (arith, line_first program frames function)
 previous_fits program frames function (suc index) = go (slice_get (routine_at program function).code index) refl
   where
-    go : (o : Option Instruction) → slice_get (routine_at program function).code index ≡ o → behind_of program frames function o ≤ instruction_line program frames function (suc index)
+    go : (o : Option Instruction) → slice_get (routine_at program function).code index ≡ o → after_of program frames function o ≤ instruction_line program frames function (suc index)
     go (Some i) at =
         let e = line_next program frames function index i at in
         let one : index + 1 ≡ suc index = omega arith in

@@ -1,4 +1,4 @@
--- Each line belongs to the start or to one place.
+-- Each line belongs to the start or to exactly one place.
 use Rattle.std.proofs.Common.{◌≡◌, ℕ, zero, suc, ◌+◌, ◌-◌, ◌<◌, ◌≤◌, true, false, List, [], ◌∷◌, ◌++◌, length, map, take, Option, Some, slice_get, refl, sym, ap, subst, ◌∙◌, arith, length-append}
 use Rattle.std.specs.Prelude.{slice_index_or, flat_map, IsSomeAnd}
 use Rattle.std.specs.List.{range_with_len}
@@ -12,14 +12,14 @@ use Rattle.cyc_plain.specs.inside.WellFormed.{IsWellFormed, leaves}
 use Rattle.cyc_plain.proofs.Placed.{routine_in, has_code}
 use Rattle.cyc_frame.specs.inside.Frame.{Frame}
 use Rattle.cyc_select.specs.declared.constants.TheConstants.{START_LINES}
-use Rattle.cyc_select.specs.inside.Counts.{behind_count, place_count, code_count, function_count, functions_count, function_line, instruction_line}
+use Rattle.cyc_select.specs.inside.Counts.{after_count, place_count, code_count, function_count, functions_count, function_line, instruction_line}
 use Rattle.cyc_select.specs.inside.Selection.{start_lines, function_lines, select_of}
 use Rattle.cyc_select.proofs.layout.Inside.{few_results}
 use Rattle.cyc_select.proofs.layout.Lines.{line_next, line_first}
-use Rattle.cyc_select.proofs.layout.OwnLines.{behind_of, previous_count, body_of, own_of, previous_fits}
+use Rattle.cyc_select.proofs.layout.OwnLines.{after_of, previous_count, body_of, own_of, previous_fits}
 use Rattle.cyc_select.proofs.layout.Structure.{length_functions}
 
-leaving_counts_none : (program : Program) (frames : List Frame) (function : ℕ) (i : Instruction) → leaves i ≡ true → behind_count program frames function i ≡ 0
+leaving_counts_none : (program : Program) (frames : List Frame) (function : ℕ) (i : Instruction) → leaves i ≡ true → after_count program frames function i ≡ 0
 leaving_counts_none program frames function (plain.Call callee arguments count result) last = absurd (let e : false ≡ true = last in cc)
 leaving_counts_none program frames function (plain.Move destination source) last = refl
 leaving_counts_none program frames function (plain.Unary operator destination operand) last = refl
@@ -65,7 +65,7 @@ abbrev pub place_in : ℕ → ℕ → CodePlace
 place_in function index = record { function = function; index = index }
 
 module _ (program : Program) (well : IsWellFormed program) (frames : List Frame) where
-  -- the lines of a function end here
+  -- The line after the last one of a function.
   abbrev end_of : ℕ → ℕ
   end_of function = function_line program frames function + function_count program frames function (routine_at program function)
 
@@ -81,7 +81,7 @@ module _ (program : Program) (well : IsWellFormed program) (frames : List Frame)
       let routine = routine_in program function well known in
       let (i, at) = slice_get_below (routine_at program function).code k (omega (arith, is)) in
       let last : length (routine_at program function).code - 1 ≡ k = omega (arith, is) in
-      ap (behind_of program frames function) at ∙ leaving_counts_none program frames function i (some_last_leaves (routine_at program function) i routine.last (ap (slice_get (routine_at program function).code) last ∙ at))
+      ap (after_of program frames function) at ∙ leaving_counts_none program frames function i (some_last_leaves (routine_at program function) i routine.last (ap (slice_get (routine_at program function).code) last ∙ at))
 
   own_from : (function : ℕ) → function < length program.functions → (k n : ℕ) → k + n ≡ length (routine_at program function).code
       → flat_map (own_of program frames) (map (place_in function) (range_with_len k n)) ≡ range_with_len (first_of function k) (end_of function - first_of function k)
@@ -96,7 +96,7 @@ module _ (program : Program) (well : IsWellFormed program) (frames : List Frame)
       let next = line_next program frames function k i at in
       let fits = previous_fits program frames function k in
       let one : k + 1 ≡ suc k = omega arith in
-      let previous : previous_count program frames function (routine_at program function).code (k + 1) ≡ behind_count program frames function i = ap (previous_count program frames function (routine_at program function).code) one ∙ ap (behind_of program frames function) at in
+      let previous : previous_count program frames function (routine_at program function).code (k + 1) ≡ after_count program frames function i = ap (previous_count program frames function (routine_at program function).code) one ∙ ap (after_of program frames function) at in
       let own_body : body_of program frames function k (slice_get (routine_at program function).code k) ≡ place_count program frames function k i = ap (body_of program frames function k) at in
       let from : first_of function (k + 1) ≡ first_of function k + (previous_count program frames function (routine_at program function).code k + body_of program frames function k (slice_get (routine_at program function).code k)) = omega (arith, next, fits, previous, own_body) in
       let end = first_before function known (k + 1) n (omega (arith, long)) in
@@ -114,10 +114,10 @@ module _ (program : Program) (well : IsWellFormed program) (frames : List Frame)
           let (i, at) = slice_get_below (routine_at program function).code k (omega (arith, long)) in
           let next = line_next program frames function k i at in
           let one : k + 1 ≡ suc k = omega arith in
-          let previous : previous_count program frames function (routine_at program function).code (k + 1) ≡ behind_count program frames function i = ap (previous_count program frames function (routine_at program function).code) one ∙ ap (behind_of program frames function) at in
+          let previous : previous_count program frames function (routine_at program function).code (k + 1) ≡ after_count program frames function i = ap (previous_count program frames function (routine_at program function).code) one ∙ ap (after_of program frames function) at in
           omega (arith, next, previous, first_before function known (k + 1) n (omega (arith, long)))
 
-  -- the lines of a function are those of its places
+  -- The lines of a function are those of its places.
   pub own_function : (function : ℕ) → function < length program.functions
       → flat_map (own_of program frames) (map (place_in function) (range_with_len 0 (length (routine_at program function).code))) ≡ range_with_len (function_line program frames function) (function_count program frames function (routine_at program function))
   own_function function known =

@@ -1,4 +1,4 @@
--- The code of a program, put together: how long its parts are, and where each stands.
+-- The code of a program as a whole: the lengths of its parts, and the line of each.
 use Rattle.std.proofs.Common.{◌≡◌, ℕ, zero, suc, ◌+◌, ◌<◌, ◌≤◌, Bool, true, false, List, [], ◌∷◌, ◌++◌, length, take, Option, Some, None, slice_get, refl, subst, ◌∙◌, arith, length-append, append_assoc, ◌*◌}
 use Rattle.std.specs.Prelude.{◌==◌, if◌then◌else◌, slice_index_or}
 use Rattle.cyc_plain.specs.declared.instruction.Instruction.{Instruction}
@@ -12,7 +12,7 @@ use Rattle.cyc_isa.specs.declared.instr.BranchOp.TheVariants as branch
 use Rattle.cyc_isa.specs.declared.instr.MemoryOp.{MemoryOp}
 use Rattle.cyc_isa.specs.declared.instr.MemoryOp.TheVariants.{LoadWord, StoreWord, LoadByte, StoreByte}
 use Rattle.cyc_isa.specs.declared.instr.MoveFromOp.{MoveFromOp}
-use Rattle.cyc_machine.specs.declared.constants.TheConstants.{ARGUMENT, END_UNCAUGHT, PUT_BYTE, RETURN_ADDRESS, SECOND_ARGUMENT, SERVICE}
+use Rattle.cyc_machine_model.specs.declared.constants.TheConstants.{ARGUMENT, END_UNCAUGHT, PUT_BYTE, RETURN_ADDRESS, SECOND_ARGUMENT, SERVICE}
 use Rattle.cyc_plain.specs.inside.Program.{Routine, Program, no_routine, routine_at}
 use Rattle.cyc_plain.specs.inside.Step.{instruction_at}
 use Rattle.cyc_plain.proofs.Steps.{function_known}
@@ -30,9 +30,9 @@ use Rattle.cyc_select.specs.inside.Instructions.{small, syscall, load, store}
 use Rattle.cyc_select.specs.inside.Slots.{arrivals, coming, value_register, keep_code, give_code, reloads, made_in, bring_all, result_registers, global_code, saves, way_code, saving_code, restoring_code, way_count, saving_count}
 use Rattle.cyc_select.specs.inside.Operands.{keep_count, give_count, reload_count, address_code, at_address, word_code, load_code, load_count, operand_code, operand_register, plan_code, plan_count, test_code, condition_of, divide_count, is_tested, operator_count, address_count, operand_count}
 use Rattle.cyc_select.specs.inside.Passing.{copies_count, copies, spills, spills_count}
-use Rattle.cyc_select.specs.inside.Hoisting.{hoisted, with_hoisted, behind_hoisted, is_idle}
-use Rattle.cyc_select.specs.inside.Counts.{ending_count, body_count, behind_count, place_count, count_of, code_count, function_count, functions_count, function_line, instruction_line}
-use Rattle.cyc_select.specs.inside.Selection.{product_code, quotient_code, move_to, moved_code, opened_code, ordinary, argument_code, service_number, answer_code, unwound_code, divided_code, divide_code, part_of, ending_code, operator_code, body, behind, place_lines, code_lines, function_lines}
+use Rattle.cyc_select.specs.inside.Hoisting.{hoisted, with_hoisted, after_hoisted, is_idle}
+use Rattle.cyc_select.specs.inside.Counts.{ending_count, body_count, after_count, place_count, count_of, code_count, function_count, functions_count, function_line, instruction_line}
+use Rattle.cyc_select.specs.inside.Selection.{product_code, quotient_code, move_to, moved_code, opened_code, ordinary, argument_code, service_number, answer_code, unwound_code, divided_code, divide_code, part_of, ending_code, operator_code, body, following, place_lines, code_lines, function_lines}
 use Rattle.cyc_select.specs.inside.Selection.{start_lines, select_of, regions_code, load_at, store_at, calling_code, returning_code, routine_lines}
 use Rattle.cyc_select.proofs.steps.Calls.{length_ordinary}
 use Rattle.cyc_select.proofs.emission.Counts.{length_keep, length_give, length_move, length_moved, length_spills, length_copies, length_argument, length_answer, length_regions, length_results}
@@ -54,8 +54,8 @@ module _ (program : Program) (frames : List Frame) (few_results : (function : �
 
   length_divide : (frame : Frame) (here : ℕ) (which : MoveFromOp) (destination : ℕ) (left right : Operand) → length (divide_code frame here which destination left right) ≡ divide_count frame destination left right
   length_divide frame here which destination left right =
-      let behind : List Line = lines.Branch (conditions.Registers branch.NotEqual (register_of (operand_register frame SECOND right)) (register_of THIRD)) (here + (operand_count frame left + operand_count frame right) + 4) ∷ lines.Ordinary (product_code which (operand_register frame FIRST left)) ∷ lines.Jump (here + (operand_count frame left + operand_count frame right) + 5) ∷ ordinary (quotient_code frame which destination (operand_register frame FIRST left) (operand_register frame SECOND right)) in
-      omega (arith, length-append (ordinary (divided_code frame left right)) behind, length_ordinary (divided_code frame left right), length_divided frame left right, length_ordinary (keep_code frame destination), length_keep frame destination)
+      let following : List Line = lines.Branch (conditions.Registers branch.NotEqual (register_of (operand_register frame SECOND right)) (register_of THIRD)) (here + (operand_count frame left + operand_count frame right) + 4) ∷ lines.Ordinary (product_code which (operand_register frame FIRST left)) ∷ lines.Jump (here + (operand_count frame left + operand_count frame right) + 5) ∷ ordinary (quotient_code frame which destination (operand_register frame FIRST left) (operand_register frame SECOND right)) in
+      omega (arith, length-append (ordinary (divided_code frame left right)) following, length_ordinary (divided_code frame left right), length_divided frame left right, length_ordinary (keep_code frame destination), length_keep frame destination)
 
   length_planned : (frame : Frame) (plan : Plan) (destination : ℕ) → length (ordinary (plan_code frame plan destination)) ≡ plan_count frame plan destination
   length_planned frame plan destination = length_ordinary (plan_code frame plan destination) ∙ length_plan frame plan destination
@@ -111,7 +111,7 @@ module _ (program : Program) (frames : List Frame) (few_results : (function : �
       let test : Test = test_of comparison left right in
       let first : Option Instr = hoisted (frame_at frames function) (routine_at program function).code (test_of comparison left right) target in
       let is : List Instr = with_hoisted (test_code (frame_at frames function) test) first in
-      let last : List Line = lines.Branch (condition_of (frame_at frames function) test) (behind_hoisted first (instruction_line program frames function target)) ∷ [] in
+      let last : List Line = lines.Branch (condition_of (frame_at frames function) test) (after_hoisted first (instruction_line program frames function target)) ∷ [] in
       omega (arith, length-append (ordinary is) last, length_ordinary is, length_hoisted (test_code (frame_at frames function) test) first, length_test (frame_at frames function) test)
   length_body function here (plain.Call callee arguments count result) =
       let spilled : ℕ = here + spills_count (frame_at frames function) (coming (frame_at frames callee)) arguments 0 count in
@@ -169,37 +169,37 @@ module _ (program : Program) (frames : List Frame) (few_results : (function : �
       omega (arith, length_ordinary (word_code ARGUMENT tag ++ loads), length-append (word_code ARGUMENT tag) loads, length_word ARGUMENT tag, length-append (load_code (frame_at frames function) SECOND_ARGUMENT value) last, length_load (frame_at frames function) SECOND_ARGUMENT value)
   length_body function here (plain.Enter callee) = refl
 
-  pub length_behind : (function : ℕ) (i : Instruction) → length (behind program frames function i) ≡ behind_count program frames function i
-  length_behind function (plain.Call callee arguments count result) =
+  pub length_after : (function : ℕ) (i : Instruction) → length (following program frames function i) ≡ after_count program frames function i
+  length_after function (plain.Call callee arguments count result) =
       let stores : List Instr = bring_all true (frame_at frames function) result (result_registers (routine_at program callee).results) in
       let a = length_ordinary (stores ++ reloads (frame_at frames function)) in
       let b = length_results (frame_at frames function) result (result_registers (routine_at program callee).results) in
       let d = length_registers (routine_at program callee).results (few_results callee) in
       omega (arith, a, b, d, length-append stores (reloads (frame_at frames function)), length_reloads (frame_at frames function))
-  length_behind function (plain.Move destination source) = refl
-  length_behind function (plain.Unary operator destination operand) = refl
-  length_behind function (plain.Binary operator destination left right) = refl
-  length_behind function (plain.Jump target) = refl
-  length_behind function (plain.Branch comparison left right target) = refl
-  length_behind function (plain.Return value) = refl
-  length_behind function (plain.ReadByte destination) = refl
-  length_behind function (plain.WriteByte source) = refl
-  length_behind function (plain.AddressOf destination slot count) = refl
-  length_behind function (plain.LoadGlobal destination global) = refl
-  length_behind function (plain.StoreGlobal global source) = refl
-  length_behind function (plain.MoveWords destination source count) = refl
-  length_behind function (plain.Load destination address offset) = refl
-  length_behind function (plain.Store address offset source) = refl
-  length_behind function (plain.LoadByte destination address offset) = refl
-  length_behind function (plain.StoreByte address offset source) = refl
-  length_behind function (plain.Ask request) = refl
-  length_behind function (plain.CountLexical destination) = refl
-  length_behind function (plain.Try first handler) = refl
-  length_behind function (plain.Leave first) = refl
-  length_behind function (plain.Throw tag value) = refl
-  length_behind function (plain.Finish value) = refl
-  length_behind function (plain.Uncaught tag value) = refl
-  length_behind function (plain.Enter callee) = refl
+  length_after function (plain.Move destination source) = refl
+  length_after function (plain.Unary operator destination operand) = refl
+  length_after function (plain.Binary operator destination left right) = refl
+  length_after function (plain.Jump target) = refl
+  length_after function (plain.Branch comparison left right target) = refl
+  length_after function (plain.Return value) = refl
+  length_after function (plain.ReadByte destination) = refl
+  length_after function (plain.WriteByte source) = refl
+  length_after function (plain.AddressOf destination slot count) = refl
+  length_after function (plain.LoadGlobal destination global) = refl
+  length_after function (plain.StoreGlobal global source) = refl
+  length_after function (plain.MoveWords destination source count) = refl
+  length_after function (plain.Load destination address offset) = refl
+  length_after function (plain.Store address offset source) = refl
+  length_after function (plain.LoadByte destination address offset) = refl
+  length_after function (plain.StoreByte address offset source) = refl
+  length_after function (plain.Ask request) = refl
+  length_after function (plain.CountLexical destination) = refl
+  length_after function (plain.Try first handler) = refl
+  length_after function (plain.Leave first) = refl
+  length_after function (plain.Throw tag value) = refl
+  length_after function (plain.Finish value) = refl
+  length_after function (plain.Uncaught tag value) = refl
+  length_after function (plain.Enter callee) = refl
 
   pub length_place : (function index here : ℕ) (i : Instruction) → length (place_lines program frames function index here i) ≡ place_count program frames function index i
   length_place function index here i = go (is_idle (frame_at frames function) index i)
@@ -208,16 +208,16 @@ module _ (program : Program) (frames : List Frame) (few_results : (function : �
       go true = refl
       go false = length_body function here i
 
-  length_both : (function index here : ℕ) (i : Instruction) → length (place_lines program frames function index here i ++ behind program frames function i) ≡ count_of program frames function index i
+  length_both : (function index here : ℕ) (i : Instruction) → length (place_lines program frames function index here i ++ following program frames function i) ≡ count_of program frames function index i
   length_both function index here i =
-      omega (arith, length-append (place_lines program frames function index here i) (behind program frames function i), length_place function index here i, length_behind function i)
+      omega (arith, length-append (place_lines program frames function index here i) (following program frames function i), length_place function index here i, length_after function i)
 
   pub length_code : (function index here : ℕ) (code : List Instruction) → length (code_lines program frames function index here code) ≡ code_count program frames function index code
   length_code function index here [] = refl
   length_code function index here (i ∷ code) =
       omega (
         arith,
-        length-append (place_lines program frames function index here i ++ behind program frames function i) (code_lines program frames function (suc index) (here + count_of program frames function index i) code),
+        length-append (place_lines program frames function index here i ++ following program frames function i) (code_lines program frames function (suc index) (here + count_of program frames function index i) code),
         length_both function index here i,
         length_code function (suc index) (here + count_of program frames function index i) code,
       )
@@ -245,21 +245,21 @@ module _ (program : Program) (frames : List Frame) (few_results : (function : �
 
   module _ (all : Labelled) where
     code_stands : (function first here : ℕ) (code : List Instruction) (k index n : ℕ) (i : Instruction) → slice_get code k ≡ Some i → index ≡ first + k → n ≡ here + code_count program frames function first (take k code)
-        → Stands all here (code_lines program frames function first here code) → Stands all n (place_lines program frames function index n i ++ behind program frames function i)
+        → Stands all here (code_lines program frames function first here code) → Stands all n (place_lines program frames function index n i ++ following program frames function i)
     code_stands function first here [] k index n i at index_is is stands = absurd (let e : None ≡ Some i = at in cc)
     code_stands function first here (x ∷ code) zero index n i at index_is is stands =
         let same : x ≡ i = (let e : Some x ≡ Some i = at in cc) in
         let there : here ≡ n = omega (arith, is) in
         let number : first ≡ index = omega (arith, index_is) in
-        subst (λ (k : ℕ). Stands all k (place_lines program frames function index k i ++ behind program frames function i)) there
-        (subst (λ (k : ℕ). Stands all here (place_lines program frames function k here i ++ behind program frames function i)) number
-        (subst (λ (y : Instruction). Stands all here (place_lines program frames function first here y ++ behind program frames function y)) same
-        (stands_front all here (place_lines program frames function first here x ++ behind program frames function x) (code_lines program frames function (suc first) (here + count_of program frames function first x) code) stands)))
+        subst (λ (k : ℕ). Stands all k (place_lines program frames function index k i ++ following program frames function i)) there
+        (subst (λ (k : ℕ). Stands all here (place_lines program frames function k here i ++ following program frames function i)) number
+        (subst (λ (y : Instruction). Stands all here (place_lines program frames function first here y ++ following program frames function y)) same
+        (stands_front all here (place_lines program frames function first here x ++ following program frames function x) (code_lines program frames function (suc first) (here + count_of program frames function first x) code) stands)))
     code_stands function first here (x ∷ code) (suc k) index n i at index_is is stands =
         let long = length_both function first here x in
         code_stands function (suc first) (here + count_of program frames function first x) code k index n i at (omega (arith, index_is)) (omega (arith, is))
         (subst (λ (m : ℕ). Stands all (here + m) (code_lines program frames function (suc first) (here + count_of program frames function first x) code)) long
-        (stands_back all here (place_lines program frames function first here x ++ behind program frames function x) (code_lines program frames function (suc first) (here + count_of program frames function first x) code) stands))
+        (stands_back all here (place_lines program frames function first here x ++ following program frames function x) (code_lines program frames function (suc first) (here + count_of program frames function first x) code) stands))
 
     functions_stand : (first here : ℕ) (routines : List Routine) (k n : ℕ) → k < length routines → n ≡ here + functions_count program frames first (take k routines)
         → Stands all here (function_lines program frames first here routines) → Stands all n (routine_lines program frames (first + k) n (slice_index_or routines k no_routine))
@@ -278,7 +278,7 @@ module _ (program : Program) (frames : List Frame) (few_results : (function : �
         (subst (λ (m : ℕ). Stands all (here + m) (function_lines program frames (suc first) (here + function_count program frames first r) routines)) long
         (stands_back all here (routine_lines program frames first here r) (function_lines program frames (suc first) (here + function_count program frames first r) routines) stands)))
 
-  -- all lines stand
+  -- A piece of code stands at the line number equal to the length of the code before it.
   stands_from : (front rest : List Line) (globals : List ℕ) → Stands (record { lines = front ++ rest; globals = globals }) (length front) rest
   stands_from front [] globals = tt
   stands_from front (l ∷ rest) globals = (
@@ -299,7 +299,7 @@ module _ (program : Program) (frames : List Frame) (few_results : (function : �
       subst (λ (f : ℕ). Stands (select_of program frames) (function_line program frames function) (routine_lines program frames f (function_line program frames function) (routine_at program function))) same
       (functions_stand (select_of program frames) 0 START_LINES program.functions function (function_line program frames function) known refl stand_functions)
 
-  -- what a function begins with, and its code behind it
+  -- A function begins with its saves, followed by its code.
   pub stand_saving : (function : ℕ) → function < length program.functions → Stands (select_of program frames) (function_line program frames function) (ordinary (saving_code (frame_at frames function)))
   stand_saving function known =
       stands_front (select_of program frames) (function_line program frames function) (ordinary (saving_code (frame_at frames function)))
@@ -313,7 +313,7 @@ module _ (program : Program) (frames : List Frame) (few_results : (function : �
       (stands_back (select_of program frames) (function_line program frames function) (ordinary (saving_code (frame_at frames function))) (code_lines program frames function 0 here (routine_at program function).code) (stand_function function known))
 
   pub stand : (function index : ℕ) (i : Instruction) → instruction_at program (record { function = function; index = index }) ≡ Some i
-      → Stands (select_of program frames) (instruction_line program frames function index) (place_lines program frames function index (instruction_line program frames function index) i ++ behind program frames function i)
+      → Stands (select_of program frames) (instruction_line program frames function index) (place_lines program frames function index (instruction_line program frames function index) i ++ following program frames function i)
   stand function index i at =
       code_stands (select_of program frames) function 0 (function_line program frames function + saving_count (frame_at frames function)) (routine_at program function).code index index (instruction_line program frames function index) i at (omega arith) refl
       (stand_code function (function_known program (record { function = function; index = index }) i at))

@@ -1,4 +1,4 @@
--- The code that is selected is the program's, and has a place in the machine's memory.
+-- The selected code implements the program and fits the machine's memory.
 use Rattle.std.proofs.Common.{◌≡◌, ℕ, ◌+◌, ◌<◌, ◌≤◌, List, length, map, refl, sym, ap, arith}
 use Rattle.std.specs.Prelude.{sum_by, flat_map}
 use Rattle.std.specs.List.{range_with_len}

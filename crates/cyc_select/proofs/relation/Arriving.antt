@@ -1,4 +1,5 @@
--- Arguments come to homes as a caller sees them, and those that came in memory come to their registers where the function begins.
+-- Arguments arrive in the homes that callers see. Arguments that arrive in memory but belong in registers are loaded at the function's
+-- entry.
 use Rattle.std.proofs.Common.{◌≡◌, ℕ, zero, suc, ◌+◌, ◌<◌, ◌≤◌, Bool, true, false, List, [], ◌∷◌, ◌++◌, length, map, take, drop, Some, None, refl, sym, ap, ◌∙◌, arith, inl, inr}
 use Rattle.std.specs.Prelude.{◌⊎◌, if◌then◌else◌, sum_by}
 use Rattle.std.proofs.lemmas.Bool.{cases_lt, leb-true, leb-false, lt-leb, le-leb, cond-true, cond-false}
@@ -21,7 +22,7 @@ use Rattle.cyc_select.proofs.relation.Values.{Caches, AreAlone, AreValues, are_r
 use Rattle.cyc_select.proofs.effects.Views.{Contents}
 use Rattle.cyc_select.proofs.effects.Sequences.{after_r, after_w, AreSafe}
 
--- ---- homes, one by one
+-- ---- homes, slot by slot
 
 home_mapped : (f : Home → Home) → f homes.Memory ≡ homes.Memory → (hs : List Home) (slot : ℕ) → home_of (map f hs) slot ≡ f (home_of hs slot)
 home_mapped f none [] slot = sym none
@@ -57,7 +58,7 @@ pub arriving_past : (frame : Frame) (slot : ℕ) → frame.parameters ≤ slot �
 arriving_past frame slot past =
     home_mapped arriving_home refl (take frame.parameters frame.homes) slot ∙ ap arriving_home (home_untaken frame.parameters frame.homes slot past)
 
--- an argument comes in a register that calls lose, which is its slot's
+-- An argument that arrives in a register arrives in a caller-saved one, which is its slot's.
 came_low : (h : Home) (k : ℕ) → register_of (coming_home h) ≡ Some k → (register_of h ≡ Some k) × (k < 17)
 came_low homes.Memory k has = absurd (let e : None ≡ Some k = has in cc)
 came_low (homes.Both register) k has = go (is_preserved register) refl has
@@ -84,7 +85,7 @@ comes_low (homes.Register register) k has low =
     let same : register ≡ k = (let e : Some register ≡ Some k = has in cc) in
     ap register_of (cond-false (is_preserved register) homes.Memory (homes.Register register) (lt-leb 17 register (omega (arith, same, low)))) ∙ has
 
--- what its home keeps in memory comes there, and so does what comes to a register that calls preserve
+-- A parameter arrives in memory if its home includes memory or is a callee-saved register.
 comes_kept : (h : Home) → homing.is_kept h ≡ true → homing.is_kept (coming_home h) ≡ true
 comes_kept homes.Memory kept = refl
 comes_kept (homes.Both register) kept = go (is_preserved register)
@@ -143,7 +144,7 @@ saved_counted (h ∷ hs) =
 pub length_arrivals : (frame : Frame) → length (arrivals frame) ≡ arrival_count frame
 length_arrivals frame = length_reload frame 0 (arriving frame) ∙ saved_counted (take frame.parameters frame.homes)
 
--- ---- one more of them
+-- ---- one more parameter
 
 pub reloads_next : (frame : Frame) (hs : List Home) (slot at : ℕ) → reloads_from frame at (drop slot hs) ≡ reload frame (home_of hs slot) at ++ reloads_from frame (suc at) (drop (suc slot) hs)
 reloads_next frame [] zero at = refl
@@ -151,7 +152,7 @@ reloads_next frame [] (suc slot) at = refl
 reloads_next frame (h ∷ hs) zero at = refl
 reloads_next frame (h ∷ hs) (suc slot) at = reloads_next frame hs slot at
 
--- ---- a caller's view of a frame
+-- ---- the frame as callers see it
 
 pub came_in : (frame : Frame) (slot k : ℕ) → value_register (coming frame) slot ≡ Some k → (value_register frame slot ≡ Some k) × (k < 17)
 came_in frame slot k has = came_low (home_of frame.homes slot) k (ap register_of (sym (coming_is frame slot)) ∙ has)
@@ -165,7 +166,7 @@ comes_to_memory frame slot kept = ap homing.is_kept (coming_is frame slot) ∙ c
 pub comes_by_memory : (frame : Frame) (slot k : ℕ) → value_register frame slot ≡ Some k → 17 ≤ k → is_kept (coming frame) slot ≡ true
 comes_by_memory frame slot k has high = ap homing.is_kept (coming_is frame slot) ∙ comes_high (home_of frame.homes slot) k has high
 
--- what has a register where the function begins
+-- The parameters that are loaded into registers at the function's entry.
 arrived_at : (frame : Frame) (slot k : ℕ) → home_of (arriving frame) slot ≡ homes.Both k → (slot < frame.parameters) × (value_register frame slot ≡ Some k) × (17 ≤ k)
 arrived_at frame slot k both = elim (cases_lt slot frame.parameters) [
   | inl below ↦
@@ -175,9 +176,9 @@ arrived_at frame slot k both = elim (cases_lt slot frame.parameters) [
       absurd (let e : homes.Memory ≡ homes.Both k = sym (arriving_past frame slot past) ∙ both in cc)
 ]
 
--- ---- their lines
+-- ---- the lines that load parameters
 
--- registers have what is live once the parameters that came in memory have come to them; no other register is written
+-- After the loads of parameters, registers hold all live slots, and no other register is written.
 pub record Arrived (globals stack : ℕ) (program : Program) (frames : List Frame) (function index : ℕ) (q : Words) (w : Contents) (slots : Words) : Type 0 where
   pub safe : AreSafe globals stack (arrivals (frame_at frames function)) q w
   pub memory : after_w (arrivals (frame_at frames function)) q w ≡ w

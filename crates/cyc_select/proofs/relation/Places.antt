@@ -1,5 +1,5 @@
--- The words that loads and stores find by an address, as they stand in the machine's memory: those of live blocks in its store,
--- those of globals in its data range, and those of slots in the frames of the calls under way.
+-- The words that loads and stores find, in the machine's memory: those of live blocks in its store, those of globals in its data range, and
+-- those of slots in the frames of calls.
 use Rattle.std.proofs.Common.{◌≡◌, ◌≢◌, ℕ, suc, ◌+◌, ◌*◌, ◌%◌, ◌<◌, ◌≤◌, true, false, List, [], ◌∷◌, length, Option, Some, None, slice_get, refl, sym, ap, subst, ◌∙◌, arith, inl, inr}
 use Rattle.std.specs.Prelude.{nat_lt}
 use Rattle.std.proofs.lemmas.Bool.{cases_eq, ltb-true, or_cases}
@@ -9,7 +9,7 @@ use Rattle.cyc_isa.specs.Effect.{memory_address}
 use Rattle.cyc_isa.specs.declared.instr.Instr.TheVariants.{Memory}
 use Rattle.cyc_isa.specs.declared.instr.MemoryOp.TheVariants.{LoadWord, StoreWord, LoadByte, StoreByte}
 use Rattle.cyc_isa.specs.declared.operand.Register.{Register}
-use Rattle.cyc_machine.specs.State.{data_base, stack_end, globals_length, words_per_call}
+use Rattle.cyc_machine_model.specs.State.{data_base, stack_end, globals_length, words_per_call}
 use Rattle.cyc_store.specs.State.{StoreState}
 use Rattle.cyc_plain.specs.declared.limits.TheConstants.{GLOBALS_BASE, MOST_FRAME_WORDS}
 use Rattle.cyc_plain.specs.declared.instruction.Instruction.{Instruction}
@@ -39,24 +39,24 @@ use Rattle.cyc_select.proofs.relation.Values.{barred_kept, unbarred}
 use Rattle.cyc_select.proofs.effects.Views.{Contents, written, saved_in, IsWritable, Width, OneWord, OneByte, load_op, store_op, word_place, loaded_part, stored_word}
 use Rattle.cyc_select.proofs.effects.Walks.{Walk, Now, now_is, walk_few, walk_from, walk_block, walk_load, walk_save}
 
--- ---- the two sorts of words
+-- ---- the two kinds of words
 
 pub data Sort : Type 0 where
   OfBlock : Sort
   OfCell : Sort
 
--- the word at an address: that of a live block, or one of the data range or the stack
+-- The word at an address: of a live block, or of the data range or the stack.
 abbrev pub IsWordAt : Sort → (globals stack : ℕ) → Contents → (a word : ℕ) → Type 0
 IsWordAt OfBlock globals stack w a word = IsLive w.store a word × IsWord word
 IsWordAt OfCell globals stack w a word = IsCell globals stack a × (w.words a ≡ word)
 
--- another is written there
+-- The contents after the word at an address is replaced.
 abbrev pub placed : Sort → Contents → (a word : ℕ) → Contents
 placed OfBlock w a word = saved_in w a word
 placed OfCell w a word = written w a word
 
 module _ (code : Labelled) (formed : IsFormed code) (addresses : ℕ → ℕ) (globals stack : ℕ) where
-  -- the lines by which a word of the data range or the stack comes to a register, or is written
+  -- The lines that load or store a word of the data range or the stack.
   cell_read : {Late : State → Type 0} (width : Width) (n k lo hi : ℕ) (out input : List ℕ) (Goal : State → Type 0) (r : Words) (w : Contents) (c : labelled.Configuration) (target base : Register) (offset : ℕ)
       → Now code formed addresses globals stack k out input r w c → slice_get code.lines k ≡ Some (lines.Ordinary (Memory (load_op width) target base offset)) → lo ≤ k → IsWritable target.number → IsCell globals stack (word_place width (memory_address (r base.number) offset))
       → ((d : labelled.Configuration) → Now code formed addresses globals stack (k + 1) out input (put r target.number (loaded_part width (memory_address (r base.number) offset) (w.words (word_place width (memory_address (r base.number) offset))))) w d → Walk code formed addresses globals stack n (k + 1) hi out Late Goal (Running d))
@@ -75,7 +75,7 @@ module _ (code : Labelled) (formed : IsFormed code) (addresses : ℕ → ℕ) (g
   cell_written OneByte n k lo hi out input Goal r w c source base offset now stands from cell rest =
       walk_block code formed addresses globals stack (Memory StoreByte source base offset ∷ []) n k lo hi out input Goal r w c now (stands, tt) (cell, tt) from rest
 
-  -- one comes to a register
+  -- A walk loads the word at an address into a register.
   pub walk_read : {Late : State → Type 0} (width : Width) (sort : Sort) (n k lo hi : ℕ) (out input : List ℕ) (Goal : State → Type 0) (r : Words) (w : Contents) (c : labelled.Configuration) (target base : Register) (offset word : ℕ)
       → Now code formed addresses globals stack k out input r w c → slice_get code.lines k ≡ Some (lines.Ordinary (Memory (load_op width) target base offset)) → lo ≤ k → IsWritable target.number
       → IsWordAt sort globals stack w (word_place width (memory_address (r base.number) offset)) word
@@ -91,7 +91,7 @@ module _ (code : Labelled) (formed : IsFormed code) (addresses : ℕ → ℕ) (g
       (rest d (now_is code formed addresses globals stack (k + 1) out input (put r target.number (loaded_part width (memory_address (r base.number) offset) (w.words (word_place width (memory_address (r base.number) offset))))) w (put r target.number (loaded_part width (memory_address (r base.number) offset) word)) w d
       (ap (λ (v : ℕ). put r target.number (loaded_part width (memory_address (r base.number) offset) v)) is) refl later))))
 
-  -- one is written
+  -- A store instruction followed by a walk is a walk.
   pub walk_write : {Late : State → Type 0} (width : Width) (sort : Sort) (n k lo hi : ℕ) (out input : List ℕ) (Goal : State → Type 0) (r : Words) (w : Contents) (c : labelled.Configuration) (source base : Register) (offset old : ℕ)
       → Now code formed addresses globals stack k out input r w c → slice_get code.lines k ≡ Some (lines.Ordinary (Memory (store_op width) source base offset)) → lo ≤ k
       → IsWordAt sort globals stack w (word_place width (memory_address (r base.number) offset)) old
@@ -107,7 +107,7 @@ module _ (code : Labelled) (formed : IsFormed code) (addresses : ℕ → ℕ) (g
       (rest d (now_is code formed addresses globals stack (k + 1) out input r (written w (word_place width (memory_address (r base.number) offset)) (stored_word width (memory_address (r base.number) offset) (w.words (word_place width (memory_address (r base.number) offset))) (r source.number))) r (written w (word_place width (memory_address (r base.number) offset)) (stored_word width (memory_address (r base.number) offset) old (r source.number))) d refl
       (ap (λ (v : ℕ). written w (word_place width (memory_address (r base.number) offset)) (stored_word width (memory_address (r base.number) offset) v (r source.number))) is) later))))
 
--- ---- slots that have an address live in memory
+-- ---- slots whose address is taken have their home in memory
 
 pinned_by_instruction : (code : List Instruction) (slot : ℕ) → is_pinned code slot ≡ true → (index : ℕ) × (i : Instruction) × (slice_get code index ≡ Some i) × (pins i slot ≡ true)
 pinned_by_instruction [] slot pinned = absurd (let e : false ≡ true = pinned in cc)
@@ -132,10 +132,10 @@ module _ (program : Program) (frames : List Frame) (function : ℕ) (right : Are
       let e : true ≡ false = sym (pins_bar i slot is) ∙ unbarred program frames function right index slot k i at has in
       cc
 
--- ---- a store to a slot of a call that waits
+-- ---- a store to a slot of a waiting call
 
 module _ (program : Program) (a word : ℕ) where
-  -- the calls stay where they are
+  -- The calls keep their addresses.
   based_waiting : (frames : List Frame) (base function place : ℕ) (waiting : List states.Frame) → AreBased frames base function place waiting → AreBased frames base function place (with_waiting program waiting a word)
   based_waiting frames base function place [] based = based
   based_waiting frames base function place (f ∷ waiting) (here, based) =
@@ -146,7 +146,7 @@ module _ (program : Program) (a word : ℕ) where
       go (Some number) others = (here, based)
       go None others = (here, others)
 
-  -- and so do their handlers
+  -- The records of the calls' handlers are unchanged.
   records_map : (frames : List Frame) (addresses : ℕ → ℕ) (base function : ℕ) (rest rest' : ℕ → Type 0) → ((n : ℕ) → rest n → rest' n) → (newest : ℕ) (handlers : List states.Handler)
       → AreRecords program frames addresses base function rest newest handlers → AreRecords program frames addresses base function rest' newest handlers
   records_map frames addresses base function rest rest' goes newest [] records = goes newest records
@@ -178,7 +178,7 @@ module _ (program : Program) (a word : ℕ) where
       (λ n others. beyond_waiting frames addresses base function waiting n others) newest handlers records
 
 module _ (program : Program) (well : IsWellFormed program) (frames : List Frame) (fit : AreFrames program frames) (addresses : ℕ → ℕ) where
-  -- the word at an address, where it is that of a slot of a call that waits, and those calls with another one there
+  -- The word of a waiting call's slot at an address, and the calls after it is written.
   record IsAbove (w : Contents) (base back : ℕ) (left : Words) (function : ℕ) (waiting : List states.Frame) (a word : ℕ) : Type 0 where
     low : base + frame_size ≤ a
     high : a < stack_end
@@ -207,13 +207,13 @@ module _ (program : Program) (well : IsWellFormed program) (frames : List Frame)
       frame : IsFrame (routine_at program f.caller.function) its
       frame = fit.each f.caller.function known
 
-      -- what it leaves is as before
+      -- The registers that the call restores are unchanged.
       left_there : (new : ℕ) → ((j : ℕ) → j < 7 → a ≢ above + 4 * (its.first_saved + j)) → (j : ℕ) → j < 7 → LeftBy its above left (written w a new) j ≡ LeftBy its above left w j
       left_there new apart =
           left_same its.first_saved its.saved above left left w (written w a new) (λ j past high. refl)
           (λ j below high. put-other w.words a (above + 4 * (its.first_saved + j)) new (λ e. apart j high (sym e)))
 
-      -- its own slot
+      -- The address is that of the call's own slot.
       here_found : (slot : ℕ) → slot_at program f.caller a ≡ Some slot → f.caller.slots slot ≡ word → IsAbove w base back left function (f ∷ waiting) a word
       here_found slot is value =
           let (address, pinned) = numbered-from (is_pinned (routine_at program f.caller.function).code) f.caller.base a slot is in
@@ -284,17 +284,17 @@ module _ (program : Program) (well : IsWellFormed program) (frames : List Frame)
                 );
           }
 
--- ---- loads and stores
+-- ---- loads and stores by address
 
 module _ (program : Program) (well : IsWellFormed program) (frames : List Frame) (fit : AreFrames program frames) (addresses : ℕ → ℕ) (pages calls : ℕ) (few : calls ≤ 4096)
     (c : Configuration) (r : Words) (w : Contents) (base back : ℕ) (stage : Stage) (s : Standing program frames addresses pages calls c r w base back stage c.active.slots) (a word : ℕ) where
-  -- the word at an address is found in the machine's memory, and can be written there
+  -- The word at an address is in the machine's memory and can be written there.
   pub record IsFound : Type 0 where
     pub sort : Sort
     pub at : IsWordAt sort globals_length (words_per_call * calls) w a word
     pub standing : (new : ℕ) → IsWord new
         → Standing program frames addresses pages calls (with_memory program c a new) r (placed sort w a new) base back stage (with_memory program c a new).active.slots
-    -- it is that of no slot which has a register
+    -- The word is not that of a slot with a register.
     pub values : (new slot k : ℕ) → value_register (frame_at frames c.active.function) slot ≡ Some k → (with_memory program c a new).active.slots slot ≡ c.active.slots slot
 
   abbrev Stands : Configuration → Contents → Type 0
@@ -309,7 +309,7 @@ module _ (program : Program) (well : IsWellFormed program) (frames : List Frame)
   place_is : c.active.base ≡ base + 4 * (frame_at frames c.active.function).first_slot
   place_is = based_here frames base c.active.function c.active.base c.frames s.based
 
-  -- of a global
+  -- A load from a global's address finds the global's word.
   global_found : (number : ℕ) → range_of a ≡ OfGlobals → global_at program a ≡ Some number → c.globals number ≡ word → IsFound
   global_found number is at value =
       let (address, asked) = numbered-from (λ (n : ℕ). nat_lt n (length program.globals)) GLOBALS_BASE a number at in
@@ -329,7 +329,7 @@ module _ (program : Program) (well : IsWellFormed program) (frames : List Frame)
         values = λ new slot k has. ap (λ (d : Configuration). d.active.slots slot) (writes new);
       }
 
-  -- of a slot of the call that is executed
+  -- The word of a slot of the active call is found.
   slot_found : (slot : ℕ) → range_of a ≡ OfSlots → slot_at program c.active a ≡ Some slot → c.active.slots slot ≡ word → IsFound
   slot_found slot is at value =
       let its : Frame = frame_at frames c.active.function in
@@ -357,7 +357,7 @@ module _ (program : Program) (well : IsWellFormed program) (frames : List Frame)
             (λ same. unpinned program frames c.active.function (fit.homes c.active.function s.known) slot k pinned (ap (value_register (frame_at frames c.active.function)) (sym same) ∙ has));
       }
 
-  -- of a slot of a call that waits
+  -- The word of a slot of a waiting call is found.
   waiting_found : range_of a ≡ OfSlots → slot_at program c.active a ≡ None → word_waiting program c.frames a ≡ Some word → IsFound
   waiting_found is none there =
       let its : Frame = frame_at frames c.active.function in

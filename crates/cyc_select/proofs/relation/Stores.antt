@@ -1,4 +1,4 @@
--- What is asked of the store that a run has, and what its calls leave of it.
+-- The conditions on the store of a run, and how its calls keep them.
 use Rattle.std.proofs.Common.{◌≡◌, ℕ, zero, suc, ◌+◌, ◌*◌, ◌%◌, ◌^◌, ◌<◌, ◌≤◌, Bool, true, false, List, [], ◌∷◌, ◌++◌, length, Option, None, Some, refl, sym, ap, subst, ◌∙◌, arith, inl, inr}
 use Rattle.std.specs.Prelude.{◌==◌, nat_le, nat_lt, if◌then◌else◌}
 use Rattle.std.specs.List.{AllByRecursion}
@@ -24,9 +24,9 @@ use Rattle.cyc_store.proofs.ServiceLemmas.{then-none, start-sound, saved-sound, 
 use Rattle.cyc_plain.specs.inside.Step.{HasAnswerWords}
 use Rattle.cyc_select.proofs.relation.Cells.{IsLive}
 
--- ---- blocks in the pages
+-- ---- blocks within the pages
 
--- all blocks of these regions lie in the pages
+-- All blocks of these regions lie within the pages.
 abbrev pub ArePlaced : (pages : ℕ) → List Home → Type 0
 ArePlaced pages rs = AllByRecursion (λ (r : Home). AllByRecursion (IsPlaced pages) r.blocks) rs
 
@@ -57,7 +57,7 @@ made_placed pages s h b placed all = go (h == UNIQUE)
           (λ r each. all_append (IsPlaced pages) r.blocks (b ∷ []) each (placed, tt)) all.1,
     )
 
--- a block that is made lies there, and nothing else comes
+-- An allocated block lies within the pages, and no other block appears.
 served_placed : (pages : ℕ) (s : StoreState) (call : Call) (choice : services.Choice) → s.pages ≡ pages → MayChoose s call choice → ArePlaced pages (homes s)
     → ArePlaced pages (homes (served s call choice))
 served_placed pages s OpenLexical choice has may all =
@@ -73,7 +73,7 @@ served_placed pages s (Allocate handle words) choice has may all =
 served_placed pages s (Free address) choice has may all =
     (all_part (IsPlaced pages) (IsPart-without address_of s.unique address) all.0, all.1)
 
--- a block that an address is in lies there
+-- A block that contains an address lies within the pages.
 record IsInside (pages address : ℕ) (h : Holder) : Type 0 where
   pub placed : IsPlaced pages h.block
   pub inside : covers h.block address ≡ true
@@ -124,7 +124,7 @@ lexical_few (r ∷ rs) classes =
     either true n pages rest some more = omega (arith, some, more)
     either false n pages rest some more = omega (arith, some, more)
 
--- how many are open behind a call
+-- The number of open lexical regions after a call.
 
 pub lexical_opened : (rs : List Home) (handle : ℕ) → lexical_count (rs ++ empty_home handle Lexical ∷ []) ≡ lexical_count rs + 1
 lexical_opened [] handle = refl
@@ -195,7 +195,7 @@ marks_few s mark free = leb-true mark (lexical_count s.regions) (then-none (nat_
 
 -- ---- the store
 
--- A sound store of these pages: its blocks lie in them, its words are words, and its demand is within them.
+-- A sound store with a number of pages: its blocks lie in the pages, its contents are words, and its demand is at most the number of pages.
 pub record IsLaid (pages : ℕ) (store : StoreState) : Type 0 where
   pub has : store.pages ≡ pages
   pub few : pages ≤ MOST_PAGES
@@ -203,16 +203,16 @@ pub record IsLaid (pages : ℕ) (store : StoreState) : Type 0 where
   pub paged : demand store ≤ pages
   pub sound : IsSound store
 
--- a new store
+-- A new store has fewer open regions than pages, as `IsLaid` states.
 pub new_laid : (pages : ℕ) (store : StoreState) → IsNew pages store → 1 ≤ pages → pages ≤ MOST_PAGES → IsLaid pages store
 new_laid pages store (memory, words, is) some few =
     subst (IsLaid pages) (sym is) (record { has = refl; few = few; placed = (tt, (tt, tt)); paged = some; sound = start-sound pages memory words some })
 
--- in which no lexical region is open
+-- A new store has no open lexical region.
 pub new_counted : (pages : ℕ) (store : StoreState) → IsNew pages store → lexical_count store.regions % 2 ^ 32 ≡ 0
 new_counted pages store (memory, words, is) = ap (λ (s : StoreState). lexical_count s.regions % 2 ^ 32) is
 
--- a word of a live block is written, which opens and closes no region
+-- A write to a word of a live block opens and closes no region.
 pub saved_regions : (store : StoreState) (address word : ℕ) → (saved store address word).regions ≡ store.regions
 saved_regions store address word = go (word_at store address)
   where
@@ -227,7 +227,7 @@ saved_laid pages store address word is_word laid = go (word_at store address) (s
     go None sound = laid
     go (Some old) sound = record { has = laid.has; few = laid.few; placed = laid.placed; paged = laid.paged; sound = sound }
 
--- a call was served
+-- Each served call of the store keeps `IsLaid`.
 pub served_laid : (pages : ℕ) (store : StoreState) (call : Call) (choice : services.Choice) → refusal store call ≡ None → services.IsAllowed store call choice → IsLaid pages store
     → IsLaid pages (served store call choice)
 served_laid pages store call choice free allowed laid =
@@ -243,7 +243,7 @@ served_laid pages store call choice free allowed laid =
       sound = sound;
     }
 
--- and its answer is words
+-- The result of a served call consists of words.
 pub served_words : (pages : ℕ) (store : StoreState) (call : Call) (choice : services.Choice) → services.IsAllowed store call choice → IsLaid pages store → HasAnswerWords (answer store call choice)
 served_words pages store OpenLexical choice allowed laid =
     (allowed.may.1, omega (arith, lexical_few store.regions store.classes, laid.paged, laid.few))
@@ -256,7 +256,7 @@ served_words pages store (Allocate handle words) choice allowed laid =
     omega (arith, high, laid.has, laid.few)
 served_words pages store (Free address) choice allowed laid = tt
 
--- where a word is found it is that of a live block of the store's pages
+-- A word that is found is that of a live block in the store's pages.
 pub laid_live : (pages : ℕ) (store : StoreState) (a word : ℕ) → IsLaid pages store → word_at store a ≡ Some word → IsLive store a word × IsWord word
 laid_live pages store a word laid found = go (a % 4 == 0) refl (holder (homes store) a) refl found
   where

@@ -1,4 +1,4 @@
--- Values in registers: a register has its slot's word wherever the slot is live.
+-- Values in registers: a register holds its slot's word wherever the slot is live.
 use Rattle.std.proofs.Common.{◌≡◌, ◌≢◌, ℕ, zero, suc, ◌+◌, ◌-◌, ◌%◌, ◌<◌, ◌≤◌, Bool, true, false, List, [], ◌∷◌, length, Option, Some, None, refl, sym, ap, subst, ◌∙◌, arith, inl, inr}
 use Rattle.std.specs.Prelude.{◌⊎◌, nat_le, nat_lt, sum_by}
 use Rattle.std.proofs.lemmas.Bool.{cases_eq, cases_lt, cases_Bool, ne_eqb, le-leb, lt-ltb, leb-true, leb-false, ltb-true, ltb-false, and_parts, and_from, and_cases, false≢true}
@@ -30,14 +30,14 @@ use Rattle.cyc_select.proofs.effects.Views.{Contents}
 use Rattle.cyc_select.proofs.effects.Sequences.{after_r, after_w, AreSafe}
 use Rattle.cyc_registers.specs.inside.Liveness.{IsLiveAt}
 
--- ---- homes
+-- ---- homes of slots
 
 home_kept : (h : Home) → homing.register_of h ≡ None → homing.is_kept h ≡ true
 home_kept homes.Memory none = refl
 home_kept (homes.Both k) none = absurd (let e : Some k ≡ None = none in cc)
 home_kept (homes.Register k) none = absurd (let e : Some k ≡ None = none in cc)
 
--- a slot without a register lives in memory
+-- A slot without a register has its home in memory.
 pub memory_kept : (frame : Frame) (slot : ℕ) → value_register frame slot ≡ None → is_kept frame slot ≡ true
 memory_kept frame slot none = home_kept (homing.home_of frame.homes slot) none
 
@@ -49,14 +49,14 @@ both_of homes.Memory k is kept = absurd (let e : None ≡ Some k = is in cc)
 both_of (homes.Both j) k is kept = let e : Some j ≡ Some k = is in cc
 both_of (homes.Register j) k is kept = absurd (let e : false ≡ true = kept in cc)
 
--- one of so many slots
+-- The slot is one of `count` slots from `first` on.
 pub among : (first count slot : ℕ) → first ≤ slot → slot < first + count → is_among first count slot ≡ true
 among first count slot from below = and_from _ _ (le-leb first slot from) (lt-ltb slot (first + count) below)
 
 pub not_among : (first count slot : ℕ) → is_among first count slot ≡ false → slot < first ⊎ first + count ≤ slot
 not_among first count slot other = elim (and_cases (nat_le first slot) (nat_lt slot (first + count)) other) [
   | inl before ↦ inl (leb-false first slot before)
-  | inr behind ↦ inr (ltb-false slot (first + count) behind)
+  | inr following ↦ inr (ltb-false slot (first + count) following)
 ]
 
 pub outside_among : (first count slot : ℕ) → slot < first ⊎ first + count ≤ slot → is_among first count slot ≡ false
@@ -71,9 +71,9 @@ outside_among first count slot outside = go (is_among first count slot) refl
           | inr above ↦ absurd (omega (arith, above, ltb-true slot (first + count) parts.1))
         ]
 
--- ---- what is live
+-- ---- live slots
 
--- registers have the words of their slots, where those are live
+-- Registers hold the words of their slots, if those are live.
 abbrev pub Caches : Program → List Frame → (function index : ℕ) → (r slots : Words) → Type 0
 Caches program frames function index r slots =
     (slot k : ℕ) → value_register (frame_at frames function) slot ≡ Some k → IsLiveAt program (routine_at program function) slot index → r k ≡ slots slot
@@ -85,12 +85,12 @@ module _ (program : Program) (frames : List Frame) (function : ℕ) (right : Are
   abbrev IsAt : (index : ℕ) → Instruction → Type 0
   IsAt index i = instruction_at program (record { function = function; index = index }) ≡ Some i
 
-  -- what is live behind an instruction that does not write it is live before it
+  -- A slot that is live after an instruction that does not write it is live before it.
   pub live_earlier : (index next slot : ℕ) (i : Instruction) → IsAt index i → leads i index next ≡ true → writes program i slot ≡ false
       → IsLiveAt program (routine_at program function) slot next → IsLiveAt program (routine_at program function) slot index
   live_earlier index next slot i at led unwritten (steps, wanted) = (suc steps, (i, at, unwritten, next, led, wanted))
 
-  -- behind an instruction that changes no slot which has a register
+  -- `Caches` is kept by an instruction that changes no slot with a register.
   pub caches_past : (index next : ℕ) (r r' slots slots' : Words) (i : Instruction) → IsAt index i → leads i index next ≡ true
       → ((slot k : ℕ) → value_register (frame_at frames function) slot ≡ Some k → writes program i slot ≡ false)
       → ((slot k : ℕ) → value_register (frame_at frames function) slot ≡ Some k → slots' slot ≡ slots slot)
@@ -99,7 +99,7 @@ module _ (program : Program) (frames : List Frame) (function : ℕ) (right : Are
       values k (right.low slot k has) (right.high slot k has)
       ∙ (caches slot k has (live_earlier index next slot i at led (unwritten slot k has) wanted) ∙ sym (same slot k has))
 
-  -- behind one that gives a slot a word
+  -- `Caches` is kept by an instruction that writes a slot.
   pub made_caches : (index destination word : ℕ) (r r' slots : Words) (i : Instruction) → IsAt index i
       → ((slot : ℕ) → slot ≢ destination → writes program i slot ≡ false) → writes program i destination ≡ true → leads i index (index + 1) ≡ true
       → ((k : ℕ) → value_register (frame_at frames function) destination ≡ Some k → r' k ≡ word)
@@ -113,7 +113,7 @@ module _ (program : Program) (frames : List Frame) (function : ℕ) (right : Are
         ∙ (caches slot k has (live_earlier index (index + 1) slot i at led (unwritten slot other) wanted) ∙ sym (put-other slots destination slot word other))
   ]
 
-  -- behind one that moves several words, one by one
+  -- `Caches` is kept by a move of several words, one by one.
   pub moved_caches : (index destination source count : ℕ) (r r' slots : Words) → IsAt index (plain.MoveWords destination source count)
       → ((i k : ℕ) → i < count → value_register (frame_at frames function) (destination + i) ≡ Some k
       → ((j : ℕ) → j < count → value_register (frame_at frames function) (destination + j) ≡ Some k → i ≡ j) → r' k ≡ slots (source + i))
@@ -121,7 +121,7 @@ module _ (program : Program) (frames : List Frame) (function : ℕ) (right : Are
       → Caches program frames function index r slots → Caches program frames function (index + 1) r' (copied slots source count slots destination)
   moved_caches index destination source count r r' slots at given others caches slot k has wanted = go (is_among destination count slot) refl
     where
-      -- of the slots that get words none but this one has its register
+      -- No other written slot has the register of this one.
       only : (j : ℕ) → j < count → value_register (frame_at frames function) (destination + j) ≡ Some k → slot ≡ destination + j
       only j below there =
           right.made index (index + 1) slot (destination + j) k (plain.MoveWords destination source count) at
@@ -145,7 +145,7 @@ module _ (program : Program) (frames : List Frame) (function : ℕ) (right : Are
             | inr above ↦ copied-above slots slots source count destination slot above
           ]))
 
-  -- a slot with a register is none that the instruction bars
+  -- A slot with a register is not excluded by the instruction.
   pub unbarred : (index slot k : ℕ) (i : Instruction) → IsAt index i → value_register (frame_at frames function) slot ≡ Some k → bars i slot ≡ false
   unbarred index slot k i at has = go (bars i slot) refl
     where
@@ -156,7 +156,7 @@ module _ (program : Program) (frames : List Frame) (function : ℕ) (right : Are
   pub barred_kept : (index slot : ℕ) (i : Instruction) → IsAt index i → bars i slot ≡ true → is_kept (frame_at frames function) slot ≡ true
   barred_kept index slot i at is = memory_kept (frame_at frames function) slot (right.barred index slot i at is)
 
--- ---- registers that are read again
+-- ---- reloaded registers
 
 pub length_reload : (frame : Frame) (slot : ℕ) (hs : List Home) → length (reloads_from frame slot hs) ≡ sum_by homing.both_count hs
 length_reload frame slot [] = refl
@@ -180,7 +180,7 @@ module _ (globals stack : ℕ) (frame : Frame) (base : ℕ) (w : Contents) where
   abbrev word_there : ℕ → ℕ
   word_there slot = w.words (memory_address base (slot_offset frame slot))
 
-  -- what they leave, from registers on
+  -- The effect of the reloads on registers.
   pub record AreReloaded (slot : ℕ) (hs : List Home) (q : Words) : Type 0 where
     pub safe : AreSafe globals stack (reloads_from frame slot hs) q w
     pub memory : after_w (reloads_from frame slot hs) q w ≡ w
@@ -190,15 +190,15 @@ module _ (globals stack : ℕ) (frame : Frame) (base : ℕ) (w : Contents) where
   abbrev pub AreCells : (slot : ℕ) → List Home → Type 0
   AreCells slot hs = (j : ℕ) → j < length hs → IsCell globals stack (memory_address base (slot_offset frame (slot + j)))
 
-  cells_behind : (slot : ℕ) (h : Home) (hs : List Home) → AreCells slot (h ∷ hs) → AreCells (suc slot) hs
-  cells_behind slot h hs cells j below =
+  cells_after : (slot : ℕ) (h : Home) (hs : List Home) → AreCells slot (h ∷ hs) → AreCells (suc slot) hs
+  cells_after slot h hs cells j below =
       subst (λ (n : ℕ). IsCell globals stack (memory_address base (slot_offset frame n))) (let e : slot + suc j ≡ suc slot + j = omega arith in e) (cells (suc j) (omega (arith, below)))
 
-  there_behind : (slot j : ℕ) → w.words (memory_address base (slot_offset frame (suc slot + j))) ≡ w.words (memory_address base (slot_offset frame (slot + suc j)))
-  there_behind slot j = ap (λ (n : ℕ). w.words (memory_address base (slot_offset frame n))) (let e : suc slot + j ≡ slot + suc j = omega arith in e)
+  there_after : (slot j : ℕ) → w.words (memory_address base (slot_offset frame (suc slot + j))) ≡ w.words (memory_address base (slot_offset frame (slot + suc j)))
+  there_after slot j = ap (λ (n : ℕ). w.words (memory_address base (slot_offset frame n))) (let e : suc slot + j ≡ slot + suc j = omega arith in e)
 
-  alone_behind : (h : Home) (hs : List Home) → AreAlone (h ∷ hs) → AreAlone hs
-  alone_behind h hs alone a c k here there = let e = alone (suc a) (suc c) k here there in omega (arith, e)
+  alone_after : (h : Home) (hs : List Home) → AreAlone (h ∷ hs) → AreAlone hs
+  alone_after h hs alone a c k here there = let e = alone (suc a) (suc c) k here there in omega (arith, e)
 
   pub are_reloaded : (slot : ℕ) (hs : List Home) (q : Words) → q FRAME ≡ base → AreValues hs → AreAlone hs → AreCells slot hs → AreReloaded slot hs q
   are_reloaded slot [] q is values alone cells = record {
@@ -208,7 +208,7 @@ module _ (globals stack : ℕ) (frame : Frame) (base : ℕ) (w : Contents) where
     result = λ j k both. absurd (let e : homes.Memory ≡ homes.Both k = both in cc);
   }
   are_reloaded slot (homes.Memory ∷ hs) q is values alone cells =
-      let rest = are_reloaded (suc slot) hs q is (λ a k both. values (suc a) k both) (alone_behind homes.Memory hs alone) (cells_behind slot homes.Memory hs cells) in
+      let rest = are_reloaded (suc slot) hs q is (λ a k both. values (suc a) k both) (alone_after homes.Memory hs alone) (cells_after slot homes.Memory hs cells) in
       record {
         safe = rest.safe;
         memory = rest.memory;
@@ -218,9 +218,9 @@ module _ (globals stack : ℕ) (frame : Frame) (base : ℕ) (w : Contents) where
     where
       in_rest : AreReloaded (suc slot) hs q → (j k : ℕ) → homing.home_of (homes.Memory ∷ hs) j ≡ homes.Both k → after_r (reloads_from frame (suc slot) hs) q w k ≡ w.words (memory_address base (slot_offset frame (slot + j)))
       in_rest rest zero k both = absurd (let e : homes.Memory ≡ homes.Both k = both in cc)
-      in_rest rest (suc j) k both = rest.result j k both ∙ there_behind slot j
+      in_rest rest (suc j) k both = rest.result j k both ∙ there_after slot j
   are_reloaded slot (homes.Register own ∷ hs) q is values alone cells =
-      let rest = are_reloaded (suc slot) hs q is (λ a k both. values (suc a) k both) (alone_behind (homes.Register own) hs alone) (cells_behind slot (homes.Register own) hs cells) in
+      let rest = are_reloaded (suc slot) hs q is (λ a k both. values (suc a) k both) (alone_after (homes.Register own) hs alone) (cells_after slot (homes.Register own) hs cells) in
       record {
         safe = rest.safe;
         memory = rest.memory;
@@ -230,13 +230,13 @@ module _ (globals stack : ℕ) (frame : Frame) (base : ℕ) (w : Contents) where
     where
       in_rest : AreReloaded (suc slot) hs q → (j k : ℕ) → homing.home_of (homes.Register own ∷ hs) j ≡ homes.Both k → after_r (reloads_from frame (suc slot) hs) q w k ≡ w.words (memory_address base (slot_offset frame (slot + j)))
       in_rest rest zero k both = absurd (let e : homes.Register own ≡ homes.Both k = both in cc)
-      in_rest rest (suc j) k both = rest.result j k both ∙ there_behind slot j
+      in_rest rest (suc j) k both = rest.result j k both ∙ there_after slot j
   are_reloaded slot (homes.Both own ∷ hs) q is values alone cells =
       let q1 : Words = put q (own % 32) (w.words (memory_address (q FRAME) (slot_offset frame slot))) in
       let high = (values 0 own refl).1 in
       let whole : own % 32 ≡ own = omega (arith, high) in
       let base_is : q1 FRAME ≡ base = put-other q (own % 32) FRAME _ (λ e. absurd (omega (arith, e, high))) ∙ is in
-      let rest = are_reloaded (suc slot) hs q1 base_is (λ a k both. values (suc a) k both) (alone_behind (homes.Both own) hs alone) (cells_behind slot (homes.Both own) hs cells) in
+      let rest = are_reloaded (suc slot) hs q1 base_is (λ a k both. values (suc a) k both) (alone_after (homes.Both own) hs alone) (cells_after slot (homes.Both own) hs cells) in
       record {
         safe = (
           (
@@ -261,14 +261,14 @@ module _ (globals stack : ℕ) (frame : Frame) (base : ℕ) (w : Contents) where
           ∙ (put-same q (own % 32) (w.words (memory_address (q FRAME) (slot_offset frame slot)))
           ∙ (ap (λ (b : ℕ). w.words (memory_address b (slot_offset frame slot))) is
           ∙ ap (λ (n : ℕ). w.words (memory_address base (slot_offset frame n))) (let e : slot ≡ slot + 0 = omega arith in e))))
-      in_rest rest (suc j) k both = rest.result j k both ∙ there_behind slot j
+      in_rest rest (suc j) k both = rest.result j k both ∙ there_after slot j
 
--- where what is live is in memory too, or in a register alone, registers have it once they are read again; no other register is written
+-- If every live slot is in memory or in a register only, registers hold all live slots after the reloads. No other register is written.
 pub record Reloaded (globals stack : ℕ) (program : Program) (frames : List Frame) (function index : ℕ) (q : Words) (w : Contents) (slots : Words) : Type 0 where
   pub safe : AreSafe globals stack (reloads (frame_at frames function)) q w
   pub memory : after_w (reloads (frame_at frames function)) q w ≡ w
   pub others : (n : ℕ) → n < 6 ⊎ 24 ≤ n → after_r (reloads (frame_at frames function)) q w n ≡ q n
-  -- nor one that no slot has
+  -- A register of no slot is unchanged by the reloads.
   pub aside : (n : ℕ) → ((slot : ℕ) → value_register (frame_at frames function) slot ≡ Some n → ⊥) → after_r (reloads (frame_at frames function)) q w n ≡ q n
   pub caches : Caches program frames function index (after_r (reloads (frame_at frames function)) q w) slots
 
@@ -298,7 +298,7 @@ reloaded globals stack program frames function right index q w slots cells holds
       ];
     }
   where
-    -- a register that stands alone is none that is read again
+    -- A register that is a slot's only home is not reloaded.
     no_both : (slot k : ℕ) → value_register (frame_at frames function) slot ≡ Some k → is_kept (frame_at frames function) slot ≡ false
         → (j : ℕ) → homing.home_of (frame_at frames function).homes j ≡ homes.Both k → ⊥
     no_both slot k has unkept j both =

@@ -1,9 +1,9 @@
--- What the labelled machine keeps of the calls that wait: the registers that calls preserve, the records of handlers, and where frames and their slots lie.
+-- The state of the labelled machine for the waiting calls: callee-saved registers, handler records, and the addresses of frames and slots.
 use Rattle.std.proofs.Common.{◌≡◌, ℕ, zero, suc, ◌+◌, ◌*◌, ◌%◌, ◌<◌, ◌≤◌, Bool, true, false, List, [], ◌∷◌, length, Some, None, slice_get, refl, sym, ap, subst, ◌∙◌, arith, inl, inr}
 use Rattle.std.specs.Prelude.{nat_lt, if◌then◌else◌}
 use Rattle.cyc_plain.specs.declared.limits.TheConstants.{MOST_FRAME_WORDS}
-use Rattle.cyc_machine.specs.declared.constants.TheConstants.{RETURN_ADDRESS}
-use Rattle.cyc_machine.specs.State.{stack_end}
+use Rattle.cyc_machine_model.specs.declared.constants.TheConstants.{RETURN_ADDRESS}
+use Rattle.cyc_machine_model.specs.State.{stack_end}
 use Rattle.cyc_store.specs.State.{saved}
 use Rattle.cyc_plain.specs.declared.instruction.Instruction.{Instruction}
 use Rattle.cyc_plain.specs.declared.instruction.Instruction.TheVariants as plain
@@ -21,36 +21,36 @@ use Rattle.cyc_select.specs.inside.Slots.{value_register, is_kept}
 use Rattle.cyc_select.specs.inside.Counts.{instruction_line, body_count}
 use Rattle.cyc_select.proofs.effects.Views.{Contents}
 
--- how many bytes each frame has
+-- The size of a frame in bytes.
 abbrev pub frame_size : ℕ
 frame_size = 4 * MOST_FRAME_WORDS
 
--- the slots of a function's call whose frame lies at this address, as far as they live in memory
+-- The frame of a function's call at this address holds those slots whose home includes memory.
 abbrev pub Holds : Program → List Frame → (function base : ℕ) → (w : Contents) (slots : Words) → Type 0
 Holds program frames function base w slots =
     (slot : ℕ) → slot < (routine_at program function).slots → is_kept (frame_at frames function) slot ≡ true
     → w.words (base + slot_offset (frame_at frames function) slot) ≡ slots slot
 
--- behind a call
-abbrev pub behind_line : Program → List Frame → (function index callee arguments count result : ℕ) → ℕ
-behind_line program frames function index callee arguments count result =
+-- The line after a call.
+abbrev pub after_line : Program → List Frame → (function index callee arguments count result : ℕ) → ℕ
+after_line program frames function index callee arguments count result =
     instruction_line program frames function index + body_count program frames function (plain.Call callee arguments count result)
 
--- ---- registers that calls preserve
+-- ---- callee-saved registers
 
 abbrev pub preserved_of : Words → Words
 preserved_of r j = r (17 + j)
 
--- What is in these registers when a call returns whose frame lies at this address and has so many of them saved, from this word on,
--- where its own calls would leave these words in them.
+-- The callee-saved registers when a call returns. The registers saved by the call are restored from its frame, and the other callee-saved
+-- ones are as the call's own calls leave them.
 abbrev pub Left : (first saved base : ℕ) (inner : Words) (w : Contents) → Words
 Left first saved base inner w j = if nat_lt j saved then w.words (base + 4 * (first + j)) else inner j
 
--- what a function leaves that has saved all that it saves
+-- The callee-saved registers left by a function that has saved all that it uses.
 abbrev pub LeftBy : Frame → (base : ℕ) (inner : Words) (w : Contents) → Words
 LeftBy frame base inner w = Left frame.first_saved frame.saved base inner w
 
--- A caller finds the words of its slots in them, where those are live behind the call and the call does not return them.
+-- A caller finds its slots in the callee-saved registers, if they are live after the call and not among its results.
 abbrev pub Finds : Program → List Frame → (function index callee arguments count result : ℕ) → (left slots : Words) → Type 0
 Finds program frames function index callee arguments count result left slots =
     (slot j : ℕ) → j < 7 → value_register (frame_at frames function) slot ≡ Some (17 + j)
@@ -63,7 +63,7 @@ left_past first saved base inner w j past = cond-false (nat_lt j saved) (w.words
 pub left_inside : (first saved base : ℕ) (inner : Words) (w : Contents) (j : ℕ) → j < saved → Left first saved base inner w j ≡ w.words (base + 4 * (first + j))
 left_inside first saved base inner w j below = cond-true (nat_lt j saved) (w.words (base + 4 * (first + j))) (inner j) (lt-ltb j saved below)
 
--- by the same words, and the same registers where none is saved
+-- The registers left are unchanged if the saved words and the unsaved registers are.
 pub left_same : (first saved base : ℕ) (inner inner' : Words) (w w' : Contents) → ((j : ℕ) → saved ≤ j → j < 7 → inner' j ≡ inner j)
     → ((j : ℕ) → j < saved → j < 7 → w'.words (base + 4 * (first + j)) ≡ w.words (base + 4 * (first + j))) → (j : ℕ) → j < 7 → Left first saved base inner' w' j ≡ Left first saved base inner w j
 left_same first saved base inner inner' w w' same words j high = elim (cases_lt j saved) [
@@ -71,10 +71,10 @@ left_same first saved base inner inner' w w' same words j high = elim (cases_lt 
   | inr past ↦ left_past first saved base inner' w' j past ∙ (same j past high ∙ sym (left_past first saved base inner w j past))
 ]
 
--- ---- the calls that wait
+-- ---- the waiting calls
 
--- Above the call of a function whose frame lies at this address, which returns to this address and leaves these words in the
--- registers that calls preserve.
+-- The chain of waiting calls above a call whose frame is at this address, which returns to this address and leaves these words in the
+-- callee-saved registers.
 abbrev pub Chain : Program → List Frame → (addresses : ℕ → ℕ) → (w : Contents) → (base back : ℕ) → (left : Words) → (function : ℕ) → List states.Frame → Type 0
 Chain program frames addresses w base back left function [] =
     (base + frame_size ≡ stack_end) × (back ≡ 0) × (function ≡ program.main)
@@ -82,14 +82,14 @@ Chain program frames addresses w base back left function (f ∷ waiting) =
     (arguments count index : ℕ) × (f.caller.function < length program.functions)
     × (instruction_at program (record { function = f.caller.function; index = index }) ≡ Some (plain.Call function arguments count f.result))
     × (f.caller.next ≡ index + 1)
-    × (back ≡ addresses (behind_line program frames f.caller.function index function arguments count f.result))
+    × (back ≡ addresses (after_line program frames f.caller.function index function arguments count f.result))
     × Holds program frames f.caller.function (base + frame_size) w f.caller.slots
     × Finds program frames f.caller.function index function arguments count f.result left f.caller.slots
     × Chain program frames addresses w (base + frame_size)
     (w.words (base + frame_size + 4 * (frame_at frames f.caller.function).return_address))
     (LeftBy (frame_at frames f.caller.function) (base + frame_size) left w) f.caller.function waiting
 
--- the slots of a function end where its frame does, or before
+-- The slots of a function lie within its frame.
 pub slots_fit : (r : Routine) (frame : Frame) → IsFrame r frame → frame.first_slot + r.slots ≤ MOST_FRAME_WORDS
 slots_fit r frame is = go r.slots is.inside
   where
@@ -98,7 +98,7 @@ slots_fit r frame is = go r.slots is.inside
     go (suc n) inside = omega (arith, inside n (omega arith), is.small)
 
 module _ (program : Program) (frames : List Frame) (fit : AreFrames program frames) (addresses : ℕ → ℕ) where
-  -- memory below does not matter, and what is left is seen register by register
+  -- The chain does not depend on memory below it, and depends on the left words register by register.
   pub chain_kept : (w w' : Contents) (base back : ℕ) (left left' : Words) (function : ℕ) (waiting : List states.Frame) → ((a : ℕ) → base + frame_size ≤ a → w'.words a ≡ w.words a)
       → ((j : ℕ) → j < 7 → left' j ≡ left j) → Chain program frames addresses w base back left function waiting → Chain program frames addresses w' base back left' function waiting
   chain_kept w w' base back left left' function [] same alike chain = chain
@@ -120,7 +120,7 @@ module _ (program : Program) (frames : List Frame) (fit : AreFrames program fram
             (left_same its.first_saved its.saved above left left' w w' (λ j past high. alike j high) (λ j below high. same (above + 4 * (its.first_saved + j)) (omega arith))) chain),
       )
 
-  -- where frames lie
+  -- The address of the frame of a call at this depth.
   pub record Lies (base depth : ℕ) : Type 0 where
     pub below_end : base + frame_size ≤ stack_end
     pub above_low : base + frame_size * depth ≡ stack_end
@@ -134,9 +134,9 @@ module _ (program : Program) (frames : List Frame) (fit : AreFrames program fram
       let lies = chain_lies w above (w.words (above + 4 * (frame_at frames f.caller.function).return_address)) (LeftBy (frame_at frames f.caller.function) above left w) f.caller.function waiting chain in
       record { below_end = omega (arith, lies.below_end); above_low = omega (arith, lies.above_low); aligned = omega (arith, lies.aligned) }
 
--- ---- handlers
+-- ---- handler records
 
--- The record of a handler, by its words: the handler before it, its frame, and the line that an exception comes to.
+-- The record of a handler, word by word: the previous handler, the frame, and the line at which an exception arrives.
 pub record IsRecord (program : Program) (frames : List Frame) (addresses : ℕ → ℕ) (newest base function index first : ℕ) (contents : Words) : Type 0 where
   pub at : newest ≡ base + slot_offset (frame_at frames function) first
   pub handler : ℕ
@@ -144,7 +144,7 @@ pub record IsRecord (program : Program) (frames : List Frame) (addresses : ℕ �
   pub frame : contents 1 ≡ base
   pub line : contents 2 ≡ addresses (instruction_line program frames function index + 3)
 
--- The newest handler of a call has this address, and each leads to the one before it, the last one to that of the caller.
+-- The handler records of a call form a list from the newest to the one of its caller.
 abbrev pub AreRecords : Program → List Frame → (addresses : ℕ → ℕ) → (base function : ℕ) → (rest : ℕ → Type 0) → (newest : ℕ) → List states.Handler → Type 0
 AreRecords program frames addresses base function rest newest [] = rest newest
 AreRecords program frames addresses base function rest newest (states.Caught ∷ handlers) = ⊥
@@ -165,7 +165,7 @@ IsNewest program frames addresses newest base function handlers waiting =
 
 -- ---- addresses of slots
 
--- the slots of a call have their words in its frame, and so have those of the calls that wait
+-- The slots of a call have their words in its frame, and so have those of the waiting calls.
 abbrev pub AreBased : List Frame → (base function place : ℕ) → List states.Frame → Type 0
 AreBased frames base function place [] = place ≡ base + 4 * (frame_at frames function).first_slot
 AreBased frames base function place (f ∷ waiting) =
@@ -176,12 +176,12 @@ pub based_here : (frames : List Frame) (base function place : ℕ) (waiting : Li
 based_here frames base function place [] based = based
 based_here frames base function place (f ∷ waiting) (here, based) = here
 
--- the way back of a call is in its frame, or in the register of return addresses
+-- The return address of a call is in its frame or in the return address register.
 abbrev pub IsBack : (in_frame : Bool) (frame : Frame) (r : Words) (w : Contents) (base back : ℕ) → Type 0
 IsBack true frame r w base back = w.words (base + 4 * frame.return_address) ≡ back
 IsBack false frame r w base back = r RETURN_ADDRESS ≡ back
 
--- the same in other memory, and by other registers
+-- The return address is unchanged in other memory and with other registers.
 pub back_in : (in_frame : Bool) (frame : Frame) (r : Words) (w w' : Contents) (base back : ℕ) → w'.words (base + 4 * frame.return_address) ≡ w.words (base + 4 * frame.return_address)
     → IsBack in_frame frame r w base back → IsBack in_frame frame r w' base back
 back_in true frame r w w' base back same is = same ∙ is
@@ -192,13 +192,13 @@ pub back_by : (in_frame : Bool) (frame : Frame) (r r' : Words) (w : Contents) (b
 back_by true frame r r' w base back same is = is
 back_by false frame r r' w base back same is = same refl ∙ is
 
--- code that has such an instruction loses the register
+-- Code that contains a call or opens a handler overwrites the return address register.
 loses_at : (code : List Instruction) (index : ℕ) (i : Instruction) → slice_get code index ≡ Some i → loses i ≡ true → loses_any code ≡ true
 loses_at [] index i at is = absurd (let e : None ≡ Some i = at in cc)
 loses_at (x ∷ code) zero i at is = let same : x ≡ i = (let e : Some x ≡ Some i = at in cc) in or_left (loses x) (loses_any code) (ap loses same ∙ is)
 loses_at (x ∷ code) (suc index) i at is = or_right (loses x) (loses_any code) (loses_at code index i at is)
 
--- code with such an instruction opens handlers
+-- Code with a `Try` opens handlers.
 pub opens_at : (code : List Instruction) (index first handler : ℕ) → slice_get code index ≡ Some (plain.Try first handler) → opens_any code ≡ true
 opens_at [] index first handler at = absurd (let e : None ≡ Some (plain.Try first handler) = at in cc)
 opens_at (x ∷ code) zero first handler at =
@@ -206,7 +206,7 @@ opens_at (x ∷ code) zero first handler at =
     or_left (opens x) (opens_any code) (ap opens same)
 opens_at (x ∷ code) (suc index) first handler at = or_right (opens x) (opens_any code) (opens_at code index first handler at)
 
--- and so its function keeps the way back in its frame
+-- A function that contains a call or opens a handler saves the return address in its frame.
 pub saves_at : (program : Program) (frames : List Frame) → AreFrames program frames → (function index : ℕ) (i : Instruction) → function < length program.functions
     → instruction_at program (record { function = function; index = index }) ≡ Some i → loses i ≡ true → (frame_at frames function).saves ≡ true
 saves_at program frames fit function index i known at is = (fit.each function known).saved ∙ loses_at (routine_at program function).code index i at is

@@ -1,4 +1,4 @@
--- Each step of the plain machine is matched by steps of the labelled machine through the place's own lines.
+-- The labelled machine matches each step of the plain machine by the lines of the current place.
 use Rattle.std.proofs.Common.{◌≡◌, ◌≢◌, ℕ, suc, ◌+◌, ◌-◌, ◌*◌, ◌^◌, ◌<◌, ◌≤◌, Bool, true, false, not, List, [], ◌∷◌, ◌++◌, length, Option, Some, None, slice_get, refl, sym, ap, subst, ◌∙◌, arith, inl, inr}
 use Rattle.std.specs.Prelude.{if◌then◌else◌}
 use Rattle.std.proofs.lemmas.Bool.{cases_lt, eq-eqb, ne_eqb, false≢true}
@@ -9,7 +9,7 @@ use Rattle.cyc_isa.specs.declared.instr.Instr.{Instr}
 use Rattle.cyc_isa.specs.declared.instr.MoveFromOp.{MoveFromOp}
 use Rattle.cyc_isa.specs.declared.instr.MoveFromOp.TheVariants.{High, Low}
 use Rattle.cyc_isa.specs.declared.instr.MultiplyDivideOp.TheVariants.{Divide, Multiply}
-use Rattle.cyc_machine.specs.State.{globals_length, words_per_call}
+use Rattle.cyc_machine_model.specs.State.{globals_length, words_per_call}
 use Rattle.cyc_plain.specs.declared.instruction.Instruction.{Instruction}
 use Rattle.cyc_plain.specs.declared.instruction.Instruction.TheVariants as plain
 use Rattle.cyc_plain.specs.declared.instruction.Comparison.{Comparison}
@@ -29,7 +29,7 @@ use Rattle.cyc_words.proofs.SeenLemmas.{seen_same}
 use Rattle.cyc_words.proofs.Matching.{way_before, way_after}
 use Rattle.cyc_words.proofs.Members.{All_at}
 use Rattle.cyc_words.proofs.Items.{below_from_slice_get}
-use Rattle.cyc_plain.proofs.Placed.{routine_in, goes_behind}
+use Rattle.cyc_plain.proofs.Placed.{routine_in, goes_after}
 use Rattle.cyc_plain.proofs.RunLaws.{lawful, limited-within, limited_either, zeros, zeros_allowed, zeros_at, stuck_within}
 use Rattle.cyc_plain.proofs.Steps.{function_known}
 use Rattle.cyc_frame.specs.inside.Layout.{AreFrames, frame_at}
@@ -44,11 +44,11 @@ use Rattle.cyc_select.specs.inside.Slots.{coming, saving_code}
 use Rattle.cyc_select.specs.inside.Operands.{reload_count, divide_count, plan_code, plan_count, is_tested, operator_count}
 use Rattle.cyc_select.specs.inside.Passing.{spills, spills_count, copies_count}
 use Rattle.cyc_select.specs.inside.Hoisting.{is_idle}
-use Rattle.cyc_select.specs.inside.Counts.{body_count, behind_count, place_count, function_line, count_of, instruction_line}
-use Rattle.cyc_select.specs.inside.Selection.{recorded_code, caught_code, opened_code, body, behind, place_lines, ordinary, calling_code, divide_code, part_of}
+use Rattle.cyc_select.specs.inside.Counts.{body_count, after_count, place_count, function_line, count_of, instruction_line}
+use Rattle.cyc_select.specs.inside.Selection.{recorded_code, caught_code, opened_code, body, following, place_lines, ordinary, calling_code, divide_code, part_of}
 use Rattle.cyc_select.proofs.emission.Counts.{length_spills}
 use Rattle.cyc_select.proofs.layout.Lines.{line_next, line_first}
-use Rattle.cyc_select.proofs.layout.OwnLines.{behind_of, previous_count, body_of, own_of, previous_fits}
+use Rattle.cyc_select.proofs.layout.OwnLines.{after_of, previous_count, body_of, own_of, previous_fits}
 use Rattle.cyc_select.specs.inside.Numbers.{is_plain_divisor}
 use Rattle.cyc_select.specs.inside.Plans.{binary_plan}
 use Rattle.cyc_select.proofs.values.Halves.{divisor_is}
@@ -58,7 +58,7 @@ use Rattle.cyc_select.proofs.relation.Values.{Caches}
 use Rattle.cyc_select.proofs.effects.Views.{Contents}
 use Rattle.cyc_select.proofs.effects.Sequences.{Stands, stands_front, stands_back, stands_until, Rises, rising_distinct, rising_inside, comes_map}
 use Rattle.cyc_select.proofs.effects.Walks.{Quiet, Walk, walk_end, walk_few, walk_to, walk_rest}
-use Rattle.cyc_select.proofs.relation.Waiting.{IsNewest, behind_line}
+use Rattle.cyc_select.proofs.relation.Waiting.{IsNewest, after_line}
 use Rattle.cyc_select.proofs.relation.Standing.{stage_of, Standing}
 use Rattle.cyc_select.proofs.relation.Matches.{After, At, Ready, Begun, Matches, Reached, Passed, weight, is_straight, HasMore}
 use Rattle.cyc_select.proofs.steps.Simple.{move_goes, unary_goes, binary_goes}
@@ -75,36 +75,36 @@ use Rattle.cyc_select.proofs.steps.Entries.{entered_goes}
 use Rattle.cyc_select.proofs.steps.Calls.{length_ordinary, call_last}
 use Rattle.cyc_select.proofs.steps.Enters.{enter_goes}
 use Rattle.cyc_select.proofs.steps.Passing.{call_goes}
-use Rattle.cyc_select.proofs.steps.Behind.{behind_goes}
+use Rattle.cyc_select.proofs.steps.Trailing.{after_goes}
 use Rattle.cyc_select.proofs.steps.Leaving.{return_goes}
 use Rattle.cyc_select.proofs.layout.Inside.{body_stands, place_inside}
 
 module _ (program : Program) (well : IsWellFormed program) (words : HasWords program) (frames : List Frame) (fit : AreFrames program frames) (code : Labelled) (formed : IsFormed code) (addresses : ℕ → ℕ) (lie : AreAddresses code addresses)
     (pages calls : ℕ) (few : calls ≤ 4096)
     (stand : (function index : ℕ) (i : Instruction) → instruction_at program (record { function = function; index = index }) ≡ Some i
-    → Stands code (instruction_line program frames function index) (place_lines program frames function index (instruction_line program frames function index) i ++ behind program frames function i))
+    → Stands code (instruction_line program frames function index) (place_lines program frames function index (instruction_line program frames function index) i ++ following program frames function i))
     (stand_saving : (function : ℕ) → function < length program.functions → Stands code (function_line program frames function) (ordinary (saving_code (frame_at frames function))))
     (long : (function line : ℕ) (i : Instruction) → length (body program frames function line i) ≡ body_count program frames function i) where
-  -- the lines behind a call stand where it returns to
-  behind_stands : (function index callee arguments count result : ℕ) → instruction_at program (record { function = function; index = index }) ≡ Some (plain.Call callee arguments count result)
-      → Stands code (behind_line program frames function index callee arguments count result) (behind program frames function (plain.Call callee arguments count result))
-  behind_stands function index callee arguments count result at =
+  -- The lines after a call stand at its return address.
+  following_stands : (function index callee arguments count result : ℕ) → instruction_at program (record { function = function; index = index }) ≡ Some (plain.Call callee arguments count result)
+      → Stands code (after_line program frames function index callee arguments count result) (following program frames function (plain.Call callee arguments count result))
+  following_stands function index callee arguments count result at =
       let line : ℕ = instruction_line program frames function index in
       let i : Instruction = plain.Call callee arguments count result in
-      subst (λ (n : ℕ). Stands code (instruction_line program frames function index + n) (behind program frames function (plain.Call callee arguments count result))) (long function line i)
-      (stands_back code line (body program frames function line i) (behind program frames function i) (stand function index i at))
+      subst (λ (n : ℕ). Stands code (instruction_line program frames function index + n) (following program frames function (plain.Call callee arguments count result))) (long function line i)
+      (stands_back code line (body program frames function line i) (following program frames function i) (stand function index i at))
 
-  -- behind a call stand its lines, or those of the next instruction
-  behind_inside : (function index callee arguments count result : ℕ) → instruction_at program (record { function = function; index = index }) ≡ Some (plain.Call callee arguments count result)
-      → behind_line program frames function index callee arguments count result < length code.lines
-  behind_inside function index callee arguments count result at =
+  -- A call is followed by its lines, or by those of the next instruction.
+  after_inside : (function index callee arguments count result : ℕ) → instruction_at program (record { function = function; index = index }) ≡ Some (plain.Call callee arguments count result)
+      → after_line program frames function index callee arguments count result < length code.lines
+  after_inside function index callee arguments count result at =
       let i : Instruction = plain.Call callee arguments count result in
       let known = function_known program (record { function = function; index = index }) i at in
-      let further = goes_behind program (routine_at program function) index i (routine_in program function well known) at refl in
+      let further = goes_after program (routine_at program function) index i (routine_in program function well known) at refl in
       omega (arith, line_next program frames function index i at, place_inside program well frames fit code stand long function (index + 1) further)
 
   returns_to : (function index callee arguments count result : ℕ) → instruction_at program (record { function = function; index = index }) ≡ Some (plain.Call callee arguments count result)
-      → IsReturnPoint code (behind_line program frames function index callee arguments count result)
+      → IsReturnPoint code (after_line program frames function index callee arguments count result)
   returns_to function index callee arguments count result at =
       let line : ℕ = instruction_line program frames function index in
       let spilled : ℕ = line + spills_count (frame_at frames function) (coming (frame_at frames callee)) arguments 0 count in
@@ -112,14 +112,14 @@ module _ (program : Program) (well : IsWellFormed program) (words : HasWords pro
       let before : List Instr = spills (frame_at frames function) (coming (frame_at frames callee)) arguments 0 count in
       let long_spills : length (ordinary before) ≡ spills_count (frame_at frames function) (coming (frame_at frames callee)) arguments 0 count = length_ordinary before ∙ length_spills (frame_at frames function) (coming (frame_at frames callee)) arguments 0 count in
       record {
-        inside = behind_inside function index callee arguments count result at;
+        inside = after_inside function index callee arguments count result at;
         call = spilled + 4 + copies_count (frame_at frames function) (coming (frame_at frames callee)) arguments 0 count;
         label = function_line program frames callee;
-        behind = omega arith;
+        following = omega arith;
         calls = call_last code (frame_at frames function) (coming (frame_at frames callee)) spilled (function_line program frames callee) arguments count
             (subst (λ (n : ℕ). Stands code (line + n) calling) long_spills
             (stands_back code line (ordinary before) calling
-            (stands_front code line (ordinary before ++ calling) (behind program frames function (plain.Call callee arguments count result)) (stand function index (plain.Call callee arguments count result) at))));
+            (stands_front code line (ordinary before ++ calling) (following program frames function (plain.Call callee arguments count result)) (stand function index (plain.Call callee arguments count result) at))));
       }
 
   in_range_of : (function index : ℕ) (i : Instruction) → instruction_at program (record { function = function; index = index }) ≡ Some i → IsInRange program (routine_at program function) i
@@ -135,7 +135,7 @@ module _ (program : Program) (well : IsWellFormed program) (words : HasWords pro
   range_of : (function index first handler : ℕ) → instruction_at program (record { function = function; index = index }) ≡ Some (plain.Try first handler) → IsTryInRange (routine_at program function) first handler
   range_of function index first handler at = in_range_of function index (plain.Try first handler) at
 
-  -- where an exception comes to a handler
+  -- The lines at which an exception arrives at a handler.
   caught_stands : (function index first handler : ℕ) → instruction_at program (record { function = function; index = index }) ≡ Some (plain.Try first handler)
       → Stands code (instruction_line program frames function index + 3) (ordinary (caught_code (frame_at frames function) first) ++ lines.Jump (instruction_line program frames function handler) ∷ [])
   caught_stands function index first handler at =
@@ -161,7 +161,7 @@ module _ (program : Program) (well : IsWellFormed program) (words : HasWords pro
         inside = below_from_slice_get code.lines _ _ (caught_stands function index first handler at).0;
         call = line + 2;
         label = line + 6 + reload_count (frame_at frames function);
-        behind = omega arith;
+        following = omega arith;
         calls = (stands_back code line (ordinary (recorded_code (frame_at frames function) first)) rest whole).0;
       }
 
@@ -211,7 +211,7 @@ module _ (program : Program) (well : IsWellFormed program) (words : HasWords pro
     abbrev StandsHere : Instruction → Type 0
     StandsHere i = Stands code here (body program frames c.active.function here i)
 
-    -- a division, where the run goes on
+    -- A division that does not get stuck is matched.
     quotient_goes : (operator : BinaryOperator) (which : MoveFromOp) (destination : ℕ) (left right : Operand) → IsAt (plain.Binary operator destination left right) → destination < slots → IsThere left → IsThere right
         → ((b : ℕ) → b ≡ 0 → has_no_result operator b ≡ true) → ((b : ℕ) → b ≢ 0 → has_no_result operator b ≡ false)
         → ((a b : ℕ) → binary_result operator a b ≡ multiply_divide_result Divide which a b) → ((a : ℕ) → IsWord a → multiply_divide_result Multiply which (if_low which a 0) (if_low which (2 ^ 32 - 1) 0) ≡ multiply_divide_result Divide which a (2 ^ 32 - 1))
@@ -237,15 +237,15 @@ module _ (program : Program) (well : IsWellFormed program) (words : HasWords pro
     not_true true is = refl
     not_true false is = absurd (let e : true ≡ false = is in cc)
 
-    -- by a plain divisor there is a result
+    -- A division by a plain divisor has a result.
     has_result : (operator : BinaryOperator) (right : Operand) → is_tested operator right ≡ false → has_no_result operator (operand_word c.active.slots right) ≡ false
     has_result binary.Divide right fine = ne_eqb (operand_word c.active.slots right) 0 (divisor_is c.active.slots right (not_true (is_plain_divisor right) fine)).0
     has_result binary.Remainder right fine = ne_eqb (operand_word c.active.slots right) 0 (divisor_is c.active.slots right (not_true (is_plain_divisor right) fine)).0
     has_result operator right fine = refl
 
     counted : (i : Instruction) → is_idle (frame_at frames c.active.function) c.active.next i ≡ false
-        → count_of program frames c.active.function c.active.next i ≡ body_count program frames c.active.function i + behind_count program frames c.active.function i
-    counted i busy = ap (λ (b : Bool). (if b then 0 else body_count program frames c.active.function i) + behind_count program frames c.active.function i) busy
+        → count_of program frames c.active.function c.active.next i ≡ body_count program frames c.active.function i + after_count program frames c.active.function i
+    counted i busy = ap (λ (b : Bool). (if b then 0 else body_count program frames c.active.function i) + after_count program frames c.active.function i) busy
 
     operator_goes : (operator : BinaryOperator) (destination : ℕ) (left right : Operand) → IsAt (plain.Binary operator destination left right) → is_idle (frame_at frames c.active.function) c.active.next (plain.Binary operator destination left right) ≡ false → destination < slots → IsThere left → IsThere right
         → StandsHere (plain.Binary operator destination left right) → Goes (operator_count (frame_at frames c.active.function) operator destination left right)
@@ -265,7 +265,7 @@ module _ (program : Program) (well : IsWellFormed program) (words : HasWords pro
     stops_not : (i : Instruction) → IsAt i → IsAllowed program (states.Running c) zeros → performed program zeros c i ≡ states.Stuck c.output c.input → ⊥
     stops_not i at allowed stops = stuck_not c never allowed (ap (executed program zeros c) at ∙ stops)
 
-    -- a function that opens handlers does not return so
+    -- A function that opens handlers does not return by `Return`.
     none_open : {value : ℕ} → IsAt (plain.Return value) → c.active.handlers ≡ []
     none_open {value} at = go c.active.handlers refl s.newest
       where
@@ -284,13 +284,13 @@ module _ (program : Program) (well : IsWellFormed program) (words : HasWords pro
     finish_goes value at in_range stands (h ∷ handlers) some =
         absurd (stops_not (plain.Finish value) at (zeros_at program c (plain.Finish value) at refl) (ap (finishes c value (routine_at program c.active.function).results) some))
 
-    -- all lines of a branch are executed
+    -- A branch is matched by a walk through all its lines.
     branch_walks : (comparison : Comparison) (left right : Operand) (target : ℕ) → IsAt (plain.Branch comparison left right target) → is_idle (frame_at frames c.active.function) c.active.next (plain.Branch comparison left right target) ≡ false
         → IsInRange program (routine_at program c.active.function) (plain.Branch comparison left right target) → HasWord (plain.Branch comparison left right target) → StandsHere (plain.Branch comparison left right target)
         → Walk code formed addresses globals_length (words_per_call * calls) (body_count program frames c.active.function (plain.Branch comparison left right target)) here (here + body_count program frames c.active.function (plain.Branch comparison left right target)) c.output (After program pages calls c) (Reached program well frames fit code formed addresses pages calls few c) (Running run)
     branch_walks comparison left right target at busy (a, b, below) (fits, also) stands =
         branch_goes program well frames fit code formed addresses pages calls few c run r w base back now s caches comparison left right target at (a, fits) (b, also) (omega (arith, counted (plain.Branch comparison left right target) busy))
-        (λ j there is_busy. stands_front code (instruction_line program frames c.active.function target) (body program frames c.active.function (instruction_line program frames c.active.function target) j) (behind program frames c.active.function j) (body_stands program well frames fit code stand long c.active.function target j there is_busy)) stands
+        (λ j there is_busy. stands_front code (instruction_line program frames c.active.function target) (body program frames c.active.function (instruction_line program frames c.active.function target) j) (following program frames c.active.function j) (body_stands program well frames fit code stand long c.active.function target j there is_busy)) stands
 
     instruction_goes : (i : Instruction) → IsAt i → is_idle (frame_at frames c.active.function) c.active.next i ≡ false → IsInRange program (routine_at program c.active.function) i → HasWord i → StandsHere i → Goes (body_count program frames c.active.function i)
     instruction_goes (plain.Move destination source) at busy (a, b) fits stands = move_goes program well frames fit code formed addresses pages calls few c run r w base back now s caches destination source at a (b, fits) (omega (arith, counted (plain.Move destination source) busy)) stands
@@ -333,7 +333,7 @@ module _ (program : Program) (well : IsWellFormed program) (words : HasWords pro
     instruction_goes (plain.Enter callee) at busy in_range fits stands =
         enter_goes program well frames fit code formed addresses pages calls few c run r w base back now s caches callee at in_range stands (sym (line_next program frames c.active.function c.active.next (plain.Enter callee) at))
 
-  -- ---- a step from a state that matches
+  -- ---- a step from a matching state
 
   abbrev above : simulation.Machine
   above = steps.machine program pages calls
@@ -368,11 +368,11 @@ module _ (program : Program) (well : IsWellFormed program) (words : HasWords pro
     endings = endings_same;
   }
 
-  -- where the instruction's own lines end
+  -- The number of the line after the instruction's own lines.
   abbrev end_of : Configuration → Instruction → ℕ
   end_of c i = instruction_line program frames c.active.function c.active.next + place_count program frames c.active.function c.active.next i
 
-  -- a place that is not idle has lines; what a walk through a place's own lines comes to
+  -- The least number of lines of a place: 0 if it is idle, else 1.
   abbrev least_of : (idle : Bool) → ℕ
   least_of true = 0
   least_of false = 1
@@ -385,7 +385,7 @@ module _ (program : Program) (well : IsWellFormed program) (words : HasWords pro
   made true c places u enough (next, goes, matches, lighter) = record { next = next; step = goes; matches = matches; lighter = λ none. lighter }
   made false c places u enough (next, goes, matches) = record { next = next; step = goes; matches = matches; lighter = λ none. absurd (omega (arith, none, enough)) }
 
-  -- on the way the step is seen to be made, or not yet
+  -- During a walk the step is visible or not yet.
   on_the_way : (c : Configuration) (run : labelled.Configuration) (u : State) → run.input ≡ c.input → Quiet code formed addresses globals_length (words_per_call * calls) c.output run.input (After program pages calls c) u
       → IsOnTheWay above below_machine (states.Running c) u
   on_the_way c run u unread (inl (running, output, left)) =
@@ -393,7 +393,7 @@ module _ (program : Program) (well : IsWellFormed program) (words : HasWords pro
   on_the_way c run u unread (inr (running, next, made, seen)) =
       way_after above below_machine matching (states.Running c) next u made ((lawful program pages calls).grows (states.Running c) next made) running seen
 
-  -- a walk through own lines is a matched step
+  -- A walk through a place's own lines matches a step.
   stepped : (idle : Bool) (c : Configuration) (t : State) (run : labelled.Configuration) (lo : ℕ) (i : Instruction) → run.input ≡ c.input → instruction_at program (states.place_of (states.Running c)) ≡ Some i
       → instruction_line program frames c.active.function c.active.next - previous_count program frames c.active.function (routine_at program c.active.function).code c.active.next ≤ lo → t ≡ Running run
       → Walk code formed addresses globals_length (words_per_call * calls) (least_of idle) lo (end_of c i) c.output (After program pages calls c) (Comes_to idle c) (Running run)
@@ -420,7 +420,7 @@ module _ (program : Program) (well : IsWellFormed program) (words : HasWords pro
             walk.comes;
       })
 
-  -- from the first of its lines, or from where it would have some
+  -- A step is matched from the first line of its place, or from the next line if the place has none.
   ready_goes : (idle : Bool) (c : Configuration) (t : State) → Never c → (ready : Ready program well frames fit code formed addresses pages calls few c t) (i : Instruction) → instruction_at program (states.place_of (states.Running c)) ≡ Some i
       → is_idle (frame_at frames c.active.function) c.active.next i ≡ idle
       → Walk code formed addresses globals_length (words_per_call * calls) (least_of idle) (instruction_line program frames c.active.function c.active.next) (end_of c i) c.output (After program pages calls c) (Comes_to idle c) (Running ready.run)
@@ -432,18 +432,18 @@ module _ (program : Program) (well : IsWellFormed program) (words : HasWords pro
       subst (λ (b : Bool). Walk code formed addresses globals_length (words_per_call * calls) 1 line (line + (if b then 0 else body_count program frames c.active.function i)) c.output (After program pages calls c) (Comes_to false c) (Running ready.run)) (sym busy)
       (instruction_goes c never ready.run ready.r ready.w ready.base ready.back ready.now ready.standing ready.caches i at busy
       (in_range_of c.active.function c.active.next i at) (word_of_it c.active.function c.active.next i at)
-      (stands_front code line (body program frames c.active.function line i) (behind program frames c.active.function i) (body_stands program well frames fit code stand long c.active.function c.active.next i at busy)))
+      (stands_front code line (body program frames c.active.function line i) (following program frames c.active.function i) (body_stands program well frames fit code stand long c.active.function c.active.next i at busy)))
 
-  -- where the lines behind the call before it begin
+  -- The line at which the lines after the previous call begin.
   before_it : (function index callee arguments count result next : ℕ) → next ≡ index + 1 → instruction_at program (record { function = function; index = index }) ≡ Some (plain.Call callee arguments count result)
-      → instruction_line program frames function next - previous_count program frames function (routine_at program function).code next ≤ behind_line program frames function index callee arguments count result
+      → instruction_line program frames function next - previous_count program frames function (routine_at program function).code next ≤ after_line program frames function index callee arguments count result
   before_it function index callee arguments count result next is at =
       let one : next ≡ suc index = omega (arith, is) in
       let e = line_next program frames function index (plain.Call callee arguments count result) at in
-      let previous : previous_count program frames function (routine_at program function).code next ≡ (routine_at program callee).results + reload_count (frame_at frames function) = ap (previous_count program frames function (routine_at program function).code) one ∙ ap (behind_of program frames function) at in
+      let previous : previous_count program frames function (routine_at program function).code next ≡ (routine_at program callee).results + reload_count (frame_at frames function) = ap (previous_count program frames function (routine_at program function).code) one ∙ ap (after_of program frames function) at in
       omega (arith, previous, e, ap (instruction_line program frames function) is)
 
-  -- where the line stands that keeps the way back
+  -- The line at which the saves of the function begin.
   entry_before : (function next : ℕ) → next ≡ 0
       → instruction_line program frames function next - previous_count program frames function (routine_at program function).code next ≤ function_line program frames function
   entry_before function next is =
@@ -456,7 +456,7 @@ module _ (program : Program) (well : IsWellFormed program) (words : HasWords pro
   abbrev IsLighter : Configuration → states.State → Type 0
   IsLighter c u = weight program well frames fit code formed addresses pages calls few u < length (routine_at program c.active.function).code - c.active.next
 
-  -- by a word that is made the run comes nearer to the end of the code
+  -- A straight-line instruction brings the run nearer to the end of the code.
   straight_lighter : (c : Configuration) (i : Instruction) → instruction_at program (states.place_of (states.Running c)) ≡ Some i → is_straight i ≡ true → (next : states.State) → Step program pages calls (states.Running c) next
       → weight program well frames fit code formed addresses pages calls few next < weight program well frames fit code formed addresses pages calls few (states.Running c)
   straight_lighter c i at straight next (choice, allowed, is) =
@@ -482,7 +482,7 @@ module _ (program : Program) (well : IsWellFormed program) (words : HasWords pro
       performed_lighter (plain.StoreGlobal global source) is_one = omega (arith, some)
       performed_lighter j is_one = absurd (false≢true is_one)
 
-  -- behind its first line, which was executed in front of a branch
+  -- A step is matched from after its first line, which was executed before a branch.
   begun_goes : (c : Configuration) (t : State) → Begun program well frames fit code formed addresses pages calls few c t → Never c → IsStepped above below_machine matching (states.Running c) t
   begun_goes c t begun never = go begun.i begun.at begun.busy begun.more
     where
@@ -495,7 +495,7 @@ module _ (program : Program) (well : IsWellFormed program) (words : HasWords pro
       unread : begun.run.input ≡ begun.before.input
       unread = begun.input ∙ sym (ap (λ (d : labelled.Configuration). d.input) same ∙ begun.ready.now.input)
 
-      -- the walk through all lines, without its first step
+      -- The walk through all lines without its first step.
       rest : (n : ℕ) (i : Instruction) → Walk code formed addresses globals_length (words_per_call * calls) (suc n) (instruction_line program frames c.active.function c.active.next) (end_of c i) c.output (After program pages calls c) (Comes_to false c) (Running begun.ready.run)
           → Walk code formed addresses globals_length (words_per_call * calls) n (suc begun.before.line) (end_of c i) c.output (After program pages calls c) (Comes_to false c) (Running begun.run)
       rest n i whole =
@@ -503,7 +503,7 @@ module _ (program : Program) (well : IsWellFormed program) (words : HasWords pro
           (subst (λ (d : labelled.Configuration). Walk code formed addresses globals_length (words_per_call * calls) (suc n) (instruction_line program frames c.active.function c.active.next) (end_of c i) c.output (After program pages calls c) (Comes_to false c) (Running d)) (sym same) whole)
           begun.goes
 
-      -- where nothing may be left, the run comes nearer to the end of the code
+      -- If no further line remains, the run comes nearer to the end of the code.
       straight : (i : Instruction) → instruction_at program (states.place_of (states.Running c)) ≡ Some i → is_idle (frame_at frames c.active.function) c.active.next i ≡ false → is_straight i ≡ true → IsStepped above below_machine matching (states.Running c) t
       straight i at busy is_one =
           stepped true c t begun.run (suc begun.before.line) i begun.input at (omega (arith, before_line)) begun.is
@@ -517,7 +517,7 @@ module _ (program : Program) (well : IsWellFormed program) (words : HasWords pro
           let ready = begun.ready in
           let i : Instruction = plain.Branch comparison left right target in
           let line : ℕ = instruction_line program frames c.active.function c.active.next in
-          let stands = stands_front code line (body program frames c.active.function line i) (behind program frames c.active.function i) (body_stands program well frames fit code stand long c.active.function c.active.next i at busy) in
+          let stands = stands_front code line (body program frames c.active.function line i) (following program frames c.active.function i) (body_stands program well frames fit code stand long c.active.function c.active.next i at busy) in
           let all = branch_walks c never ready.run ready.r ready.w ready.base ready.back ready.now ready.standing ready.caches comparison left right target at busy (in_range_of c.active.function c.active.next i at) (word_of_it c.active.function c.active.next i at) stands in
           let whole = subst (λ (b : Bool). Walk code formed addresses globals_length (words_per_call * calls) 2 line (line + (if b then 0 else body_count program frames c.active.function i)) c.output (After program pages calls c) (Comes_to false c) (Running ready.run)) (sym busy)
           (walk_few code formed addresses globals_length (words_per_call * calls) 2 (body_count program frames c.active.function i) line (line + body_count program frames c.active.function i) c.output _ (Running ready.run) (omega (arith, some)) all) in
@@ -534,7 +534,7 @@ module _ (program : Program) (well : IsWellFormed program) (words : HasWords pro
       → IsStepped above below_machine matching (states.Running c) t
   known_goes c t matches never i at = go (is_idle (frame_at frames c.active.function) c.active.next i) refl matches
     where
-      -- where its own lines are next
+      -- A step is matched if the instruction's own lines are next.
       then_goes : (idle : Bool) → is_idle (frame_at frames c.active.function) c.active.next i ≡ idle → (u : State) → Ready program well frames fit code formed addresses pages calls few c u
           → Walk code formed addresses globals_length (words_per_call * calls) (least_of idle) (instruction_line program frames c.active.function c.active.next) (end_of c i) c.output (After program pages calls c) (Comes_to idle c) u
       then_goes idle is u ready =
@@ -554,9 +554,9 @@ module _ (program : Program) (well : IsWellFormed program) (words : HasWords pro
           (catch_goes program well frames fit code formed addresses pages calls few lie c range_of lands_at t landed (caught_stands c.active.function c.active.next landed.first landed.handler landed.opened))
       go idle is (inr (inl back)) =
           let in_range = in_range_of c.active.function back.index (plain.Call back.callee back.arguments back.count back.result) back.call in
-          stepped idle c t back.run (behind_line program frames c.active.function back.index back.callee back.arguments back.count back.result) i back.now.input at
+          stepped idle c t back.run (after_line program frames c.active.function back.index back.callee back.arguments back.count back.result) i back.now.input at
           (before_it c.active.function back.index back.callee back.arguments back.count back.result c.active.next back.next back.call) back.is
-          (behind_goes program well frames fit code formed addresses pages calls few c t back (behind_stands c.active.function back.index back.callee back.arguments back.count back.result back.call) in_range.result_in_range (few_results back.callee)
+          (after_goes program well frames fit code formed addresses pages calls few c t back (following_stands c.active.function back.index back.callee back.arguments back.count back.result back.call) in_range.result_in_range (few_results back.callee)
           (least_of idle) (end_of c i) (Comes_to idle c) (then_goes idle is))
 
   pub all_steps : Steps above below_machine matching

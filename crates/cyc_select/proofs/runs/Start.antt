@@ -1,11 +1,11 @@
--- From the start the code calls `main`, and so a whole run of it follows a run of the program.
+-- From its start the code calls `main`, so each whole run of it follows a run of the program.
 use Rattle.std.proofs.Common.{◌≡◌, ℕ, zero, suc, ◌+◌, ◌-◌, ◌*◌, ◌%◌, ◌^◌, ◌<◌, ◌≤◌, Bool, true, false, List, [], ◌∷◌, ◌++◌, length, replicate, Some, refl, sym, ap, subst, ◌∙◌, arith, inl, inr, length-append}
 use Rattle.std.specs.Prelude.{All, slice_index, slice_set, slice_index_or, unwrap_or, Option, None, ◌==◌, if◌then◌else◌}
 use Rattle.std.specs.List.{AllByRecursion, range_with_len}
 use Rattle.std.proofs.lemmas.Bool.{cases_lt, cases_eq}
 use Rattle.std.proofs.lemmas.List.{get_or-set_same, get_or-set_other, get_or_append_left, get_or-append_right, get_or_past, length-replicate}
 use Rattle.cyc_select.specs.declared.constants.TheConstants.{FRAME, FRAME_SHIFT, LOWEST, START_LINES, GLOBALS, GLOBALS_MIDDLE}
-use Rattle.cyc_machine.specs.declared.constants.TheConstants.{RETURN_ADDRESS}
+use Rattle.cyc_machine_model.specs.declared.constants.TheConstants.{RETURN_ADDRESS}
 use Rattle.cyc_words.specs.Word.{IsWord, shl_of, sub_of}
 use Rattle.cyc_isa.specs.declared.instr.ArithmeticOp.TheVariants as arithmetic
 use Rattle.cyc_isa.specs.declared.instr.Instr.{Instr}
@@ -13,8 +13,8 @@ use Rattle.cyc_isa.specs.declared.instr.ShiftOp.TheVariants as shift
 use Rattle.cyc_store.specs.State as stores
 use Rattle.cyc_store.specs.State.{StoreState, Holder, homes, holder, word_at, IsNew}
 use Rattle.cyc_store.proofs.NewStores.{new_words}
-use Rattle.cyc_machine.specs.Bounds.{AreAllowed}
-use Rattle.cyc_machine.specs.State.{Place, InText, InGlobals, InStack, InStore, Nowhere, loaded, place_of, data_base, stack_base, stack_end, word_number, globals_length, words_per_call}
+use Rattle.cyc_machine_model.specs.Bounds.{AreAllowed}
+use Rattle.cyc_machine_model.specs.State.{Place, InText, InGlobals, InStack, InStore, Nowhere, loaded, place_of, data_base, stack_base, stack_end, word_number, globals_length, words_per_call}
 use Rattle.cyc_plain.specs.declared.instruction.Instruction.{Instruction}
 use Rattle.cyc_plain.specs.inside.Memory.{IsBelow, slots_end}
 use Rattle.cyc_plain.specs.inside.Program.{Program, routine_at}
@@ -38,7 +38,7 @@ use Rattle.cyc_select.specs.inside.Machine.{State, Running, machine, memory_of, 
 use Rattle.cyc_select.specs.inside.Instructions.{slot_offset, arithmetic_of, shift_by_of, load_upper, or_lower}
 use Rattle.cyc_select.specs.inside.Slots.{push_frame, saving_code}
 use Rattle.cyc_select.specs.inside.Counts.{body_count, function_line, instruction_line}
-use Rattle.cyc_select.specs.inside.Selection.{body, behind, place_lines, ordinary, start_lines}
+use Rattle.cyc_select.specs.inside.Selection.{body, following, place_lines, ordinary, start_lines}
 use Rattle.cyc_select.proofs.relation.Arriving.{came_in}
 use Rattle.cyc_select.proofs.relation.Cells.{cell, place_of-data, place_of-stack}
 use Rattle.cyc_select.proofs.Laws.{code_is_lawful}
@@ -53,7 +53,7 @@ use Rattle.cyc_select.proofs.relation.Matches.{Matches}
 use Rattle.cyc_select.proofs.runs.Runs.{matching, all_steps}
 use Rattle.cyc_select.proofs.layout.OwnLines.{own_of}
 
--- ---- rising places that are as many as there are
+-- ---- ascending places fill their range
 
 rising_few : (lo hi : ℕ) (places : List ℕ) → Rises lo hi places → lo + length places ≤ hi
 rising_few lo hi [] rises = omega arith
@@ -70,7 +70,7 @@ rising_all lo (suc n) (p ∷ places) (first, rest) enough =
     let moved : Rises (lo + 1) (lo + 1 + n) places = subst (λ (a : ℕ). Rises a (lo + 1 + n) places) from (subst (λ (b : ℕ). Rises (suc p) b places) to rest) in
     ap (λ (x : ℕ). x ∷ places) same ∙ ap (λ (l : List ℕ). lo ∷ l) (rising_all (lo + 1) n places moved (omega (arith, enough)))
 
--- ---- words at the start
+-- ---- words in the initial state
 
 set_words : (xs : List ℕ) (i v : ℕ) → ((n : ℕ) → IsWord (slice_index xs n)) → IsWord v → i < length xs → (n : ℕ) → IsWord (slice_index (slice_set xs i v) n)
 set_words xs i v all one below n = elim (cases_eq n i) [
@@ -88,7 +88,7 @@ all_words xs all n = elim (cases_lt n (length xs)) [
   | inr past ↦ subst IsWord (sym (get_or_past xs n 0 past)) (let e : 0 < 2 ^ 32 = omega arith in e)
 ]
 
--- what is read of a store that holds words is a word
+-- A word read from a store of words is a word.
 live_word : (s : StoreState) → stores.AreWords s.memory → (a : ℕ) → IsWord (unwrap_or (word_at s a) 0)
 live_word s words a = found (a % 4 == 0) (holder (homes s) a)
   where
@@ -112,7 +112,7 @@ globals_of_long globals few =
     length-append globals (replicate (globals_length - length globals) 0)
     ∙ (ap (λ (n : ℕ). length globals + n) (length-replicate (globals_length - length globals) 0) ∙ (let e : length globals + (globals_length - length globals) ≡ globals_length = omega (arith, few) in e))
 
--- where the slots of `main` lie
+-- The address of the slots of `main`.
 abbrev pub main_place : Program → List Frame → ℕ
 main_place program frames = stack_end - frame_size + 4 * (frame_at frames program.main).first_slot
 
@@ -128,7 +128,7 @@ main_below program well frames fit =
 module _ (program : Program) (well : IsWellFormed program) (words : HasWords program) (frames : List Frame) (fit : AreFrames program frames) (code : Labelled) (formed : IsFormed code) (addresses : ℕ → ℕ) (lie : AreAddresses code addresses)
     (pages calls : ℕ) (allowed : AreAllowed pages calls)
     (stand : (function index : ℕ) (i : Instruction) → instruction_at program (record { function = function; index = index }) ≡ Some i
-    → Stands code (instruction_line program frames function index) (place_lines program frames function index (instruction_line program frames function index) i ++ behind program frames function i))
+    → Stands code (instruction_line program frames function index) (place_lines program frames function index (instruction_line program frames function index) i ++ following program frames function i))
     (stand_saving : (function : ℕ) → function < length program.functions → Stands code (function_line program frames function) (ordinary (saving_code (frame_at frames function))))
     (long : (function line : ℕ) (i : Instruction) → length (body program frames function line i) ≡ body_count program frames function i)
     (starts : Stands code 0 (start_lines program frames)) (same_globals : code.globals ≡ program.globals)
@@ -215,7 +215,7 @@ module _ (program : Program) (well : IsWellFormed program) (words : HasWords pro
   now : Now code formed addresses globals_length (words_per_call * calls) 0 [] input r w run
   now = record { view = view; r_words = words_r; w_words = words_w; at_line = refl; output = refl; input = refl }
 
-  -- the stack holds zeros, and the data range the globals
+  -- Initially the stack holds zeros, and the data range the globals.
   stack_zero : (a : ℕ) → a % 4 ≡ 0 → stack_end - 4 * (words_per_call * calls) ≤ a → a < stack_end → w.words a ≡ 0
   stack_zero a aligned from below =
       ap (loaded (memory_of run)) (place_of-stack (globals_of code.globals) (replicate (words_per_call * calls) 0) store a (omega (arith, long_globals)) (omega (arith, long_stack, few)) (aligned, (omega (arith, from, long_stack)), below))

@@ -1,4 +1,4 @@
--- The instructions that move several words, and that load and store words of memory.
+-- The instructions that move several words, and those that load and store words of memory.
 use Rattle.std.proofs.Common.{◌≡◌, ◌≢◌, ℕ, zero, suc, ◌+◌, ◌*◌, ◌%◌, ◌^◌, ◌<◌, ◌≤◌, Bool, true, false, List, [], ◌∷◌, ◌++◌, length, Option, None, Some, refl, sym, ap, subst, ◌∙◌, arith, inl, inr}
 use Rattle.std.specs.Prelude.{◌||◌, ◌&&◌, if◌then◌else◌}
 use Rattle.std.proofs.lemmas.Bool.{and_from, eqb-true, or_left, or_right, or_parts}
@@ -10,8 +10,8 @@ use Rattle.cyc_registers.specs.inside.Bars.{is_crossing}
 use Rattle.cyc_isa.specs.Effect.{memory_address}
 use Rattle.cyc_isa.specs.declared.instr.Instr.{Instr}
 use Rattle.cyc_isa.specs.Decoding.{register_of}
-use Rattle.cyc_machine.specs.State.{globals_length, words_per_call}
-use Rattle.cyc_machine.specs.declared.constants.TheConstants.{RETURN_ADDRESS}
+use Rattle.cyc_machine_model.specs.State.{globals_length, words_per_call}
+use Rattle.cyc_machine_model.specs.declared.constants.TheConstants.{RETURN_ADDRESS}
 use Rattle.cyc_plain.specs.declared.instruction.Instruction.{Instruction}
 use Rattle.cyc_plain.specs.declared.instruction.Instruction.TheVariants as plain
 use Rattle.cyc_plain.specs.declared.instruction.Operand.{Operand}
@@ -47,21 +47,21 @@ use Rattle.cyc_select.proofs.relation.Held.{operand_held, operand_is_word}
 use Rattle.cyc_select.proofs.layout.Lines.{line_next}
 use Rattle.cyc_select.proofs.relation.Matches.{After, At, Reached, reached, result_register, within}
 use Rattle.cyc_select.proofs.steps.Moves.{is_ahead, moved, moved_copied, are_moved}
-use Rattle.cyc_select.proofs.steps.Behind.{same_slots, stored}
+use Rattle.cyc_select.proofs.steps.Trailing.{same_slots, stored}
 use Rattle.cyc_select.proofs.steps.Simple.{Agrees, gets, gives_made}
 use Rattle.cyc_select.proofs.relation.Standing.{under_way, Standing, slot_cell, slot_word_is, standing_registers, standing_at, stage_of}
 use Rattle.cyc_select.proofs.relation.Places.{Sort, OfBlock, OfCell, IsWordAt, placed, walk_read, walk_write, is_found}
 use Rattle.cyc_select.proofs.relation.Values.{Caches, caches_past, moved_caches, unbarred, barred_kept, among, not_among}
 use Rattle.cyc_select.proofs.effects.Views.{Contents, Width, OneWord, OneByte, load_op, store_op, word_place, loaded_part, stored_word}
-use Rattle.cyc_select.proofs.effects.Sequences.{stored_is_word, Stands, stands_first, stands_behind, after_r, after_w}
+use Rattle.cyc_select.proofs.effects.Sequences.{stored_is_word, Stands, stands_first, stands_after, after_r, after_w}
 use Rattle.cyc_select.proofs.effects.Walks.{Walk, now_at, now_is, walk_end, walk_few, walk_from, walk_block}
 
--- ---- several words in registers
+-- ---- several words loaded into registers
 
 module _ (globals stack : ℕ) (frame : Frame) (r : Words) (w : Contents) (slots : Words) (source number : ℕ)
     (cell : (slot : ℕ) → slot < number → IsCell globals stack (memory_address (r FRAME) (slot_offset frame slot)))
     (kept : ℕ → Type 0) (word_is : (slot : ℕ) → slot < number → kept slot → w.words (memory_address (r FRAME) (slot_offset frame slot)) ≡ slots slot) where
-  -- the words of slots are in the registers of results
+  -- The words of the slots are in the result registers.
   record AreTaken (count : ℕ) : Type 0 where
     pub keeps : Keeps globals stack (load_words frame source (result_registers count)) r w FIRST
     pub taken : (k : ℕ) → k < count → after_r (load_words frame source (result_registers count)) r w (result_register k) ≡ slots (source + k)
@@ -131,12 +131,12 @@ module _ (globals stack : ℕ) (frame : Frame) (r : Words) (w : Contents) (slots
 -- ---- addresses
 
 module _ (globals stack : ℕ) (frame : Frame) (base : ℕ) (w : Contents) (r slots : Words) (q : Words) (m : Contents) (zero_is : q ZERO ≡ 0) (same : q FRAME ≡ base) (memory : m ≡ w) (values : ValuesSame q r) where
-  -- the address of a word of memory comes of a register and of the half in the instruction
+  -- The address of a word of memory is the sum of a register and the instruction's immediate.
   record IsAddressed (is : List Instr) (register half address : ℕ) : Type 0 where
     pub keeps : Keeps globals stack is q m FIRST
     pub comes : memory_address (after_r is q m (register % 32)) half ≡ address
 
-  -- it is not in the register of what is stored there
+  -- The address is not in the register of the stored operand.
   not_in_second : (address : Operand) (offset : ℕ) → IsHeld globals stack frame base w r slots address → address_register frame address offset % 32 ≢ SECOND
   not_in_second address offset held = go (fits_signed offset)
     where
@@ -216,7 +216,7 @@ module _ (program : Program) (well : IsWellFormed program) (frames : List Frame)
 
   -- ---- several words
 
-  -- no slot that has a register gets one of them, where they go all together
+  -- No slot with a register is a destination, if the words are moved all at once.
   moved_apart : (destination source count : ℕ) → IsAt (plain.MoveWords destination source count) → is_crossing destination source count ≡ true → (slot k : ℕ) → value_register frame slot ≡ Some k
       → (is_among destination count slot ≡ false) × (copied c.active.slots source count c.active.slots destination slot ≡ c.active.slots slot)
   moved_apart destination source count at_i crossing slot k has =
@@ -231,7 +231,7 @@ module _ (program : Program) (well : IsWellFormed program) (frames : List Frame)
         ],
       )
 
-  -- it has all its lines
+  -- All lines of the instruction are emitted.
   abbrev pub IsCounted : Instruction → Type 0
   IsCounted i = count_of program frames c.active.function c.active.next i ≡ body_count program frames c.active.function i
 
@@ -267,7 +267,7 @@ module _ (program : Program) (well : IsWellFormed program) (frames : List Frame)
       walk_few code formed addresses globals_length (words_per_call * calls) 1 (length is + (length js + 0)) here hi c.output _ (Running run) (omega (arith, long, also, some, in_range.some))
       (walk_block code formed addresses globals_length (words_per_call * calls) is (length js + 0) here here hi c.output c.input _ r w run now (stands_first code here is js stands) take.keeps.safe (omega arith)
       (λ e before.
-      walk_block code formed addresses globals_length (words_per_call * calls) js 0 (here + length is) (here + length is) hi c.output c.input _ q v e before (stands_behind code here is js stands) puts.0 (omega arith)
+      walk_block code formed addresses globals_length (words_per_call * calls) js 0 (here + length is) (here + length is) hi c.output c.input _ q v e before (stands_after code here is js stands) puts.0 (omega arith)
       (λ f later.
       walk_end code formed addresses globals_length (words_per_call * calls) (here + length is + length js) hi c.output _ (Running f) (omega (arith, long, also))
       (reached program well frames fit code formed addresses pages calls few c zeros (plain.MoveWords destination source count) (states.Running d) (Running f) (zeros_at program c (plain.MoveWords destination source count) at_i refl) at_i refl
@@ -287,7 +287,7 @@ module _ (program : Program) (well : IsWellFormed program) (frames : List Frame)
             (λ slot k has. (moved_apart destination source count at_i crossing slot k has).0) (λ slot k has. (moved_apart destination source count at_i crossing slot k has).1) (all_same q r take.keeps.values) caches;
       }))))))
 
-  -- one by one
+  -- A move of several words is matched if the words are moved one by one.
   each_goes : (destination source count : ℕ) → IsAt (plain.MoveWords destination source count) → IsMoveInRange (routine_at program c.active.function) destination source count
       → is_crossing destination source count ≡ false → IsCounted (plain.MoveWords destination source count)
       → Stands code here (ordinary (moves frame destination source count)) → Goes 1 here (here + moves_count frame destination source count) (Running run)
@@ -348,7 +348,7 @@ module _ (program : Program) (well : IsWellFormed program) (frames : List Frame)
 
   -- ---- a load
 
-  -- an instruction that loads a word or a byte
+  -- An instruction that loads a word or a byte.
   record IsLoad (width : Width) (i : Instruction) (destination : ℕ) (address : Operand) (offset : ℕ) : Type 0 where
     pub at : IsAt i
     pub free : calls_nothing i ≡ true
@@ -357,7 +357,7 @@ module _ (program : Program) (well : IsWellFormed program) (frames : List Frame)
     pub does : (word : ℕ) → memory_at program c (word_place width (add_of (word_in address) offset)) ≡ Some word → performed program zeros c i ≡ gives c destination (loaded_part width (add_of (word_in address) offset) word)
     pub count : count_of program frames c.active.function c.active.next i ≡ address_count frame address offset + 1 + keep_count frame destination
 
-  -- of a word that is there
+  -- A load of an existing word is matched.
   loaded_goes : (width : Width) (i : Instruction) (destination : ℕ) (address : Operand) (offset word : ℕ) → IsLoad width i destination address offset → destination < slots → IsThere address → IsWord offset
       → memory_at program c (word_place width (add_of (word_in address) offset)) ≡ Some word
       → Stands code here (load_at frame (load_op width) destination address offset) → Goes 1 here (here + (address_count frame address offset + 1 + keep_count frame destination)) (Running run)
@@ -379,7 +379,7 @@ module _ (program : Program) (well : IsWellFormed program) (frames : List Frame)
       let there_is : IsWordAt its.sort globals_length (words_per_call * calls) v (word_place width (memory_address (q (register % 32)) (near_half offset))) word =
       subst (λ (x : ℕ). IsWordAt its.sort globals_length (words_per_call * calls) v (word_place width x) word) (sym reaches.comes)
       (subst (λ (x : Contents). IsWordAt its.sort globals_length (words_per_call * calls) x (word_place width a) word) (sym reaches.keeps.memory) its.at) in
-      let behind = stands_behind code here is last stands in
+      let following = stands_after code here is last stands in
       let p : Words = put q (made_in frame destination % 32) part in
       let agrees : Agrees program well frames fit code formed addresses pages calls few c run r w base back now s caches target p = record {
         zero_same = put-other q target 0 part scratch.not_zero ∙ reaches.keeps.zero;
@@ -392,7 +392,7 @@ module _ (program : Program) (well : IsWellFormed program) (frames : List Frame)
       walk_few code formed addresses globals_length (words_per_call * calls) 1 (length is + suc (keep_count frame destination)) here hi c.output _ (Running run) (omega arith)
       (walk_block code formed addresses globals_length (words_per_call * calls) is (suc (keep_count frame destination)) here here hi c.output c.input _ r w run now (stands_first code here is last stands) reaches.keeps.safe (omega arith)
       (λ d before.
-      walk_read code formed addresses globals_length (words_per_call * calls) width its.sort (keep_count frame destination) (here + length is) (here + length is) hi c.output c.input _ q v d (register_of (made_in frame destination)) (register_of register) (near_half offset) word before behind.0 (omega arith)
+      walk_read code formed addresses globals_length (words_per_call * calls) width its.sort (keep_count frame destination) (here + length is) (here + length is) hi c.output c.input _ q v d (register_of (made_in frame destination)) (register_of register) (near_half offset) word before following.0 (omega arith)
       (scratch_writable globals_length (words_per_call * calls) target scratch) there_is
       (λ e later.
       walk_from code formed addresses globals_length (words_per_call * calls) (keep_count frame destination) (suc (here + length is)) (here + length is + 1) hi c.output _ (Running e) (omega arith)
@@ -403,7 +403,7 @@ module _ (program : Program) (well : IsWellFormed program) (frames : List Frame)
       (now_is code formed addresses globals_length (words_per_call * calls) (here + length is + 1) c.output c.input (put q target (loaded_part width (memory_address (q (register % 32)) (near_half offset)) word)) v p w e
       (ap (λ (x : ℕ). put q target (loaded_part width x word)) reaches.comes) reaches.keeps.memory later)
       [] agrees (record { safe = tt; memory = refl; zero = refl; base = refl; lowest = refl; back = refl; lasts = refl; values = λ n low high other. refl })
-      (put-same q target part) (omega (arith, long)) loads_it.count behind.1)))))
+      (put-same q target part) (omega (arith, long)) loads_it.count following.1)))))
 
   pub load_goes : (destination : ℕ) (address : Operand) (offset : ℕ) → IsAt (plain.Load destination address offset) → destination < slots → IsThere address → IsWord offset
       → (performed program zeros c (plain.Load destination address offset) ≡ states.Stuck c.output c.input → ⊥)
@@ -445,7 +445,7 @@ module _ (program : Program) (well : IsWellFormed program) (frames : List Frame)
 
   -- ---- a store
 
-  -- an instruction that stores a word or a byte
+  -- An instruction that stores a word or a byte.
   record IsStore (width : Width) (i : Instruction) (address : Operand) (offset : ℕ) (source : Operand) : Type 0 where
     pub at : IsAt i
     pub free : calls_nothing i ≡ true
@@ -456,7 +456,7 @@ module _ (program : Program) (well : IsWellFormed program) (frames : List Frame)
         → performed program zeros c i ≡ states.Running (advanced (with_memory program c (word_place width (add_of (word_in address) offset)) (stored_word width (add_of (word_in address) offset) old (word_in source))))
     pub count : count_of program frames c.active.function c.active.next i ≡ address_count frame address offset + operand_count frame source + 1
 
-  -- what memory has is a word
+  -- The contents of memory are words.
   word_at_is : (sort : Sort) (a word : ℕ) → IsWordAt sort globals_length (words_per_call * calls) w a word → IsWord word
   word_at_is OfBlock a word (live, is) = is
   word_at_is OfCell a word (cell, is) = subst IsWord is (now.w_words a)
@@ -512,12 +512,12 @@ module _ (program : Program) (well : IsWellFormed program) (frames : List Frame)
       next
       ∙ (ap (λ (f : ℕ). instruction_line program frames f (c.active.next + 1)) (sym left.function)
       ∙ ap (λ (n : ℕ). instruction_line program frames d.active.function (n + 1)) (sym left.next)) in
-      let behind = stands_behind code here is (js ++ last) stands in
-      let at_last = stands_behind code (here + length is) js last behind in
+      let following = stands_after code here is (js ++ last) stands in
+      let at_last = stands_after code (here + length is) js last following in
       walk_few code formed addresses globals_length (words_per_call * calls) 1 (length is + (length js + 1)) here hi c.output _ (Running run) (omega arith)
       (walk_block code formed addresses globals_length (words_per_call * calls) is (length js + 1) here here hi c.output c.input _ r w run now (stands_first code here is (js ++ last) stands) reaches.keeps.safe (omega arith)
       (λ e before.
-      walk_block code formed addresses globals_length (words_per_call * calls) js 1 (here + length is) (here + length is) hi c.output c.input _ q v e before (stands_first code (here + length is) js last behind) second.safe (omega arith)
+      walk_block code formed addresses globals_length (words_per_call * calls) js 1 (here + length is) (here + length is) hi c.output c.input _ q v e before (stands_first code (here + length is) js last following) second.safe (omega arith)
       (λ f after.
       walk_write code formed addresses globals_length (words_per_call * calls) width its.sort 0 (here + length is + length js) (here + length is + length js) hi c.output c.input _ p u f (register_of from) (register_of register) (near_half offset) old after at_last.0 (omega arith) there_is
       (λ g later.

@@ -1,4 +1,4 @@
--- Jumps and branches, the line in front of a branch that does what its target does first among them.
+-- Jumps and branches, including branches with a hoisted line before them.
 use Rattle.std.proofs.Common.{◌≡◌, ◌≢◌, ℕ, suc, slice_get, length-append, ◌+◌, ◌-◌, ◌*◌, ◌%◌, ◌<◌, ◌≤◌, Bool, true, false, List, [], ◌∷◌, ◌++◌, length, Option, Some, None, refl, ap, subst, ◌∙◌, arith, inl, inr}
 use Rattle.std.specs.Prelude.{◌==◌, ◌||◌, if◌then◌else◌}
 use Rattle.std.proofs.lemmas.Bool.{cases_eq, or_left, or_right}
@@ -7,7 +7,7 @@ use Rattle.cyc_plain.specs.inside.Uses.{writes, leads}
 use Rattle.cyc_isa.specs.Effect.{branch_taken, branch_zero_taken}
 use Rattle.cyc_isa.specs.declared.instr.Instr.{Instr}
 use Rattle.cyc_isa.specs.Decoding.{register_of}
-use Rattle.cyc_machine.specs.State.{globals_length, words_per_call}
+use Rattle.cyc_machine_model.specs.State.{globals_length, words_per_call}
 use Rattle.cyc_plain.specs.declared.instruction.Instruction.{Instruction}
 use Rattle.cyc_plain.specs.declared.instruction.Instruction.TheVariants as plain
 use Rattle.cyc_plain.specs.declared.instruction.Comparison.{Comparison}
@@ -22,7 +22,7 @@ use Rattle.cyc_plain.proofs.RunLaws.{zeros, calls_nothing}
 use Rattle.cyc_registers.specs.inside.Liveness.{IsLiveAt}
 use Rattle.cyc_frame.specs.inside.Layout.{AreFrames, frame_at}
 use Rattle.cyc_frame.specs.inside.Frame.{Frame}
-use Rattle.cyc_machine.specs.declared.constants.TheConstants.{RETURN_ADDRESS}
+use Rattle.cyc_machine_model.specs.declared.constants.TheConstants.{RETURN_ADDRESS}
 use Rattle.cyc_select.specs.declared.code.Line.{Line}
 use Rattle.cyc_select.specs.declared.code.Condition.{Condition}
 use Rattle.cyc_select.specs.declared.code.Condition.TheVariants as conditions
@@ -37,7 +37,7 @@ use Rattle.cyc_select.specs.inside.Machine as labelled
 use Rattle.cyc_select.specs.inside.Machine.{State, Running, holds_of}
 use Rattle.cyc_select.specs.inside.Slots.{value_register}
 use Rattle.cyc_select.specs.inside.Operands.{operand_code, operand_register, operands_code, operation_of, branch_on, condition_of, test_count}
-use Rattle.cyc_select.specs.inside.Hoisting.{hoisted, hoisted_count, with_hoisted, behind_hoisted, is_idle}
+use Rattle.cyc_select.specs.inside.Hoisting.{hoisted, hoisted_count, with_hoisted, after_hoisted, is_idle}
 use Rattle.cyc_select.specs.inside.Counts.{body_count, count_of, instruction_line}
 use Rattle.cyc_select.specs.inside.Selection.{ordinary, branch_code, body}
 use Rattle.cyc_select.proofs.values.Blocks.{all_same, lasting_same, Keeps, IsScratch, puts_keeps}
@@ -48,7 +48,7 @@ use Rattle.cyc_select.proofs.layout.Lines.{line_next}
 use Rattle.cyc_select.proofs.values.Plans.{AllOfTest, operation_word, test_taken, test_goes, all_test}
 use Rattle.cyc_select.proofs.relation.Values.{Caches, caches_past}
 use Rattle.cyc_select.proofs.effects.Views.{Contents, does_r, does_w, IsSafe, moved}
-use Rattle.cyc_select.proofs.effects.Sequences.{Stands, stands_front, stands_back, stands_first, stands_behind, after_r, after_w}
+use Rattle.cyc_select.proofs.effects.Sequences.{Stands, stands_front, stands_back, stands_first, stands_after, after_r, after_w}
 use Rattle.cyc_select.proofs.effects.Walks.{Walk, walk_end, walk_few, walk_one, walk_block, walk_branch, walk_branch_to, at_now, walk_jump}
 use Rattle.cyc_select.proofs.relation.Standing.{Standing, stage_of}
 use Rattle.cyc_select.proofs.relation.Matches.{After, At, Reached, ready_by, steps_by, reached_at}
@@ -85,15 +85,15 @@ module _ (program : Program) (well : IsWellFormed program) (frames : List Frame)
   abbrev KeepsHere : List Instr → Type 0
   KeepsHere is = Keeps globals_length (words_per_call * calls) is r w FIRST
 
-  -- it does not call the store
+  -- The instruction does not call the store.
   abbrev IsFree : Instruction → Type 0
   IsFree i = calls_nothing i ≡ true
 
-  -- it has all its lines
+  -- All lines of the instruction are emitted.
   abbrev IsCounted : Instruction → Type 0
   IsCounted i = count_of program frames c.active.function c.active.next i ≡ body_count program frames c.active.function i
 
-  -- a plan whose operands are there, and which the machine computes of them
+  -- A plan whose operands exist and whose operation the machine can compute on them.
   abbrev IsPlanThere : Plan → Type 0
   IsPlanThere plan =
       Held plan.left × Held plan.right × IsComputable globals_length (words_per_call * calls) plan.operation (word_of plan.left) (word_of plan.right)
@@ -107,12 +107,12 @@ module _ (program : Program) (well : IsWellFormed program) (frames : List Frame)
       walk_end code formed addresses globals_length (words_per_call * calls) (suc here) (here + 1) c.output _ (Running d) (omega arith)
       (reached_at program well frames fit code formed addresses pages calls few c (plain.Jump target) at_i refl r w base back s caches (at c target) (instruction_line program frames c.active.function target) d r w refl refl refl refl refl refl refl refl refl refl refl refl refl refl refl (λ n low high. refl) refl (λ slot. refl) (eqb_itself target) later))
 
-  -- the line of the place that is taken
+  -- The line of the place that the branch goes to.
   line_taken : (b : Bool) (target other : ℕ) (line : ℕ → ℕ) (n : ℕ) → n ≡ line other → (if b then line target else n) ≡ line (if b then target else other)
   line_taken true target other line n same = refl
   line_taken false target other line n same = same
 
-  -- a block that leaves what is tested in two registers, and the branch
+  -- A block that leaves the tested words in two registers, followed by the branch.
   branch_plain : (i : Instruction) → IsAt i → IsFree i → (is : List Instr) (condition : Condition) (target count : ℕ) (taken : Bool) → KeepsHere is
       → holds_of (after_r is r w) condition ≡ taken → performed program zeros c i ≡ states.Running (at c (if taken then target else c.active.next + 1))
       → ((slot : ℕ) → writes program i slot ≡ false) → leads i c.active.next (if taken then target else c.active.next + 1) ≡ true
@@ -121,9 +121,9 @@ module _ (program : Program) (well : IsWellFormed program) (frames : List Frame)
   branch_plain i at_i free is condition target count taken keeps takes does unwritten led long counted stands =
       let line : ℕ → ℕ = instruction_line program frames c.active.function in
       let last : Line = lines.Branch condition (line target) in
-      let behind = stands_back code here (ordinary is) (last ∷ []) stands in
+      let following = stands_back code here (ordinary is) (last ∷ []) stands in
       let here_is : here + length (ordinary is) ≡ here + length is = ap (λ (n : ℕ). here + n) (length_ordinary is) in
-      let last_stands : slice_get code.lines (here + length is) ≡ Some last = subst (λ (n : ℕ). slice_get code.lines n ≡ Some last) here_is behind.0 in
+      let last_stands : slice_get code.lines (here + length is) ≡ Some last = subst (λ (n : ℕ). slice_get code.lines n ≡ Some last) here_is following.0 in
       let next : here + length is + 1 ≡ line (c.active.next + 1) = omega (arith, line_next program frames c.active.function c.active.next i at_i, counted, long) in
       let there : (if holds_of (after_r is r w) condition then line target else here + length is + 1) ≡ line (if taken then target else c.active.next + 1) =
       ap (λ (b : Bool). if b then line target else here + length is + 1) takes ∙ line_taken taken target (c.active.next + 1) line (here + length is + 1) next in
@@ -136,12 +136,12 @@ module _ (program : Program) (well : IsWellFormed program) (frames : List Frame)
       (reached_at program well frames fit code formed addresses pages calls few c i at_i free r w base back s caches (at c (if taken then target else c.active.next + 1)) (line (if taken then target else c.active.next + 1)) e (after_r is r w) (after_w is r w)
       refl refl refl refl refl refl refl refl does refl keeps.zero keeps.base keeps.lowest keeps.back keeps.lasts (all_same (after_r is r w) r keeps.values) keeps.memory unwritten led after))))
 
-  -- ---- with a line that was hoisted in front of the branch
+  -- ---- branches with a hoisted line
 
   abbrev lines_of : ℕ → ℕ
   lines_of index = instruction_line program frames c.active.function index
 
-  -- what is known of it: it stands at the place too, and its register has no word that is live on the other way
+  -- The hoisted line is also the first line of the target, and its register holds no word that is live if the branch is not taken.
   abbrev IsKnownFirst : (condition : Condition) (target : ℕ) → Option Instr → Type 0
   IsKnownFirst condition target None = Unit {0}
   IsKnownFirst condition target (Some x) =
@@ -154,7 +154,7 @@ module _ (program : Program) (well : IsWellFormed program) (frames : List Frame)
     abbrev its : Hoists program frames c.active.function target condition x
     its = known.0
 
-    -- registers in front of the line, and behind it
+    -- The registers before and after the hoisted first line of the target.
     abbrev q : Words
     q = after_r is r w
 
@@ -175,32 +175,32 @@ module _ (program : Program) (well : IsWellFormed program) (frames : List Frame)
     safe_here : IsSafe globals_length (words_per_call * calls) x q
     safe_here = pure_safe globals_length (words_per_call * calls) x its.register q its.computes (writable condition its.own its.register its.may own_value)
 
-    -- where the run may go, in front of the line
+    -- Before the hoisted line, registers hold the slots live at either successor.
     cached : (next : ℕ) → leads i c.active.next next ≡ true → Caches program frames c.active.function next q c.active.slots
     cached next led =
         caches_past program frames c.active.function (homes_right program well frames fit code formed addresses pages calls few c run r w base back now s caches) c.active.next next r q c.active.slots c.active.slots i at_i led (λ slot k has. unwritten slot) (λ slot k has. refl) (all_same q r keeps.values) caches
 
-    -- and behind it, on the other way
-    cached_behind : leads i c.active.next (c.active.next + 1) ≡ true → Caches program frames c.active.function (c.active.next + 1) p c.active.slots
-    cached_behind led slot n has wanted = elim (cases_eq n its.register) [
+    -- After the hoisted line, registers hold the slots live if the branch is not taken.
+    cached_after : leads i c.active.next (c.active.next + 1) ≡ true → Caches program frames c.active.function (c.active.next + 1) p c.active.slots
+    cached_after led slot n has wanted = elim (cases_eq n its.register) [
       | inl same ↦
           absurd (known.2 slot n (of_value condition its.own its.register its.may n ((homes_right program well frames fit code formed addresses pages calls few c run r w base back now s caches).low slot n has) ((homes_right program well frames fit code formed addresses pages calls few c run r w base back now s caches).high slot n has) same) has
           (subst (IsLiveAt program (routine_at program c.active.function) slot) (let e : c.active.next + 1 ≡ suc c.active.next = omega arith in e) wanted))
       | inr other ↦ others n other ∙ cached (c.active.next + 1) led slot n has wanted
     ]
 
-    -- no register changes that calls preserve and the function does not save
+    -- The line changes no callee-saved register that the function does not save.
     unsaved : (j : ℕ) → (frame_at frames c.active.function).saved ≤ j → j < 7 → 17 + j ≡ its.register → ⊥
     unsaved j past high same =
         let gives = its.gives (17 + j) (of_value condition its.own its.register its.may (17 + j) (omega arith) (omega (arith, high)) same) in
         let saved = (homes_right program well frames fit code formed addresses pages calls few c run r w base back now s caches).saved_registers gives.destination (17 + j) gives.has (omega arith) in
         omega (arith, saved, past)
 
-    -- the place is begun, by what was executed in front of the branch
+    -- At the target, the first line counts as already executed.
     taken_reached : (d : labelled.Configuration) → At program well frames fit code formed addresses pages calls few (here + length is) c.output c.input q (after_w is r w) d
         → At program well frames fit code formed addresses pages calls few (lines_of target + 1) c.output c.input p (does_w x q (after_w is r w)) (labelled.at (moved d x) (lines_of target + 1))
         → performed program zeros c i ≡ states.Running (at c target) → leads i c.active.next target ≡ true → Reached program well frames fit code formed addresses pages calls few c (Running (labelled.at (moved d x) (lines_of target + 1)))
-    taken_reached d before behind does led =
+    taken_reached d before following does led =
         let ready = ready_by program well frames fit code formed addresses pages calls few c i at_i free r w base back s caches (at c target) (lines_of target) (labelled.at d (lines_of target)) q (after_w is r w)
         refl refl refl refl refl refl refl refl refl keeps.zero keeps.base keeps.lowest keeps.back keeps.lasts (λ j past high. all_same q r keeps.values (17 + j) (omega arith) (omega (arith, high))) keeps.memory (cached target led)
         (at_now code formed addresses globals_length (words_per_call * calls) (here + length is) (lines_of target) c.output c.input q (after_w is r w) d before) in (
@@ -215,21 +215,21 @@ module _ (program : Program) (well : IsWellFormed program) (frames : List Frame)
             at = its.at;
             more = its.more;
             busy = its.busy;
-            output = behind.output;
-            input = behind.input;
+            output = following.output;
+            input = following.input;
             goes = copy_steps code addresses x its.register d (lines_of target) its.computes known.1;
           })))),
         )
 
     other_reached : (line : ℕ) (e : labelled.Configuration) → line ≡ lines_of (c.active.next + 1) → At program well frames fit code formed addresses pages calls few line c.output c.input p (does_w x q (after_w is r w)) e
         → performed program zeros c i ≡ states.Running (at c (c.active.next + 1)) → leads i c.active.next (c.active.next + 1) ≡ true → Reached program well frames fit code formed addresses pages calls few c (Running e)
-    other_reached line e line_is behind does led =
+    other_reached line e line_is following does led =
         let kept : (n : ℕ) → n ≢ its.register → p n ≡ q n = others in
         let ready = ready_by program well frames fit code formed addresses pages calls few c i at_i free r w base back s caches (at c (c.active.next + 1)) line e p (does_w x q (after_w is r w))
         refl refl refl refl refl refl refl refl line_is (others 0 is_scratch.not_zero ∙ keeps.zero) (others FRAME is_scratch.not_base ∙ keeps.base) (others LOWEST is_scratch.not_lowest ∙ keeps.lowest) (others RETURN_ADDRESS is_scratch.not_back ∙ keeps.back)
         (lasting_same p q (others HANDLERS is_scratch.not_newest) (others REGIONS is_scratch.not_counted) (others GLOBALS is_scratch.not_middle) ∙ keeps.lasts)
         (λ j past high. others (17 + j) (λ same. absurd (unsaved j past high same)) ∙ all_same q r keeps.values (17 + j) (omega arith) (omega (arith, high)))
-        (pure_memory x its.register q (after_w is r w) its.computes ∙ keeps.memory) (cached_behind led) behind in
+        (pure_memory x its.register q (after_w is r w) its.computes ∙ keeps.memory) (cached_after led) following in
         (states.Running (at c (c.active.next + 1)), steps_by program well frames fit code formed addresses pages calls few c i at_i free r w base back s caches (at c (c.active.next + 1)) (Running e) ready does, inl ready)
 
     branch_copied : (count : ℕ) (taken : Bool) → holds_of q condition ≡ taken → performed program zeros c i ≡ states.Running (at c (if taken then target else c.active.next + 1)) → leads i c.active.next (if taken then target else c.active.next + 1) ≡ true
@@ -239,10 +239,10 @@ module _ (program : Program) (well : IsWellFormed program) (frames : List Frame)
         let last : Line = lines.Branch condition (lines_of target + 1) in
         let all : List Instr = is ++ x ∷ [] in
         let long_all : length (ordinary all) ≡ length is + 1 = length_ordinary all ∙ length-append is (x ∷ []) in
-        let behind = stands_back code here (ordinary all) (last ∷ []) stands in
-        let last_stands : slice_get code.lines (here + length is + 1) ≡ Some last = subst (λ (n : ℕ). slice_get code.lines n ≡ Some last) (let e : here + length (ordinary (is ++ x ∷ [])) ≡ here + length is + 1 = omega (arith, long_all) in e) behind.0 in
+        let following = stands_back code here (ordinary all) (last ∷ []) stands in
+        let last_stands : slice_get code.lines (here + length is + 1) ≡ Some last = subst (λ (n : ℕ). slice_get code.lines n ≡ Some last) (let e : here + length (ordinary (is ++ x ∷ [])) ≡ here + length is + 1 = omega (arith, long_all) in e) following.0 in
         let front = stands_front code here (ordinary all) (last ∷ []) stands in
-        let x_stands = (stands_behind code here is (x ∷ []) front).0 in
+        let x_stands = (stands_after code here is (x ∷ []) front).0 in
         let next : here + length is + 1 + 1 ≡ lines_of (c.active.next + 1) = omega (arith, line_next program frames c.active.function c.active.next i at_i, counted, long) in
         let holds : holds_of p condition ≡ taken = holds_beside condition its.register p q (untested condition its.own its.register its.may) others ∙ takes in
         walk_few code formed addresses globals_length (words_per_call * calls) count (length is + 2) here (here + count) c.output _ (Running run) (omega (arith, long))
@@ -271,12 +271,12 @@ module _ (program : Program) (well : IsWellFormed program) (frames : List Frame)
             walk_end code formed addresses globals_length (words_per_call * calls) (suc (here + length is + 1)) (here + count) c.output _ _ (omega (arith, long))
             (other_reached (here + length is + 1 + 1) (labelled.at (moved d x) (here + length is + 1 + 1)) next after does led))
 
-  -- with or without one
+  -- A branch is matched, with or without a hoisted line.
   branch_by : (i : Instruction) → IsAt i → IsFree i → (is : List Instr) (condition : Condition) (target count : ℕ) (taken : Bool) (first : Option Instr) → IsKnownFirst condition target first → KeepsHere is
       → holds_of (after_r is r w) condition ≡ taken → performed program zeros c i ≡ states.Running (at c (if taken then target else c.active.next + 1))
       → ((slot : ℕ) → writes program i slot ≡ false) → leads i c.active.next (if taken then target else c.active.next + 1) ≡ true
       → length is + hoisted_count first + 1 ≡ count → count_of program frames c.active.function c.active.next i ≡ count
-      → Stands code here (ordinary (with_hoisted is first) ++ lines.Branch condition (behind_hoisted first (instruction_line program frames c.active.function target)) ∷ []) → Goes count here (here + count) (Running run)
+      → Stands code here (ordinary (with_hoisted is first) ++ lines.Branch condition (after_hoisted first (instruction_line program frames c.active.function target)) ∷ []) → Goes count here (here + count) (Running run)
   branch_by i at_i free is condition target count taken None known keeps takes does unwritten led long counted stands =
       branch_plain i at_i free is condition target count taken keeps takes does unwritten led (omega (arith, long)) counted stands
   branch_by i at_i free is condition target count taken (Some x) known keeps takes does unwritten led long counted stands =

@@ -1,16 +1,16 @@
--- Calls: a new frame below the caller's, or the end of a run that has no room for one.
+-- Calls: a new frame below the caller's, or the end of a run without room for one.
 use Rattle.std.proofs.Common.{◌≡◌, ◌≢◌, ℕ, suc, ◌+◌, ◌-◌, ◌*◌, ◌%◌, ◌<◌, ◌≤◌, Bool, true, false, not, List, [], ◌∷◌, ◌++◌, length, Option, Some, None, slice_get, refl, sym, ap, subst, ◌∙◌, arith, inl, inr}
 use Rattle.std.specs.Prelude.{◌==◌, if◌then◌else◌, nat_le}
 use Rattle.std.proofs.lemmas.Bool.{cases_eq, cases_lt, eq-eqb, ne_eqb, and_right, lt-leb}
 use Rattle.cyc_plain.specs.declared.limits.TheConstants.{MOST_FRAME_WORDS}
 use Rattle.cyc_select.specs.declared.constants.TheConstants.{FRAME, LOWEST, HANDLERS, REGIONS, GLOBALS}
-use Rattle.cyc_machine.specs.declared.constants.TheConstants.{RETURN_ADDRESS}
+use Rattle.cyc_machine_model.specs.declared.constants.TheConstants.{RETURN_ADDRESS}
 use Rattle.cyc_words.specs.Ending.{Full}
 use Rattle.cyc_words.specs.Word.{IsWord, add_of, sign_extended}
 use Rattle.cyc_isa.specs.declared.instr.Instr.{Instr}
 use Rattle.cyc_isa.specs.declared.instr.BranchOp.TheVariants as branch
 use Rattle.cyc_isa.specs.Decoding.{register_of}
-use Rattle.cyc_machine.specs.State.{data_base, stack_end, globals_length, words_per_call}
+use Rattle.cyc_machine_model.specs.State.{data_base, stack_end, globals_length, words_per_call}
 use Rattle.cyc_store.specs.State.{demand}
 use Rattle.cyc_plain.specs.declared.instruction.Instruction.{Instruction}
 use Rattle.cyc_plain.specs.declared.instruction.Instruction.TheVariants as plain
@@ -45,7 +45,7 @@ use Rattle.cyc_select.proofs.effects.Views.{Contents}
 use Rattle.cyc_select.proofs.effects.Sequences.{Stands, stands_front, stands_back, after_r, after_w}
 use Rattle.cyc_select.proofs.effects.Walks.{Walk, walk_end, walk_few, walk_block, walk_branch, walk_call, walk_full}
 use Rattle.cyc_select.proofs.steps.Copies.{Copied, copied_all}
-use Rattle.cyc_select.proofs.relation.Waiting.{left_past, left_same, LeftBy, Finds, preserved_of, frame_size, Holds, Chain, IsNewest, behind_line, IsBack, saves_at, chain_kept, AreBased, based_here, slots_fit}
+use Rattle.cyc_select.proofs.relation.Waiting.{left_past, left_same, LeftBy, Finds, preserved_of, frame_size, Holds, Chain, IsNewest, after_line, IsBack, saves_at, chain_kept, AreBased, based_here, slots_fit}
 use Rattle.cyc_select.proofs.relation.Standing.{entering, Standing, stage_of, lies, slot_inside, word_cell}
 use Rattle.cyc_select.proofs.relation.Matches.{After, At, Reached, reached, within}
 
@@ -53,7 +53,7 @@ pub length_ordinary : (is : List Instr) → length (ordinary is) ≡ length is
 length_ordinary [] = refl
 length_ordinary (i ∷ is) = ap suc (length_ordinary is)
 
--- the last of the lines of a call
+-- The last line of a call.
 pub call_last : (code : Labelled) (caller callee : Frame) (here label arguments count : ℕ) → Stands code here (calling_code caller callee here label arguments count)
     → slice_get code.lines (here + 4 + copies_count caller callee arguments 0 count) ≡ Some (lines.Call label)
 call_last code caller callee here label arguments count stands =
@@ -70,9 +70,9 @@ module _ (program : Program) (well : IsWellFormed program) (frames : List Frame)
     (s : Standing program frames addresses pages calls c r w base back (stage_of frames c) c.active.slots)
     (callee arguments count result : ℕ) (at_i : instruction_at program (states.place_of (states.Running c)) ≡ Some (plain.Call callee arguments count result))
     (in_range : IsCallInRange program (routine_at program c.active.function) callee arguments count result)
-    (inside : behind_line program frames c.active.function c.active.next callee arguments count result < length code.lines)
+    (inside : after_line program frames c.active.function c.active.next callee arguments count result < length code.lines)
     (stands : Stands code here (calling_code (frame_at frames c.active.function) (coming (frame_at frames callee)) here (function_line program frames callee) arguments count))
-    (here_is : here + (5 + copies_count (frame_at frames c.active.function) (coming (frame_at frames callee)) arguments 0 count) ≡ behind_line program frames c.active.function c.active.next callee arguments count result)
+    (here_is : here + (5 + copies_count (frame_at frames c.active.function) (coming (frame_at frames callee)) arguments 0 count) ≡ after_line program frames c.active.function c.active.next callee arguments count result)
     (there : (slot : ℕ) → slot < count → passed_from (frame_at frames c.active.function) (coming (frame_at frames callee)) (arguments + slot) slot ≡ None
     → w.words (base + slot_offset (frame_at frames c.active.function) (arguments + slot)) ≡ c.active.slots (arguments + slot))
     (held : (slot k : ℕ) → slot < count → passed_from (frame_at frames c.active.function) (coming (frame_at frames callee)) (arguments + slot) slot ≡ Some k
@@ -81,7 +81,7 @@ module _ (program : Program) (well : IsWellFormed program) (frames : List Frame)
   abbrev mine : Frame
   mine = frame_at frames c.active.function
 
-  -- as the caller sees it
+  -- The layout of the callee's frame that the caller relies on.
   abbrev its : Frame
   its = coming (frame_at frames callee)
 
@@ -100,7 +100,7 @@ module _ (program : Program) (well : IsWellFormed program) (frames : List Frame)
   abbrev call_line : List Line
   call_line = lines.Call (function_line program frames callee) ∷ []
 
-  -- where the parts stand
+  -- The lines at which the parts of a call begin.
   at_full : Stands code (here + 1) (ordinary (small 2 11 ∷ syscall ∷ []))
   at_full =
       stands_front code (here + 1) (ordinary (small 2 11 ∷ syscall ∷ [])) (ordinary entry ++ (ordinary passed ++ call_line))
@@ -117,11 +117,11 @@ module _ (program : Program) (well : IsWellFormed program) (frames : List Frame)
       subst (λ (n : ℕ). slice_get code.lines (here + 3 + 1 + n) ≡ Some (lines.Call (function_line program frames callee))) (length_ordinary passed)
       (stands_back code (here + 3 + 1) (ordinary passed) call_line at_passed).0
 
-  -- the homes of the callee's slots
+  -- The homes of the callee's slots are correct.
   its_right : AreHomes program (routine_at program callee) (frame_at frames callee).saved (frame_at frames callee).homes
   its_right = fit.homes callee in_range.function_in_range
 
-  -- ---- no room
+  -- ---- no room for the call
 
   place_is : c.active.base ≡ base + 4 * mine.first_slot
   place_is = based_here frames base c.active.function c.active.base c.frames s.based
@@ -131,7 +131,7 @@ module _ (program : Program) (well : IsWellFormed program) (frames : List Frame)
       let l = lies program well frames fit addresses pages calls few c r w base back (stage_of frames c) c.active.slots s in
       (l.below_end, l.above_low, l.aligned)
 
-  -- there is room below for the slots of any function
+  -- Below the caller's frame there is room for the slots of any function.
   room_below : IsBelow program callee (c.active.base - 4 * (routine_at program callee).slots) c.active.base
   room_below =
       let fits = slots_fit (routine_at program callee) (frame_at frames callee) (fit.each callee in_range.function_in_range) in
@@ -184,7 +184,7 @@ module _ (program : Program) (well : IsWellFormed program) (frames : List Frame)
         ap (λ (x : ℕ). add_of x (sign_extended (minus frame_size))) s.base_is
         ∙ take_small base frame_size (omega (arith, here_lies.0)) (omega arith) (omega arith) (omega (arith, low_is))
 
-    -- the arguments are in memory and in registers as before
+    -- The arguments are in memory and in registers as before.
     argument_there : (slot : ℕ) → slot < count → passed_from mine its (arguments + slot) (0 + slot) ≡ None → w.words (base + slot_offset mine (arguments + slot)) ≡ c.active.slots (arguments + slot)
     argument_there slot below none = there slot below (ap (passed_from mine its (arguments + slot)) (let e : slot ≡ 0 + slot = omega arith in e) ∙ none)
 
@@ -220,7 +220,7 @@ module _ (program : Program) (well : IsWellFormed program) (frames : List Frame)
     abbrev r3 : Words
     r3 = put r2 RETURN_ADDRESS (addresses (here + 3 + 1 + length passed + 1))
 
-    -- what is in the new slots before they are written
+    -- The initial contents of the callee's slots.
     abbrev choice : Choice
     choice = record { contents = λ (slot : ℕ). w2.words (low + slot_offset its slot); base = low + 4 * its.first_slot; serving = zeros.serving }
 
@@ -230,13 +230,13 @@ module _ (program : Program) (well : IsWellFormed program) (frames : List Frame)
       frames = record { caller = (advanced c).active; result = result } ∷ c.frames;
     }
 
-    line_is : here + 3 + 1 + length passed + 1 ≡ behind_line program frames c.active.function c.active.next callee arguments count result
+    line_is : here + 3 + 1 + length passed + 1 ≡ after_line program frames c.active.function c.active.next callee arguments count result
     line_is = omega (arith, length_copies mine its arguments 0 count, here_is)
 
     above_kept : (a : ℕ) → base ≤ a → w2.words a ≡ w.words a
     above_kept a over = copied_now.outside a (inr over)
 
-    -- the registers that calls preserve are as in the caller: no argument comes in one
+    -- The callee-saved registers are as in the caller, since no argument arrives in one.
     preserved_same : (j : ℕ) → j < 7 → r3 (17 + j) ≡ r (17 + j)
     preserved_same j high =
         put-other r2 RETURN_ADDRESS (17 + j) (addresses (here + 3 + 1 + length passed + 1)) (λ e. absurd (omega (arith, e, high)))
@@ -246,7 +246,7 @@ module _ (program : Program) (well : IsWellFormed program) (frames : List Frame)
         unpassed : (i j : ℕ) → i < count → value_register its (0 + i) ≡ Some (17 + j) → ⊥
         unpassed i j below has = (let low = (came_in (frame_at frames callee) (0 + i) (17 + j) has).1 in omega (arith, low))
 
-    -- and by what the callee leaves in them the caller leaves what it left
+    -- The caller leaves equal words, given the words that the callee leaves.
     own_left_is : (j : ℕ) → j < 7 → LeftBy mine base (preserved_of r3) w2 j ≡ s.left j
     own_left_is j high =
         left_same mine.first_saved mine.saved base (preserved_of r) (preserved_of r3) w w2 (λ i past small. preserved_same i small)
@@ -256,7 +256,7 @@ module _ (program : Program) (well : IsWellFormed program) (frames : List Frame)
     own_chain : Chain program frames addresses w2 base back (LeftBy mine base (preserved_of r3) w2) c.active.function c.frames
     own_chain = chain_kept program frames fit addresses w w2 base back s.left (LeftBy mine base (preserved_of r3) w2) c.active.function c.frames (λ a over. above_kept a (omega (arith, over))) own_left_is s.chain
 
-    -- the caller's way back is in its frame
+    -- The caller's return address is in its frame.
     saved_is : w2.words (base + 4 * mine.return_address) ≡ back
     saved_is =
         let saved = saves_at program frames fit c.active.function c.active.next (plain.Call callee arguments count result) s.known at_i refl in
@@ -318,7 +318,7 @@ module _ (program : Program) (well : IsWellFormed program) (frames : List Frame)
       middle = copied_now.kept GLOBALS (inr (omega arith)) ∙ s.middle;
     }
 
-    -- its parameters are in the registers that they come in, where they are live
+    -- The live parameters are in the registers in which they arrive.
     entered_caches : (slot k : ℕ) → value_register its slot ≡ Some k → IsLiveAt program (routine_at program callee) slot 0 → r3 k ≡ copied c.active.slots arguments count choice.contents 0 slot
     entered_caches slot k comes wanted =
         let has = (came_in (frame_at frames callee) slot k comes).0 in
@@ -330,7 +330,7 @@ module _ (program : Program) (well : IsWellFormed program) (frames : List Frame)
         its_right.parameters slot i k has (came_in (frame_at frames callee) i k (ap (value_register its) (let e : i ≡ 0 + i = omega arith in e) ∙ there)).0 (let takes = in_range.takes in omega (arith, takes, i_below)) wanted)
         ∙ sym (ap (copied c.active.slots arguments count choice.contents 0) zero_slot ∙ copied-inside c.active.slots choice.contents arguments count 0 slot below))
 
-    -- and the others in memory
+    -- The parameters that are passed in memory are in memory after the call.
     entered_there : (slot : ℕ) → slot < (routine_at program callee).parameters → is_kept its slot ≡ true → w2.words (low + slot_offset its slot) ≡ copied c.active.slots arguments count choice.contents 0 slot
     entered_there slot below kept =
         let argument : slot < count = (let takes = in_range.takes in omega (arith, takes, below)) in
@@ -339,7 +339,7 @@ module _ (program : Program) (well : IsWellFormed program) (frames : List Frame)
         ∙ (copied_now.inside slot argument (ap (is_kept its) (sym zero_slot) ∙ kept)
         ∙ sym (ap (copied c.active.slots arguments count choice.contents 0) zero_slot ∙ copied-inside c.active.slots choice.contents arguments count 0 slot argument))
 
-    -- its slots lie below the caller's
+    -- The slots of the callee lie below the caller's.
     new_below : IsBelow program callee (low + 4 * its.first_slot) c.active.base
     new_below =
         let fits = slots_fit (routine_at program callee) (frame_at frames callee) (fit.each callee in_range.function_in_range) in
@@ -378,7 +378,7 @@ module _ (program : Program) (well : IsWellFormed program) (frames : List Frame)
         (stands_front code (here + 3 + 1) (ordinary passed) call_line at_passed) copied_now.safe (omega arith)
         (λ f there.
         walk_call code formed addresses globals_length (words_per_call * calls) 0 (here + 3 + 1 + length passed) (here + 3 + 1 + length passed) (here + (5 + copies_count (frame_at frames c.active.function) (coming (frame_at frames callee)) arguments 0 count)) c.output c.input _ r2 w2 f (function_line program frames callee) there at_call (omega arith)
-        (omega (arith, ap addresses line_is, lie.below (behind_line program frames c.active.function c.active.next callee arguments count result) inside))
+        (omega (arith, ap addresses line_is, lie.below (after_line program frames c.active.function c.active.next callee arguments count result) inside))
         (λ g called.
         walk_end code formed addresses globals_length (words_per_call * calls) (suc (here + 3 + 1 + length passed)) (here + (5 + copies_count (frame_at frames c.active.function) (coming (frame_at frames callee)) arguments 0 count)) c.output _ (Running g) (omega (arith, length_copies mine its arguments 0 count))
         (enters g called)))))

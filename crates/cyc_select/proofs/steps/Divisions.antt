@@ -10,7 +10,7 @@ use Rattle.cyc_isa.specs.declared.instr.MoveFromOp.TheVariants.{High, Low}
 use Rattle.cyc_isa.specs.declared.instr.MultiplyDivideOp.TheVariants.{Divide, Multiply}
 use Rattle.cyc_isa.specs.declared.instr.MultiplyDivideOp.{MultiplyDivideOp}
 use Rattle.cyc_isa.specs.Decoding.{register_of}
-use Rattle.cyc_machine.specs.State.{globals_length, words_per_call}
+use Rattle.cyc_machine_model.specs.State.{globals_length, words_per_call}
 use Rattle.cyc_plain.specs.declared.instruction.Instruction.{Instruction}
 use Rattle.cyc_plain.specs.declared.instruction.Instruction.TheVariants as plain
 use Rattle.cyc_plain.specs.declared.instruction.BinaryOperator.{BinaryOperator}
@@ -79,16 +79,16 @@ module _ (program : Program) (well : IsWellFormed program) (frames : List Frame)
   abbrev Held : Operand → Type 0
   Held o = IsHeld globals_length (words_per_call * calls) frame (r FRAME) w r c.active.slots o
 
-  -- what is read after a division
+  -- The quotient or the remainder of a division.
   abbrev result_of : MoveFromOp → ℕ → ℕ → ℕ
   result_of which a b = multiply_divide_result Divide which a b
 
-  -- the register that it is read from
+  -- The register that the result is read from.
   abbrev part : MoveFromOp → ℕ
   part High = 32
   part Low = 33
 
-  -- the register that it is made in gets it
+  -- The destination register receives the result.
   abbrev reads_part : MoveFromOp → (destination : ℕ) → List Instr
   reads_part which destination = move_from_of which (made_in frame destination) ∷ []
 
@@ -106,7 +106,7 @@ module _ (program : Program) (well : IsWellFormed program) (frames : List Frame)
     others = λ n below other. put-other q (made_in frame destination % 32) n (q 33) other;
   }
 
-  -- a division or a product writes the two registers that results are read from alone
+  -- A division or a product writes only HI and LO.
   parts_agree : (op : MultiplyDivideOp) (a b : ℕ) (q : Words) → Agrees program well frames fit code formed addresses pages calls few c run r w base back now s caches FIRST q → Agrees program well frames fit code formed addresses pages calls few c run r w base back now s caches FIRST (after_r (multiply_divide_of op a b ∷ []) q w)
   parts_agree op a b q agrees = record {
     zero_same = agrees.zero_same;
@@ -125,11 +125,11 @@ module _ (program : Program) (well : IsWellFormed program) (frames : List Frame)
       (does : performed program zeros c (plain.Binary operator destination left right) ≡ gives c destination (result_of which (word_of left) (word_of right)))
       (nonzero : word_of right ≢ 0) (counted : count_of program frames c.active.function c.active.next (plain.Binary operator destination left right) ≡ divide_count frame destination left right)
       (by_minus : (a : ℕ) → IsWord a → multiply_divide_result Multiply which (if_low which a 0) (if_low which (2 ^ 32 - 1) 0) ≡ result_of which a (2 ^ 32 - 1)) where
-    -- the lines of the operands
+    -- The number of lines that load the operands.
     abbrev loads : ℕ
     loads = operand_count frame left + operand_count frame right
 
-    -- the registers that they are in
+    -- The registers of the operands.
     abbrev first : ℕ
     first = operand_register frame FIRST left
 
@@ -145,7 +145,7 @@ module _ (program : Program) (well : IsWellFormed program) (frames : List Frame)
     abbrev hi : ℕ
     hi = here + divide_count frame destination left right
 
-    -- the word is in its part
+    -- After the division, the result is moved from HI or LO to the destination.
     finished : (q : Words) (d : labelled.Configuration) → At program well frames fit code formed addresses pages calls few (here + loads + 5) c.output c.input q w d → Stands code (here + loads + 5) (ordinary (reads_part which destination ++ keep_code frame destination))
         → Agrees program well frames fit code formed addresses pages calls few c run r w base back now s caches FIRST q → q (part which) ≡ result_of which (word_of left) (word_of right)
         → Goes 0 (here + loads + 5) (here + divide_count frame destination left right) (Running d)
@@ -166,7 +166,7 @@ module _ (program : Program) (well : IsWellFormed program) (frames : List Frame)
         ∷ lines.Jump (here + loads + 5)
         ∷ ordinary (quotient_code frame which destination (operand_register frame FIRST left) (operand_register frame SECOND right))
 
-    -- behind the operands, with the registers that they left
+    -- The remaining lines, after the operands are loaded into these registers.
     module _ (q : Words) (d : labelled.Configuration) (later : At program well frames fit code formed addresses pages calls few (here + loads + 1) c.output c.input q w d)
         (stands : Stands code (here + loads + 1) (lines.Branch (conditions.Registers branch.NotEqual (register_of (operand_register frame SECOND right)) (register_of THIRD)) (here + loads + 4) ∷ last))
         (agrees : Agrees program well frames fit code formed addresses pages calls few c run r w base back now s caches FIRST q)
@@ -186,7 +186,7 @@ module _ (program : Program) (well : IsWellFormed program) (frames : List Frame)
       part_stands : Stands code (here + loads + 5) (ordinary (reads_part which destination ++ keep_code frame destination))
       part_stands = subst (λ (n : ℕ). Stands code n (ordinary (reads_part which destination ++ keep_code frame destination))) five quotient_stands.1
 
-      -- the product has the result
+      -- For the divisor -1, the product equals the result of the division.
       multiplied : word_of right ≡ 2 ^ 32 - 1 → (from : MoveFromOp) → ((a : ℕ) → IsWord a → multiply_divide_result Multiply from (if_low from a 0) (if_low from (2 ^ 32 - 1) 0) ≡ result_of from a (2 ^ 32 - 1))
           → after_r (product_code from (operand_register frame FIRST left) ∷ []) q w (part from) ≡ result_of from (word_of left) (word_of right)
       multiplied same High law =
@@ -221,10 +221,10 @@ module _ (program : Program) (well : IsWellFormed program) (frames : List Frame)
           (stands.1.0, tt) (product_safe which) (omega arith)
           (λ f there.
           walk_jump code formed addresses globals_length (words_per_call * calls) 0 (here + loads + 1 + 1 + 1) (here + loads + 1 + 1 + 1) hi c.output c.input _ (after_r product q w) (after_w product q w) f (here + loads + 5) there stands.1.1.0 (omega arith)
-          (λ g behind.
+          (λ g following.
           walk_from code formed addresses globals_length (words_per_call * calls) 0 (suc (here + loads + 1 + 1 + 1)) (here + loads + 5) hi c.output _ (Running g) (omega arith)
           (finished (after_r product q w) g
-          (now_is code formed addresses globals_length (words_per_call * calls) (here + loads + 5) c.output c.input (after_r product q w) (after_w product q w) (after_r product q w) w g refl (product_memory which) behind)
+          (now_is code formed addresses globals_length (words_per_call * calls) (here + loads + 5) c.output c.input (after_r product q w) (after_w product q w) (after_r product q w) w g refl (product_memory which) following)
           part_stands (product_agrees which) (multiplied same which by_minus))))))
 
       by_other : word_of right ≢ 2 ^ 32 - 1 → Goes 1 (here + loads + 1) hi (Running d)
@@ -257,9 +257,9 @@ module _ (program : Program) (well : IsWellFormed program) (frames : List Frame)
         let long : length tested ≡ loads + 1 = length_divided frame left right in
         let there : here + length tested ≡ here + loads + 1 = omega (arith, long) in
         let test : Line = lines.Branch (conditions.Registers branch.NotEqual (register_of (operand_register frame SECOND right)) (register_of THIRD)) (here + loads + 4) in
-        let behind = stands_back code here (ordinary tested) (test ∷ last) stands in
-        let behind_here : Stands code (here + loads + 1) (test ∷ last) =
-        subst (λ (n : ℕ). Stands code n (test ∷ last)) (ap (λ (n : ℕ). here + n) (length_ordinary tested) ∙ there) behind in
+        let following = stands_back code here (ordinary tested) (test ∷ last) stands in
+        let after_here : Stands code (here + loads + 1) (test ∷ last) =
+        subst (λ (n : ℕ). Stands code n (test ∷ last)) (ap (λ (n : ℕ). here + n) (length_ordinary tested) ∙ there) following in
         walk_few code formed addresses globals_length (words_per_call * calls) 1 (length tested + 1) here hi c.output _ (Running run) (omega arith)
         (walk_block code formed addresses globals_length (words_per_call * calls) tested 1 here here hi c.output c.input _ r w run now
         (stands_front code here (ordinary tested) (test ∷ last) stands)
@@ -269,4 +269,4 @@ module _ (program : Program) (well : IsWellFormed program) (frames : List Frame)
         (either_goes (after_r tested r w) d
         (now_at code formed addresses globals_length (words_per_call * calls) (here + length tested) (here + loads + 1) c.output c.input _ _ d there
         (now_is code formed addresses globals_length (words_per_call * calls) (here + length tested) c.output c.input _ _ _ _ d refl put_all.keeps.memory later))
-        behind_here (kept_agrees program well frames fit code formed addresses pages calls few c run r w base back now s caches tested put_all.keeps) put_all.dividend put_all.divisor put_all.minus_one)))
+        after_here (kept_agrees program well frames fit code formed addresses pages calls few c run r w base back now s caches tested put_all.keeps) put_all.dividend put_all.divisor put_all.minus_one)))

@@ -1,4 +1,4 @@
--- Room for a call that is not made: the run goes on, or ends where there is none.
+-- Checks of stack room: the run continues if room is left, and ends otherwise.
 use Rattle.std.proofs.Common.{◌≡◌, ◌≢◌, ℕ, suc, ◌+◌, ◌-◌, ◌*◌, ◌%◌, ◌<◌, ◌≤◌, Bool, false, not, List, [], ◌∷◌, length, Option, Some, refl, sym, ap, ◌∙◌, arith, inl, inr}
 use Rattle.std.specs.Prelude.{◌==◌, if◌then◌else◌, nat_le}
 use Rattle.std.proofs.lemmas.Bool.{cases_eq, eq-eqb, ne_eqb, and_right, lt-leb}
@@ -7,7 +7,7 @@ use Rattle.cyc_words.specs.Ending.{Full}
 use Rattle.cyc_words.specs.Word.{add_of, sign_extended}
 use Rattle.cyc_isa.specs.declared.instr.BranchOp.TheVariants as branch
 use Rattle.cyc_isa.specs.Decoding.{register_of}
-use Rattle.cyc_machine.specs.State.{stack_end, globals_length, words_per_call}
+use Rattle.cyc_machine_model.specs.State.{stack_end, globals_length, words_per_call}
 use Rattle.cyc_store.specs.State.{demand}
 use Rattle.cyc_plain.specs.declared.instruction.Instruction.{Instruction}
 use Rattle.cyc_plain.specs.declared.instruction.Instruction.TheVariants as plain
@@ -65,7 +65,7 @@ module _ (program : Program) (well : IsWellFormed program) (frames : List Frame)
       let l = lies program well frames fit addresses pages calls few c r w base back (stage_of frames c) c.active.slots s in
       (l.below_end, l.above_low, l.aligned)
 
-  -- there is room below for the slots of any function
+  -- Below the caller's frame there is room for the slots of any function.
   room_below : IsBelow program callee (c.active.base - 4 * (routine_at program callee).slots) c.active.base
   room_below =
       let fits = slots_fit (routine_at program callee) (frame_at frames callee) (fit.each callee known) in

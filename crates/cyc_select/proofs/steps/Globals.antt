@@ -1,11 +1,11 @@
--- Globals, how many lexical regions are open, and addresses of slots.
+-- Globals, the number of open lexical regions, and addresses of slots.
 use Rattle.std.proofs.Common.{◌≡◌, ℕ, length-append, ◌+◌, ◌-◌, ◌*◌, ◌%◌, ◌^◌, ◌<◌, ◌≤◌, List, [], ◌∷◌, ◌++◌, length, Some, refl, sym, ap, subst, ◌∙◌, arith, inl}
 use Rattle.cyc_words.specs.Word.{add_of, sign_extended}
 use Rattle.cyc_words.proofs.Numbers.{eqb_next}
 use Rattle.cyc_isa.specs.Effect.{memory_address}
 use Rattle.cyc_isa.specs.declared.instr.Instr.{Instr}
 use Rattle.cyc_isa.specs.declared.instr.MemoryOp.TheVariants.{LoadWord, StoreWord}
-use Rattle.cyc_machine.specs.State.{data_base, globals_length, words_per_call}
+use Rattle.cyc_machine_model.specs.State.{data_base, globals_length, words_per_call}
 use Rattle.cyc_plain.specs.declared.instruction.Instruction.{Instruction}
 use Rattle.cyc_plain.specs.declared.instruction.Instruction.TheVariants as plain
 use Rattle.cyc_plain.specs.declared.instruction.Operand.{Operand}
@@ -36,7 +36,7 @@ use Rattle.cyc_select.proofs.layout.Lines.{line_next}
 use Rattle.cyc_select.proofs.values.Operations.{add_small}
 use Rattle.cyc_select.proofs.relation.Values.{Caches, caches_past}
 use Rattle.cyc_select.proofs.effects.Views.{Contents, written}
-use Rattle.cyc_select.proofs.effects.Sequences.{Stands, stands_first, stands_behind, after_r, after_w}
+use Rattle.cyc_select.proofs.effects.Sequences.{Stands, stands_first, stands_after, after_r, after_w}
 use Rattle.cyc_select.proofs.effects.Walks.{Walk, now_at, walk_end, walk_few, walk_block}
 use Rattle.cyc_select.proofs.relation.Waiting.{based_here}
 use Rattle.cyc_select.proofs.relation.Standing.{Standing, lies, slot_inside, global_cell, standing_global, standing_registers, standing_at, stage_of}
@@ -73,7 +73,7 @@ module _ (program : Program) (well : IsWellFormed program) (frames : List Frame)
 
   -- ---- globals
 
-  -- the word of a global at the address that is reached
+  -- The word of a global is at the computed address.
   global_there : (global address : ℕ) → address ≡ data_base + 4 * global → global < length program.globals → IsCell globals_length (words_per_call * calls) address
   global_there global address is below =
       subst (IsCell globals_length (words_per_call * calls)) (sym is)
@@ -106,7 +106,7 @@ module _ (program : Program) (well : IsWellFormed program) (frames : List Frame)
       gives_by program well frames fit code formed addresses pages calls few c run r w base back now s caches (plain.LoadGlobal destination global) at_i refl (global_code LoadWord (made_in frame destination) global) destination (c.globals global) (reach_count global + 1 + keep_count frame destination) (omega (arith, long)) keeps
       (after_both globals_length (words_per_call * calls) js last r w (target % 32) ∙ (puts.result ∙ word_is)) (gets program well frames fit code formed addresses pages calls few c run r w base back now s caches destination) below refl (omega (arith, long)) (omega arith) stands
 
-  -- ---- how many lexical regions are open
+  -- ---- the number of open lexical regions
 
   pub count_lexical_goes : (destination : ℕ) → IsAt (plain.CountLexical destination) → destination < slots
       → Stands code here (body program frames c.active.function here (plain.CountLexical destination))
@@ -149,13 +149,13 @@ module _ (program : Program) (well : IsWellFormed program) (frames : List Frame)
       let long : length is + (length js + 1) ≡ operand_count frame source + reach_count global + 1 =
       omega (arith, length_operand frame FIRST source, length_global StoreWord (operand_register frame FIRST source) global, length-append js last) in
       let line : here + length is + length js + 1 ≡ instruction_line program frames c.active.function (c.active.next + 1) = omega (arith, line_next program frames c.active.function c.active.next (plain.StoreGlobal global source) at_i, long) in
-      let behind = stands_behind code here is (js ++ last) stands in
+      let following = stands_after code here is (js ++ last) stands in
       walk_few code formed addresses globals_length (words_per_call * calls) 1 (length is + (length js + (1 + 0))) here hi c.output _ (Running run) (omega arith)
       (walk_block code formed addresses globals_length (words_per_call * calls) is (length js + (1 + 0)) here here hi c.output c.input _ r w run now (stands_first code here is (js ++ last) stands) keeps.safe (omega arith)
       (λ g before.
-      walk_block code formed addresses globals_length (words_per_call * calls) js (1 + 0) (here + length is) (here + length is) hi c.output c.input _ (after_r is r w) (after_w is r w) g before (stands_first code (here + length is) js last behind) reach.keeps.safe (omega arith)
+      walk_block code formed addresses globals_length (words_per_call * calls) js (1 + 0) (here + length is) (here + length is) hi c.output c.input _ (after_r is r w) (after_w is r w) g before (stands_first code (here + length is) js last following) reach.keeps.safe (omega arith)
       (λ f between.
-      walk_block code formed addresses globals_length (words_per_call * calls) last 0 (here + length is + length js) (here + length is + length js) hi c.output c.input _ q m f between (stands_behind code (here + length is) js last behind)
+      walk_block code formed addresses globals_length (words_per_call * calls) last 0 (here + length is + length js) (here + length is + length js) hi c.output c.input _ q m f between (stands_after code (here + length is) js last following)
       (global_there global at_word reach.there global_below, tt) (omega arith)
       (λ e later.
       walk_end code formed addresses globals_length (words_per_call * calls) (here + length is + length js + 1) hi c.output _ (Running e) (omega (arith, long))

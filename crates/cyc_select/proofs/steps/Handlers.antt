@@ -1,4 +1,4 @@
--- The instructions that open and close handlers, and the lines where an exception comes to one.
+-- The instructions that open and close handlers, and the lines at which an exception arrives.
 use Rattle.std.proofs.Common.{◌≡◌, ℕ, suc, ◌+◌, ◌*◌, ◌<◌, ◌≤◌, Bool, true, false, List, [], ◌∷◌, ◌++◌, length, Some, slice_get, refl, sym, ap, subst, ◌∙◌, arith, inl, inr}
 use Rattle.std.specs.Prelude.{◌==◌, if◌then◌else◌}
 use Rattle.std.proofs.lemmas.Bool.{or_left, false≢true}
@@ -7,8 +7,8 @@ use Rattle.cyc_words.proofs.Numbers.{eqb_next}
 use Rattle.cyc_plain.specs.inside.Uses.{is_among}
 use Rattle.cyc_isa.specs.Effect.{memory_address}
 use Rattle.cyc_isa.specs.declared.instr.Instr.{Instr}
-use Rattle.cyc_machine.specs.State.{globals_length, words_per_call}
-use Rattle.cyc_machine.specs.declared.constants.TheConstants.{ARGUMENT, RETURN_ADDRESS, SECOND_ARGUMENT}
+use Rattle.cyc_machine_model.specs.State.{globals_length, words_per_call}
+use Rattle.cyc_machine_model.specs.declared.constants.TheConstants.{ARGUMENT, RETURN_ADDRESS, SECOND_ARGUMENT}
 use Rattle.cyc_plain.specs.declared.instruction.Instruction.{Instruction}
 use Rattle.cyc_plain.specs.declared.instruction.Instruction.TheVariants as plain
 use Rattle.cyc_plain.specs.inside.Program.{Program, routine_at}
@@ -67,7 +67,7 @@ module _ (program : Program) (well : IsWellFormed program) (frames : List Frame)
   abbrev IsAt : Instruction → Type 0
   IsAt i = instruction_at program (states.place_of (states.Running c)) ≡ Some i
 
-  -- ---- an exception comes to a handler
+  -- ---- an exception arrives at a handler
 
   module _ (t : State) (l : Landed program well frames fit code formed addresses pages calls few c t) (stands : Stands code (here + 3) (ordinary (caught_code frame l.first) ++ lines.Jump (instruction_line program frames c.active.function l.handler) ∷ [])) where
     abbrev c0 : Configuration
@@ -150,7 +150,7 @@ module _ (program : Program) (well : IsWellFormed program) (frames : List Frame)
 
     -- ---- a handler is closed
 
-    -- the handler with a record
+    -- The innermost handler is the one with this record.
     record IsClosed (first : ℕ) (handlers : List Handler) : Type 0 where
       pub contents : Words
       pub rest : List Handler
@@ -231,14 +231,14 @@ module _ (program : Program) (well : IsWellFormed program) (frames : List Frame)
       stored : stage_of frames c ≡ under_way true
       stored = ap under_way (saves_at program frames fit c.active.function c.active.next (plain.Try first handler) s.known at_i refl)
 
-      -- the way back is in the frame
+      -- The frame contains the return address.
       s0 : Standing program frames addresses pages calls c r w base back (under_way true) c.active.slots
       s0 = subst (λ (x : Stage). Standing program frames addresses pages calls c r w base back x c.active.slots) stored s
 
       in_record : first + 4 ≤ slots
       in_record = in_range.record_in_range
 
-      -- a slot written by a register, and the word for the return address
+      -- A slot is written from a register, at its word in the frame.
       put_slot : (q : Words) (m : Contents) (there : Words) (slot word : ℕ) → slot < slots → Standing program frames addresses pages calls c q m base back (under_way true) there
           → Standing program frames addresses pages calls c q (written m (memory_address (q FRAME) (slot_offset frame slot)) word) base back (under_way true) (put there slot word)
       put_slot q m there slot word below stands =
@@ -266,7 +266,7 @@ module _ (program : Program) (well : IsWellFormed program) (frames : List Frame)
           put_slot r w1 (put c.active.slots first (r HANDLERS)) (first + 1) (r FRAME) (omega (arith, in_record))
           (put_slot r w c.active.slots first (r HANDLERS) (omega (arith, in_record)) s0)
 
-      -- where an exception comes to
+      -- The line at which an exception arrives.
       abbrev landing : ℕ
       landing = addresses (here + 2 + 1)
 
@@ -306,7 +306,7 @@ module _ (program : Program) (well : IsWellFormed program) (frames : List Frame)
       abbrev contents : Words
       contents = record_words (r HANDLERS) (r FRAME) (addresses (here + 2 + 1)) (c.active.slots (first + 3))
 
-      -- the last word of the record is not written
+      -- The last word of the handler's record is not written.
       last_word : IsWord (c.active.slots (first + 3))
       last_word =
           subst IsWord
@@ -365,11 +365,11 @@ module _ (program : Program) (well : IsWellFormed program) (frames : List Frame)
         middle = s.middle;
       }
 
-      abbrev behind : List Line
-      behind = lines.Call (here + 6 + reload_count frame) ∷ (ordinary (caught_code frame first) ++ lines.Jump (instruction_line program frames c.active.function handler) ∷ ordinary after)
+      abbrev following : List Line
+      following = lines.Call (here + 6 + reload_count frame) ∷ (ordinary (caught_code frame first) ++ lines.Jump (instruction_line program frames c.active.function handler) ∷ ordinary after)
 
-      call_stands : Stands code (here + 2) behind
-      call_stands = stands_back code here (ordinary before) behind stands
+      call_stands : Stands code (here + 2) following
+      call_stands = stands_back code here (ordinary before) following stands
 
       length_caught : length (ordinary (caught_code frame first)) ≡ 2 + reload_count frame
       length_caught = length_ordinary (caught_code frame first) ∙ (let e : suc (suc (length (reloads frame))) ≡ 2 + reload_count frame = omega (arith, length_reloads frame) in e)
@@ -379,7 +379,7 @@ module _ (program : Program) (well : IsWellFormed program) (frames : List Frame)
           subst (λ (n : ℕ). Stands code n (ordinary after)) (let e : here + 2 + 1 + length (ordinary (caught_code frame first)) + 1 ≡ here + 6 + reload_count frame = omega (arith, length_caught) in e)
           (stands_back code (here + 2 + 1) (ordinary (caught_code frame first)) (lines.Jump (instruction_line program frames c.active.function handler) ∷ ordinary after) call_stands.1).1
 
-      -- no slot with a register is one of the record
+      -- No slot with a register belongs to the record.
       record_apart : (slot : ℕ) → is_among first 4 slot ≡ false → copied contents 0 4 c.active.slots first slot ≡ c.active.slots slot
       record_apart slot apart = elim (not_among first 4 slot apart) [
         | inl below ↦ copied-below contents c.active.slots 0 4 first slot below
@@ -392,7 +392,7 @@ module _ (program : Program) (well : IsWellFormed program) (frames : List Frame)
           λ slot below. slot_cell program well frames fit addresses pages calls few c r w base back (under_way true) c.active.slots s0 slot below in
           walk_few code formed addresses globals_length (words_per_call * calls) 1 (2 + 1) here (here + (8 + reload_count frame)) c.output _ (Running run) (omega arith)
           (walk_block code formed addresses globals_length (words_per_call * calls) before 1 here here (here + (8 + reload_count frame)) c.output c.input _ r w run now
-          (stands_front code here (ordinary before) behind stands)
+          (stands_front code here (ordinary before) following stands)
           (frame_cell first (omega (arith, in_record)), (frame_cell (first + 1) (omega (arith, in_record)), tt)) (omega arith)
           (λ d recorded_now.
           walk_call code formed addresses globals_length (words_per_call * calls) 0 (here + 2) (here + 2) (here + (8 + reload_count frame)) c.output c.input _ r w2 d (here + 6 + reload_count frame) recorded_now call_stands.0 (omega arith) landing_word

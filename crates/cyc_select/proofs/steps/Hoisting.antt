@@ -1,4 +1,4 @@
--- The first line of a branch's target, in front of the branch: which line it is, and that it does there what it does at its place.
+-- The line hoisted before a branch: the first line of the target, which has the same effect before the branch as at its place.
 use Rattle.std.proofs.Common.{◌≡◌, ◌≢◌, ℕ, ◌+◌, ◌%◌, ◌^◌, ◌<◌, ◌≤◌, Bool, true, false, not, List, [], ◌∷◌, ◌++◌, Option, Some, None, slice_get, length, append_assoc, append-nil, refl, sym, ap, subst, ◌∙◌, arith, inl, inr}
 use Rattle.std.specs.Prelude.{◌⊎◌, ◌==◌, ◌&&◌, ◌||◌, nat_lt, nat_le, if◌then◌else◌}
 use Rattle.std.proofs.lemmas.Bool.{and_parts, or_cases, or_parts, eqb-true, eqb-false, ltb-true, leb-true, ne_eqb, false≢true, not-true}
@@ -9,12 +9,12 @@ use Rattle.cyc_isa.specs.Effect.{branch_taken, branch_zero_taken}
 use Rattle.cyc_isa.specs.declared.instr.Instr.{Instr}
 use Rattle.cyc_isa.specs.declared.instr.Instr.TheVariants.{Immediate, LoadUpper, Shift, ShiftVariable, Arithmetic}
 use Rattle.cyc_isa.specs.declared.instr.MemoryOp.TheVariants.{StoreWord}
-use Rattle.cyc_machine.specs.declared.constants.TheConstants.{ARGUMENT, GET_BYTE, PUT_BYTE, SERVICE}
-use Rattle.cyc_machine.specs.Run.{World, told, ending_of}
-use Rattle.cyc_machine.specs.Step.{after}
-use Rattle.cyc_machine.specs.declared.event.Event.TheVariants.{Ran}
-use Rattle.cyc_machine.specs.declared.phase.Phase.{Phase}
-use Rattle.cyc_machine.specs.declared.phase.Phase.TheVariants as phases
+use Rattle.cyc_machine_model.specs.declared.constants.TheConstants.{ARGUMENT, GET_BYTE, PUT_BYTE, SERVICE}
+use Rattle.cyc_machine_model.specs.Run.{World, reported, ending_of}
+use Rattle.cyc_machine_model.specs.Step.{after}
+use Rattle.cyc_machine_model.specs.declared.event.Event.TheVariants.{Ran}
+use Rattle.cyc_machine_model.specs.declared.phase.Phase.{Phase}
+use Rattle.cyc_machine_model.specs.declared.phase.Phase.TheVariants as phases
 use Rattle.cyc_plain.specs.declared.instruction.Instruction.{Instruction}
 use Rattle.cyc_plain.specs.declared.instruction.Instruction.TheVariants as plain
 use Rattle.cyc_plain.specs.declared.instruction.Operand.{Operand}
@@ -52,7 +52,7 @@ use Rattle.cyc_select.proofs.effects.Views.{Contents, does_r, does_w, IsSafe, Is
 use Rattle.cyc_select.proofs.effects.Sequences.{Stands}
 use Rattle.cyc_select.proofs.relation.Matches.{HasMore}
 
--- ---- a line that makes a word of what is in registers
+-- ---- a line that computes a register from registers
 
 module _ (globals stack : ℕ) where
   pub pure_safe : (x : Instr) (k : ℕ) (r : Words) → target_of x ≡ Some k → (k == 0) ≡ false → IsSafe globals stack x r
@@ -95,7 +95,7 @@ pure_performs (ShiftVariable op destination source by) k c is = (Ran, after (mac
 pure_performs (Arithmetic op destination left right) k c is = (Ran, after (machine_of c) (Arithmetic op destination left right), (refl, refl), refl)
 pure_performs x k c is = absurd (none-some k is)
 
--- a condition that does not ask for its register
+-- A condition that does not test the line's register is unaffected.
 pub holds_beside : (condition : Condition) (k : ℕ) (q p : Words) → tests_register condition k ≡ false → ((n : ℕ) → n ≢ k → q n ≡ p n) → holds_of q condition ≡ holds_of p condition
 holds_beside (conditions.Registers op left right) k q p untested others =
     let parts = or_parts (left.number == k) (right.number == k) untested in
@@ -103,9 +103,9 @@ holds_beside (conditions.Registers op left right) k q p untested others =
     ∙ ap (branch_taken op (p left.number)) (others right.number (eqb-false right.number k parts.1))
 holds_beside (conditions.Sign op source) k q p untested others = ap (branch_zero_taken op) (others source.number (eqb-false source.number k untested))
 
--- ---- it does the same, wherever it stands
+-- ---- the effect of a hoisted line is equal at either place
 
--- the configuration of a state that is under way
+-- The configuration of a running state.
 abbrev running_or : Configuration → State → Configuration
 running_or d (Running c) = c
 running_or d s = d
@@ -121,18 +121,18 @@ settled_there w line other (phases.Over end) d is = by (ending_of end) is
 
 performs_there : (i : Instr) (c d : Configuration) (label : ℕ) → Performs c i (Running d) → Performs (at c label) i (Running (at d (label + 1)))
 performs_there i c d label (event, after, acts, is) =
-    (event, after, acts, settled_there (told (world_of c) event after) (c.line + 1) (label + 1) _ d is)
+    (event, after, acts, settled_there (reported (world_of c) event after) (c.line + 1) (label + 1) _ d is)
 
--- in front of a branch it is a step from the place that the branch leads to
+-- Executed before the branch, the line is a step from the branch target.
 pub copy_steps : (code : Labelled) (addresses : ℕ → ℕ) (x : Instr) (k : ℕ) (c : Configuration) (label : ℕ) → target_of x ≡ Some k → slice_get code.lines label ≡ Some (lines.Ordinary x)
     → Step code addresses (Running (at c label)) (Running (at (moved c x) (label + 1)))
 copy_steps code addresses x k c label is stands =
     subst (λ (o : Option Line). ExecutesAt code addresses (at c label) o (Running (at (moved c x) (label + 1)))) (sym stands)
     (subst (λ (b : Bool). PerformsOrdinary b (at c label) x (Running (at (moved c x) (label + 1)))) (sym (pure_ordinary x k is)) (performs_there x c (moved c x) label (pure_performs x k c is)))
 
--- ---- which line it is
+-- ---- the first line of an instruction
 
--- these lines begin with that
+-- The instructions begin with `x`.
 abbrev pub Starts : List Instr → Instr → Type 0
 Starts is x = (rest : List Instr) × (is ≡ x ∷ rest)
 
@@ -161,30 +161,30 @@ word_code_starts target word x js same =
     starts_append (word_code target word) js x (subst (Starts (word_code target word)) (same_Some (word_first target word) x same) (word_starts target word))
 
 module _ (frame : Frame) where
-  operand_starts : (register : ℕ) (o : Operand) (behind : Option Instr) (js : List Instr) (x : Instr) → operand_first frame register o behind ≡ Some x → (behind ≡ Some x → Starts js x)
+  operand_starts : (register : ℕ) (o : Operand) (following : Option Instr) (js : List Instr) (x : Instr) → operand_first frame register o following ≡ Some x → (following ≡ Some x → Starts js x)
       → Starts (operand_code frame register o ++ js) x
-  operand_starts register (operands.Slot number) behind js x is behind_is = go (value_register frame number) is
+  operand_starts register (operands.Slot number) following js x is following_is = go (value_register frame number) is
     where
-      go : (v : Option ℕ) → slot_first v behind ≡ Some x → Starts (fetch_from v frame register number ++ js) x
+      go : (v : Option ℕ) → slot_first v following ≡ Some x → Starts (fetch_from v frame register number ++ js) x
       go None none = absurd (no_line x none)
-      go (Some own) rest = behind_is rest
-  operand_starts register (operands.Word word) behind js x is behind_is = go (is_zero_word (operands.Word word)) is
+      go (Some own) rest = following_is rest
+  operand_starts register (operands.Word word) following js x is following_is = go (is_zero_word (operands.Word word)) is
     where
-      go : (b : Bool) → (if b then behind else Some (word_first register word)) ≡ Some x → Starts ((if b then [] else word_code register word) ++ js) x
-      go true rest = behind_is rest
+      go : (b : Bool) → (if b then following else Some (word_first register word)) ≡ Some x → Starts ((if b then [] else word_code register word) ++ js) x
+      go true rest = following_is rest
       go false same = word_code_starts register word x js same
 
-  -- where nothing stands behind
+  -- Appending no instructions does not change the first one.
   starts_plain : (is : List Instr) (x : Instr) → Starts (is ++ []) x → Starts is x
   starts_plain is x starts = subst (λ (l : List Instr). Starts l x) (append-nil is) starts
 
-  operands_starts : (left right : Operand) (behind : Option Instr) (js : List Instr) (x : Instr) → operands_first frame left right behind ≡ Some x → (behind ≡ Some x → Starts js x)
+  operands_starts : (left right : Operand) (following : Option Instr) (js : List Instr) (x : Instr) → operands_first frame left right following ≡ Some x → (following ≡ Some x → Starts js x)
       → Starts (operands_code frame left right ++ js) x
-  operands_starts left right behind js x is behind_is =
+  operands_starts left right following js x is following_is =
       let front : List Instr = operand_code frame FIRST left in
       let second : List Instr = operand_code frame SECOND right in
       subst (λ (l : List Instr). Starts l x) (sym (append_assoc front second js))
-      (operand_starts FIRST left _ (second ++ js) x is (λ more. operand_starts SECOND right behind js x more behind_is))
+      (operand_starts FIRST left _ (second ++ js) x is (λ more. operand_starts SECOND right following js x more following_is))
 
   operation_starts : (operation : Operation) (target left right : ℕ) (x : Instr) → operation_first operation target left right ≡ Some x → Starts (operation_code operation target left right) x
   operation_starts (operations.Arithmetic op) target left right x is = starts_one _ x [] is
@@ -225,12 +225,12 @@ module _ (frame : Frame) where
   move_starts None destination o x is = operand_starts FIRST o None _ x is (λ none. absurd (no_line x none))
   move_starts (Some register) destination o x is = load_starts register o (keep_code frame destination) x is
 
--- with what stands in front of a branch itself
+-- The lines of a branch begin with the first line of its test, even if a line is hoisted.
 starts_hoisted : (is : List Instr) (first : Option Instr) (x : Instr) → Starts is x → Starts (with_hoisted is first) x
 starts_hoisted is None x starts = starts
 starts_hoisted is (Some y) x starts = starts_append is (y ∷ []) x starts
 
--- the lines of an instruction begin with its first
+-- The lines of an instruction begin with its first line.
 abbrev pub Begins : Program → List Frame → (function : ℕ) → Instruction → Instr → Type 0
 Begins program frames function i x = (line : ℕ) → (rest : List Line) × (body program frames function line i ≡ lines.Ordinary x ∷ rest)
 
@@ -268,9 +268,9 @@ first_begins program frames function (plain.StoreGlobal global source) x is line
     begins_so (operand_code frame FIRST source ++ js) x (operand_starts frame FIRST source None js x is (λ none. absurd (no_line x none)))
 first_begins program frames function i x is line = absurd (no_line x is)
 
--- ---- what is left behind it
+-- ---- the lines after the first one
 
--- these lines are some
+-- Instructions that begin with `x` are not empty.
 starts_some : (is : List Instr) (x : Instr) → Starts is x → 0 < length is
 starts_some is x (rest, same) = omega (arith, ap (λ (l : List Instr). length l) same)
 
@@ -286,7 +286,7 @@ leaves_more frame (plain.WriteByte source) x is = refl
 leaves_more frame (plain.StoreGlobal global source) x is = refl
 leaves_more frame i x is = absurd (no_line x is)
 
--- ---- the register of a slot whose word is made so
+-- ---- the register of the slot that an instruction computes
 
 pub record Gives (program : Program) (frames : List Frame) (function target : ℕ) (i : Instruction) (n : ℕ) : Type 0 where
   pub destination : ℕ
@@ -307,7 +307,7 @@ gives_own program frames function target i n is = go (fills_at (frame_at frames 
     go true fills given = of i fills given
     go false not_there given = absurd (none-some n given)
 
--- what is known of a line that stands in front of a branch with this condition to this place
+-- The properties of a line that is hoisted before a branch with this condition to this place.
 pub record Hoists (program : Program) (frames : List Frame) (function target : ℕ) (condition : Condition) (x : Instr) : Type 0 where
   pub i : Instruction
   pub at : slice_get (routine_at program function).code target ≡ Some i
@@ -320,7 +320,7 @@ pub record Hoists (program : Program) (frames : List Frame) (function target : �
   pub computes : target_of x ≡ Some register
   pub may : may_write condition own (Some register) ≡ true
 
--- what the check says of a line
+-- The hoisted line satisfies the check of the branch.
 abbrev Passes : Condition → (own : Option ℕ) → Instr → Type 0
 Passes condition own x = (register : ℕ) × (target_of x ≡ Some register) × (may_write condition own (Some register) ≡ true)
 
@@ -367,11 +367,11 @@ pub hoists : (program : Program) (frames : List Frame) (function target : ℕ) (
 hoists program frames function target test x is =
     of_place program frames function target (condition_of (frame_at frames function) test) x (slice_get (routine_at program function).code target) refl is
 
--- it stands at its place
+-- The first line of a piece of code is at the piece's line number.
 pub stands_at_head : (code : Labelled) (k : ℕ) (ls rest : List Line) (l : Line) → ls ≡ l ∷ rest → Stands code k ls → slice_get code.lines k ≡ Some l
 stands_at_head code k ls rest l same stands = (subst (Stands code k) same stands).0
 
--- ---- the register that it writes
+-- ---- the register that the line writes
 
 module _ (condition : Condition) (own : Option ℕ) (register : ℕ) (may : may_write condition own (Some register) ≡ true) where
   parts : ((is_spare register || is_own own register) ≡ true) × (not (tests_register condition register) ≡ true)
@@ -398,7 +398,7 @@ module _ (condition : Condition) (own : Option ℕ) (register : ℕ) (may : may_
     | inr is ↦ inr (own_is own is)
   ]
 
-  -- where a slot may have it, it is that of the slot whose word is made
+  -- If a slot can have the register, it is the register of the slot that the instruction computes.
   pub of_value : (n : ℕ) → 6 ≤ n → n < 24 → n ≡ register → own ≡ Some n
   of_value n low high same = elim which [
     | inl (inl first) ↦ absurd (omega (arith, first, same, high))

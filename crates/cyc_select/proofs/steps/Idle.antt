@@ -1,4 +1,4 @@
--- An idle instruction: the run below stays where it is, which matches the state behind it.
+-- An idle instruction: the labelled machine stays at its state, which matches the plain state after the instruction.
 use Rattle.std.proofs.Common.{◌≡◌, ◌≢◌, ℕ, zero, suc, ◌+◌, ◌-◌, ◌*◌, ◌<◌, ◌≤◌, Bool, true, false, List, length, Some, refl, sym, ap, subst, ◌∙◌, arith, inl, inr}
 use Rattle.std.specs.Prelude.{◌⊎◌, ◌==◌, if◌then◌else◌}
 use Rattle.std.proofs.lemmas.Bool.{cases_Bool, cases_eq, cond-false, eq-eqb, false≢true, or_left}
@@ -7,7 +7,7 @@ use Rattle.cyc_words.proofs.Lists.{slice_get_below}
 use Rattle.cyc_words.proofs.Members.{All_at}
 use Rattle.cyc_words.proofs.Numbers.{eqb_other, eqb_itself, eqb_next}
 use Rattle.cyc_plain.specs.inside.Uses.{is_among, writes, leads}
-use Rattle.cyc_machine.specs.State.{globals_length, words_per_call}
+use Rattle.cyc_machine_model.specs.State.{globals_length, words_per_call}
 use Rattle.cyc_plain.specs.declared.instruction.Instruction.{Instruction}
 use Rattle.cyc_plain.specs.declared.instruction.Instruction.TheVariants as plain
 use Rattle.cyc_plain.specs.declared.instruction.BinaryOperator.{BinaryOperator}
@@ -34,7 +34,7 @@ use Rattle.cyc_select.specs.inside.Labelled.{Labelled, IsFormed}
 use Rattle.cyc_select.specs.inside.Machine.{State}
 use Rattle.cyc_select.specs.inside.Slots.{value_register}
 use Rattle.cyc_select.specs.inside.Hoisting.{is_idle}
-use Rattle.cyc_select.specs.inside.Counts.{instruction_line, behind_count, body_count}
+use Rattle.cyc_select.specs.inside.Counts.{instruction_line, after_count, body_count}
 use Rattle.cyc_select.proofs.effects.Walks.{now_at}
 use Rattle.cyc_select.proofs.layout.Lines.{line_next}
 use Rattle.cyc_select.proofs.relation.Matches.{Ready, Passed, steps_to, within}
@@ -53,25 +53,25 @@ module _ (program : Program) (well : IsWellFormed program) (frames : List Frame)
   right : AreHomes program (routine_at program c.active.function) (frame_at frames c.active.function).saved (frame_at frames c.active.function).homes
   right = fit.homes c.active.function ready.standing.known
 
-  -- an idle place has no line of its own
+  -- An idle place has no line of its own.
   no_line : (index : ℕ) (i : Instruction) → instruction_at program (record { function = c.active.function; index = index }) ≡ Some i → is_idle (frame_at frames c.active.function) index i ≡ true
-      → behind_count program frames c.active.function i ≡ 0 → instruction_line program frames c.active.function index ≡ instruction_line program frames c.active.function (index + 1)
+      → after_count program frames c.active.function i ≡ 0 → instruction_line program frames c.active.function index ≡ instruction_line program frames c.active.function (index + 1)
   no_line index i at_i idle none =
-      let counted = ap (λ (b : Bool). (if b then 0 else body_count program frames c.active.function i) + behind_count program frames c.active.function i) idle in
+      let counted = ap (λ (b : Bool). (if b then 0 else body_count program frames c.active.function i) + after_count program frames c.active.function i) idle in
       omega (arith, line_next program frames c.active.function index i at_i, counted, none)
 
-  -- the same call at an instruction further on, with such slots
-  abbrev behind_it : (to : ℕ) → Words → Configuration
-  behind_it to slots' = at (with_slots c slots') to
+  -- The configuration with its call at a later instruction, with the given slots.
+  abbrev after_it : (to : ℕ) → Words → Configuration
+  after_it to slots' = at (with_slots c slots') to
 
   passes_to : (to : ℕ) → c.active.next < to → (i : Instruction) → IsAt i → calls_nothing i ≡ true
       → instruction_line program frames c.active.function c.active.next ≡ instruction_line program frames c.active.function to
-      → (slots' : Words) → performed program zeros c i ≡ states.Running (behind_it to slots')
+      → (slots' : Words) → performed program zeros c i ≡ states.Running (after_it to slots')
       → Standing program frames addresses pages calls c ready.r ready.w ready.base ready.back (stage_of frames c) slots'
       → Caches program frames c.active.function to ready.r slots'
       → Passes
   passes_to to further i at_i free line slots' does standing caches =
-      let d : Configuration = behind_it to slots' in
+      let d : Configuration = after_it to slots' in
       let there = standing_at program well frames fit addresses pages calls few c ready.r ready.w ready.base ready.back (stage_of frames c) slots' standing d refl refl refl refl refl refl ready.standing.input in (
         states.Running d,
         steps_to program well frames fit code formed addresses pages calls few c zeros i (states.Running d) (zeros_at program c i at_i free) at_i does
@@ -90,15 +90,15 @@ module _ (program : Program) (well : IsWellFormed program) (frames : List Frame)
         omega (arith, further, below_from_slice_get (routine_at program c.active.function).code c.active.next i at_i),
       )
 
-  passes_with : (i : Instruction) → IsAt i → calls_nothing i ≡ true → is_idle (frame_at frames c.active.function) c.active.next i ≡ true → behind_count program frames c.active.function i ≡ 0
-      → (slots' : Words) → performed program zeros c i ≡ states.Running (behind_it (c.active.next + 1) slots')
+  passes_with : (i : Instruction) → IsAt i → calls_nothing i ≡ true → is_idle (frame_at frames c.active.function) c.active.next i ≡ true → after_count program frames c.active.function i ≡ 0
+      → (slots' : Words) → performed program zeros c i ≡ states.Running (after_it (c.active.next + 1) slots')
       → Standing program frames addresses pages calls c ready.r ready.w ready.base ready.back (stage_of frames c) slots'
       → Caches program frames c.active.function (c.active.next + 1) ready.r slots'
       → Passes
   passes_with i at_i free idle none = passes_to (c.active.next + 1) (omega arith) i at_i free (no_line c.active.next i at_i idle none)
 
-  -- a slot that nothing asks for gets a word
-  passes_unused : (i : Instruction) → IsAt i → calls_nothing i ≡ true → is_idle (frame_at frames c.active.function) c.active.next i ≡ true → behind_count program frames c.active.function i ≡ 0
+  -- The match is kept if a dead slot is written.
+  passes_unused : (i : Instruction) → IsAt i → calls_nothing i ≡ true → is_idle (frame_at frames c.active.function) c.active.next i ≡ true → after_count program frames c.active.function i ≡ 0
       → (destination word : ℕ) → IsUnused program (routine_at program c.active.function) (frame_at frames c.active.function).homes c.active.next destination
       → ((slot : ℕ) → slot ≢ destination → writes program i slot ≡ false) → leads i c.active.next (c.active.next + 1) ≡ true
       → performed program zeros c i ≡ gives c destination word
@@ -115,7 +115,7 @@ module _ (program : Program) (well : IsWellFormed program) (frames : List Frame)
             ∙ sym (put-other c.active.slots destination slot word other)
       ])
 
-  -- slots that nothing asks for get words that others have
+  -- The match is kept if dead slots are written by a move of several words.
   passes_unused_words : (destination source count : ℕ) → IsAt (plain.MoveWords destination source count) → is_idle (frame_at frames c.active.function) c.active.next (plain.MoveWords destination source count) ≡ true
       → ((slot : ℕ) → is_among destination count slot ≡ true → IsUnused program (routine_at program c.active.function) (frame_at frames c.active.function).homes c.active.next slot)
       → Passes
@@ -141,8 +141,8 @@ module _ (program : Program) (well : IsWellFormed program) (frames : List Frame)
       unmoved slot other =
           cond-false (is_among destination count slot) (c.active.slots (source + (slot - destination))) (c.active.slots slot) other
 
-  -- no slot changes
-  passes_same : (i : Instruction) → IsAt i → calls_nothing i ≡ true → is_idle (frame_at frames c.active.function) c.active.next i ≡ true → behind_count program frames c.active.function i ≡ 0
+  -- The match is kept if no slot changes.
+  passes_same : (i : Instruction) → IsAt i → calls_nothing i ≡ true → is_idle (frame_at frames c.active.function) c.active.next i ≡ true → after_count program frames c.active.function i ≡ 0
       → ((slot : ℕ) → writes program i slot ≡ false) → leads i c.active.next (c.active.next + 1) ≡ true
       → performed program zeros c i ≡ states.Running (at c (c.active.next + 1))
       → Passes
@@ -151,7 +151,7 @@ module _ (program : Program) (well : IsWellFormed program) (frames : List Frame)
       (caches_past program frames c.active.function right c.active.next (c.active.next + 1) ready.r ready.r c.active.slots c.active.slots i at_i led
       (λ slot k has. unwritten slot) (λ slot k has. refl) (λ n low high. refl) ready.caches)
 
-  -- a slot gets its own word
+  -- A write of a slot's own word changes nothing.
   own_word : (destination slot : ℕ) → put c.active.slots destination (c.active.slots destination) slot ≡ c.active.slots slot
   own_word destination slot = elim (cases_eq slot destination) [
     | inl same ↦ ap (put c.active.slots destination (c.active.slots destination)) same ∙ (put-same c.active.slots destination (c.active.slots destination) ∙ ap c.active.slots (sym same))
@@ -164,7 +164,7 @@ module _ (program : Program) (well : IsWellFormed program) (frames : List Frame)
   passes_itself : (destination : ℕ) → IsAt (plain.Move destination (operands.Slot destination)) → is_idle (frame_at frames c.active.function) c.active.next (plain.Move destination (operands.Slot destination)) ≡ true → Passes
   passes_itself destination at_i idle =
       passes_with (plain.Move destination (operands.Slot destination)) at_i refl idle refl c.active.slots
-      (ap (λ (x : Words). states.Running (behind_it (c.active.next + 1) x)) (own_words destination)) ready.standing
+      (ap (λ (x : Words). states.Running (after_it (c.active.next + 1) x)) (own_words destination)) ready.standing
       (λ slot k has wanted. elim (cases_eq slot destination) [
         | inl same ↦ ready.caches slot k has (0, (plain.Move destination (operands.Slot destination), at_i, eq-eqb destination slot (sym same)))
         | inr other ↦
@@ -172,7 +172,7 @@ module _ (program : Program) (well : IsWellFormed program) (frames : List Frame)
             (live_earlier program frames c.active.function right c.active.next (c.active.next + 1) slot (plain.Move destination (operands.Slot destination)) at_i (eqb_next c.active.next) (eqb_other destination slot other) wanted)
       ])
 
-  -- a slot gets a word that its register has already
+  -- The match is kept if a slot receives a word that its register already holds.
   passes_there : (destination number register : ℕ) → IsAt (plain.Move destination (operands.Slot number)) → is_idle (frame_at frames c.active.function) c.active.next (plain.Move destination (operands.Slot number)) ≡ true
       → homing.home_of (frame_at frames c.active.function).homes destination ≡ homes.Register register → value_register (frame_at frames c.active.function) number ≡ Some register → Passes
   passes_there destination number register at_i idle home has =
@@ -199,13 +199,13 @@ module _ (program : Program) (well : IsWellFormed program) (frames : List Frame)
   never_holds comparison (operands.Slot left) other never = absurd never
   never_holds comparison (operands.Word left) (operands.Slot other) never = absurd never
 
-  -- the kinds of instructions that idle places have
+  -- An idle place has an instruction that writes only unused slots, or jumps over idle places.
   idle_kind : (index : ℕ) (i : Instruction) → instruction_at program (record { function = c.active.function; index = index }) ≡ Some i → idle_at (frame_at frames c.active.function).idle index ≡ true
-      → (is_idle (frame_at frames c.active.function) index i ≡ true) × (behind_count program frames c.active.function i ≡ 0)
+      → (is_idle (frame_at frames c.active.function) index i ≡ true) × (after_count program frames c.active.function i ≡ 0)
   idle_kind index i at_i is = go i (fit.idle c.active.function ready.standing.known index i at_i is)
     where
       go : (j : Instruction) → IsIdle program (routine_at program c.active.function) (frame_at frames c.active.function).homes (frame_at frames c.active.function).idle index j
-          → (is_idle (frame_at frames c.active.function) index j ≡ true) × (behind_count program frames c.active.function j ≡ 0)
+          → (is_idle (frame_at frames c.active.function) index j ≡ true) × (after_count program frames c.active.function j ≡ 0)
       go (plain.Move destination source) idle = (is, refl)
       go (plain.MoveWords destination source count) idle = (is, refl)
       go (plain.Unary operator destination operand) idle = (is, refl)
@@ -214,7 +214,7 @@ module _ (program : Program) (well : IsWellFormed program) (frames : List Frame)
       go (plain.Branch comparison left right_operand target) idle = (is, refl)
       go j idle = absurd idle
 
-  -- idle places have no lines
+  -- Idle places have no lines.
   no_lines : (first count : ℕ) → first + count ≤ length (routine_at program c.active.function).code → AreIdleFrom (frame_at frames c.active.function).idle first (first + count)
       → instruction_line program frames c.active.function first ≡ instruction_line program frames c.active.function (first + count)
   no_lines first zero inside idle = let e : first ≡ first + 0 = omega arith in ap (instruction_line program frames c.active.function) e

@@ -1,12 +1,12 @@
--- A return: the way back comes from the frame first, where the function keeps it there.
+-- A return: the return address is restored from the frame first, if the function saved it.
 use Rattle.std.proofs.Common.{◌≡◌, ℕ, ◌+◌, ◌*◌, ◌<◌, ◌≤◌, Bool, true, false, List, [], ◌∷◌, ◌++◌, Some, refl, sym, ap, subst, ◌∙◌, arith, Option, None}
 use Rattle.std.specs.Prelude.{◌==◌, if◌then◌else◌}
 use Rattle.std.proofs.lemmas.Bool.{false≢true}
 use Rattle.cyc_plain.specs.inside.Uses.{is_among, reads}
 use Rattle.cyc_select.specs.declared.constants.TheConstants.{FRAME}
-use Rattle.cyc_machine.specs.declared.constants.TheConstants.{RETURN_ADDRESS}
+use Rattle.cyc_machine_model.specs.declared.constants.TheConstants.{RETURN_ADDRESS}
 use Rattle.cyc_isa.specs.Effect.{memory_address}
-use Rattle.cyc_machine.specs.State.{globals_length, words_per_call}
+use Rattle.cyc_machine_model.specs.State.{globals_length, words_per_call}
 use Rattle.cyc_plain.specs.declared.instruction.Instruction.{Instruction}
 use Rattle.cyc_plain.specs.declared.instruction.Instruction.TheVariants as plain
 use Rattle.cyc_plain.specs.inside.Program.{Program, routine_at}
@@ -33,12 +33,12 @@ use Rattle.cyc_select.proofs.relation.Values.{Caches, among}
 use Rattle.cyc_select.proofs.effects.Views.{Contents}
 use Rattle.cyc_select.proofs.effects.Sequences.{Stands}
 use Rattle.cyc_select.proofs.effects.Walks.{Walk, walk_few, walk_block}
-use Rattle.cyc_select.proofs.relation.Waiting.{IsBack, behind_line}
+use Rattle.cyc_select.proofs.relation.Waiting.{IsBack, after_line}
 use Rattle.cyc_select.proofs.relation.Standing.{stage_of, Standing, return_cell, return_address, standing_registers}
 use Rattle.cyc_select.proofs.relation.Matches.{After, At, Reached}
 use Rattle.cyc_select.proofs.steps.Returns.{loaded, returning_goes}
 
--- a word is held as before where another register changes
+-- A word is held as before if another register changes.
 held_aside : (globals stack : ℕ) (frame : Frame) (r : Words) (w : Contents) (slots : Words) (slot word : ℕ) (o : Option ℕ) → HeldIn globals stack o frame (r FRAME) w r slots slot
     → HeldIn globals stack o frame (put r RETURN_ADDRESS word FRAME) w (put r RETURN_ADDRESS word) slots slot
 held_aside globals stack frame r w slots slot word None held = held
@@ -54,7 +54,7 @@ module _ (program : Program) (well : IsWellFormed program) (frames : List Frame)
     (does : performed program zeros c i ≡ returns c value (routine_at program c.active.function).results c.frames) (none_open : c.active.handlers ≡ [])
     (in_range : HasSlots (routine_at program c.active.function) value (routine_at program c.active.function).results)
     (returns_to : (function index callee arguments count result : ℕ) → instruction_at program (record { function = function; index = index }) ≡ Some (plain.Call callee arguments count result)
-    → IsReturnPoint code (behind_line program frames function index callee arguments count result))
+    → IsReturnPoint code (after_line program frames function index callee arguments count result))
     (stands : Stands code (instruction_line program frames c.active.function c.active.next) (returning_code (c.active.function == program.main) (frame_at frames c.active.function) (instruction_line program frames c.active.function c.active.next) value (routine_at program c.active.function).results)) where
   abbrev here : ℕ
   here = instruction_line program frames c.active.function c.active.next
@@ -71,13 +71,13 @@ module _ (program : Program) (well : IsWellFormed program) (frames : List Frame)
   abbrev Goes : (least lo hi : ℕ) → State → Type 0
   Goes least lo hi t = Walk code formed addresses globals_length (words_per_call * calls) least lo hi c.output (After program pages calls c) (Reached program well frames fit code formed addresses pages calls few c) t
 
-  -- what is returned is live here
+  -- The returned slots are live at the return.
   returned_held : (slot : ℕ) → value ≤ slot → slot < value + results → HeldIn globals_length (words_per_call * calls) (value_register frame slot) frame (r FRAME) w r c.active.slots slot
   returned_held slot from below =
       slot_held program well frames fit code formed addresses pages calls few c run r w base back now s caches (value_register frame slot) slot refl (omega (arith, below, in_range))
       (0, (i, at_i, needs slot (among value results slot from below)))
 
-  -- the lines behind the one that brings the way back
+  -- The lines after the one that restores the return address.
   abbrev rest : ℕ → List Line
   rest line = ending_code (c.active.function == program.main) frame line value ++ ordinary (loaded frame value results) ++ lines.Return ∷ []
 

@@ -1,11 +1,11 @@
--- Words that are moved from slots to slots one by one.
+-- Words moved from slots to slots one by one.
 use Rattle.std.proofs.Common.{◌≡◌, ◌≢◌, ℕ, zero, suc, ◌+◌, ◌-◌, ◌*◌, ◌%◌, ◌<◌, ◌≤◌, Bool, true, false, List, [], ◌∷◌, ◌++◌, Option, Some, None, refl, sym, ap, subst, ◌∙◌, arith, inl, inr}
 use Rattle.std.specs.Prelude.{if◌then◌else◌, nat_lt}
 use Rattle.std.proofs.lemmas.Bool.{cases_lt, ne_eqb, and_cases, ltb-false}
 use Rattle.cyc_registers.specs.inside.Bars.{is_crossing}
 use Rattle.cyc_select.specs.declared.constants.TheConstants.{FIRST, FRAME}
-use Rattle.cyc_machine.specs.declared.constants.TheConstants.{RETURN_ADDRESS}
-use Rattle.cyc_machine.specs.State.{globals_length, words_per_call}
+use Rattle.cyc_machine_model.specs.declared.constants.TheConstants.{RETURN_ADDRESS}
+use Rattle.cyc_machine_model.specs.State.{globals_length, words_per_call}
 use Rattle.cyc_words.specs.Word.{IsWord}
 use Rattle.cyc_isa.specs.declared.instr.Instr.{Instr}
 use Rattle.cyc_isa.specs.Effect.{memory_address}
@@ -30,25 +30,25 @@ use Rattle.cyc_select.proofs.effects.Sequences.{after_r, after_w, after_r-append
 
 -- ---- slots
 
--- the slots then
+-- The slots after the moves.
 abbrev pub moved : Words → (destination source count : ℕ) → Words
 moved x destination source zero = x
 moved x destination source (suc count) = moved (put x destination (x source)) (suc destination) (suc source) count
 
--- no slot gets a word from which one is still to be moved
+-- No move overwrites a source that is still to be moved.
 abbrev pub IsAhead : (destination source count : ℕ) → Type 0
 IsAhead destination source count = (i j : ℕ) → i < j → j < count → source + j ≢ destination + i
 
 pub is_ahead : (destination source count : ℕ) → is_crossing destination source count ≡ false → IsAhead destination source count
 is_ahead destination source count apart i j before below same = elim (and_cases (nat_lt source destination) (nat_lt (destination - source) count) apart) [
-  | inl not_behind ↦ absurd (omega (arith, ltb-false source destination not_behind, same, before))
+  | inl not_after ↦ absurd (omega (arith, ltb-false source destination not_after, same, before))
   | inr far ↦ absurd (omega (arith, ltb-false (destination - source) count far, same, before, below))
 ]
 
-ahead_behind : (destination source count : ℕ) → IsAhead destination source (suc count) → IsAhead (suc destination) (suc source) count
-ahead_behind destination source count ahead i j before below same = ahead (suc i) (suc j) (omega (arith, before)) (omega (arith, below)) (omega (arith, same))
+ahead_after : (destination source count : ℕ) → IsAhead destination source (suc count) → IsAhead (suc destination) (suc source) count
+ahead_after destination source count ahead i j before below same = ahead (suc i) (suc j) (omega (arith, before)) (omega (arith, below)) (omega (arith, same))
 
--- the next words to be moved are as before
+-- Moving one word leaves the words still to be moved unchanged.
 next_same : (x : Words) (destination source count : ℕ) → IsAhead destination source (suc count) → (j : ℕ) → j < count
     → put x destination (x source) (suc source + j) ≡ x (source + suc j)
 next_same x destination source count ahead j below =
@@ -79,10 +79,10 @@ moved_inside x destination source (suc count) zero ahead below =
 moved_inside x destination source (suc count) (suc k) ahead below =
     let to : destination + suc k ≡ suc destination + k = omega arith in
     ap (moved (put x destination (x source)) (suc destination) (suc source) count) to
-    ∙ (moved_inside (put x destination (x source)) (suc destination) (suc source) count k (ahead_behind destination source count ahead) (omega (arith, below))
+    ∙ (moved_inside (put x destination (x source)) (suc destination) (suc source) count k (ahead_after destination source count ahead) (omega (arith, below))
     ∙ next_same x destination source count ahead k (omega (arith, below)))
 
--- one by one they come to where they would come together
+-- Moving the words one by one equals copying them at once.
 pub moved_copied : (x : Words) (destination source count : ℕ) → IsAhead destination source count → (number : ℕ)
     → moved x destination source count number ≡ copied x source count x destination number
 moved_copied x destination source count ahead number = elim (cases_lt number destination) [
@@ -99,7 +99,7 @@ moved_copied x destination source count ahead number = elim (cases_lt number des
   ]
 ]
 
--- ---- the lines
+-- ---- lines of the moves
 
 module _ (program : Program) (well : IsWellFormed program) (frames : List Frame) (fit : AreFrames program frames) (addresses : ℕ → ℕ) (pages calls : ℕ) (few : calls ≤ 4096)
     (c : Configuration) (base back : ℕ) (in_frame : Bool) (right : AreHomes program (routine_at program c.active.function) (frame_at frames c.active.function).saved (frame_at frames c.active.function).homes) where
@@ -115,7 +115,7 @@ module _ (program : Program) (well : IsWellFormed program) (frames : List Frame)
   abbrev pub StandsWith : (q : Words) (m : Contents) (x : Words) → Type 0
   StandsWith q m x = Standing program frames addresses pages calls c q m base back (under_way in_frame) x
 
-  -- what a block has done that gives a slot a word
+  -- The effect of a block that writes a slot.
   record HasGiven (is : List Instr) (destination word : ℕ) (q : Words) (m : Contents) (x : Words) : Type 0 where
     pub safe : AreSafe globals_length (words_per_call * calls) is q m
     pub standing : StandsWith (after_r is q m) (after_w is q m) (put x destination word)
@@ -124,7 +124,7 @@ module _ (program : Program) (well : IsWellFormed program) (frames : List Frame)
     pub given : (k : ℕ) → value_register (frame_at frames c.active.function) destination ≡ Some k → after_r is q m k ≡ word
     pub others : (n : ℕ) → 6 ≤ n → n < 24 → (value_register (frame_at frames c.active.function) destination ≡ Some n → ⊥) → after_r is q m n ≡ q n
 
-  -- a register into the slot's word in memory, where it lives there
+  -- Stores a register in the slot's word, if its home includes memory.
   abbrev stored : Bool → (register destination : ℕ) → List Instr
   stored b register destination = if b then store_slot (frame_at frames c.active.function) register destination ∷ [] else []
 
@@ -148,7 +148,7 @@ module _ (program : Program) (well : IsWellFormed program) (frames : List Frame)
         (standing_slot program well frames fit addresses pages calls few c q m base back (under_way in_frame) x s destination word below)
     stored_stands false register word kept result = standing_unkept program well frames fit addresses pages calls few c q m base back (under_way in_frame) x s destination word kept
 
-  -- a block that leaves a word in a register, and the store of it
+  -- A block that computes a word in a register, followed by the store of it.
   block_gives : (q : Words) (m : Contents) (x : Words) → StandsWith q m x → (destination : ℕ) → destination < (routine_at program c.active.function).slots
       → (is : List Instr) (register but word : ℕ) → Keeps globals_length (words_per_call * calls) is q m but → after_r is q m (register % 32) ≡ word
       → (b : Bool) → is_kept (frame_at frames c.active.function) destination ≡ b
@@ -185,7 +185,7 @@ module _ (program : Program) (well : IsWellFormed program) (frames : List Frame)
       → (value_register (frame_at frames c.active.function) destination ≡ Some n → ⊥) → n ≢ made_in (frame_at frames c.active.function) destination % 32
   made_aside destination k n has other e = other (has ∙ ap Some (let f : k ≡ n = omega (arith, e, made_here destination k has) in f))
 
-  -- one word
+  -- The code that moves one word is correct.
   one_moved : (q : Words) (m : Contents) (x : Words) → StandsWith q m x → (destination source : ℕ) → destination < (routine_at program c.active.function).slots → source < (routine_at program c.active.function).slots
       → ((k : ℕ) → value_register (frame_at frames c.active.function) source ≡ Some k → q k ≡ x source) → IsWord (x source)
       → HasGiven (move_to (value_register (frame_at frames c.active.function) destination) (frame_at frames c.active.function) destination (operands.Slot source)) destination (x source) q m x
@@ -224,25 +224,25 @@ module _ (program : Program) (well : IsWellFormed program) (frames : List Frame)
           (is_kept (frame_at frames c.active.function) destination) refl
           (λ j there. ap (after_r is q m) (made_here destination j there) ∙ puts.result) (λ n n_low n_high other. made_aside destination k n has other)
 
-  -- all of them
+  -- The code that moves several words is correct.
   pub record AreMoved (destination source count : ℕ) (q : Words) (m : Contents) (x : Words) : Type 0 where
     pub safe : AreSafe globals_length (words_per_call * calls) (moves (frame_at frames c.active.function) destination source count) q m
     pub standing : StandsWith (after_r (moves (frame_at frames c.active.function) destination source count) q m) (after_w (moves (frame_at frames c.active.function) destination source count) q m) (moved x destination source count)
     pub back_same : after_r (moves (frame_at frames c.active.function) destination source count) q m RETURN_ADDRESS ≡ q RETURN_ADDRESS
-    -- each register that only one of the slots has which get words got that word; one that none has is as before
+    -- A register that exactly one destination has contains that destination's word; a register that none has is unchanged.
     pub given : (i k : ℕ) → i < count → value_register (frame_at frames c.active.function) (destination + i) ≡ Some k
         → ((j : ℕ) → j < count → value_register (frame_at frames c.active.function) (destination + j) ≡ Some k → i ≡ j)
         → after_r (moves (frame_at frames c.active.function) destination source count) q m k ≡ x (source + i)
     pub others : (n : ℕ) → 6 ≤ n → n < 24 → ((i : ℕ) → i < count → value_register (frame_at frames c.active.function) (destination + i) ≡ Some n → ⊥)
         → after_r (moves (frame_at frames c.active.function) destination source count) q m n ≡ q n
 
-  -- no register that gets a word has one that is still to be moved
+  -- No written register holds a word that is still to be moved.
   abbrev pub AreApart : (destination source count : ℕ) → Type 0
   AreApart destination source count =
       (i j k : ℕ) → i < j → j < count → value_register (frame_at frames c.active.function) (destination + i) ≡ Some k
       → value_register (frame_at frames c.active.function) (source + j) ≡ Some k → ⊥
 
-  -- the registers have the words that are to be moved
+  -- The registers hold the words to be moved.
   abbrev pub AreCached : (source count : ℕ) (q x : Words) → Type 0
   AreCached source count q x =
       (j k : ℕ) → j < count → value_register (frame_at frames c.active.function) (source + j) ≡ Some k → q k ≡ x (source + j)
@@ -271,12 +271,12 @@ module _ (program : Program) (well : IsWellFormed program) (frames : List Frame)
       let q1 : Words = after_r is q m in
       let m1 : Contents = after_w is q m in
       let x1 : Words = put x destination (x source) in
-      let rest = are_moved (suc destination) (suc source) count q1 m1 x1 one.standing (omega (arith, to)) (omega (arith, from)) (ahead_behind destination source count ahead)
-      (λ i j k before below has there. apart (suc i) (suc j) k (omega (arith, before)) (omega (arith, below)) (behind_is destination i k has) (behind_is source j k there))
+      let rest = are_moved (suc destination) (suc source) count q1 m1 x1 one.standing (omega (arith, to)) (omega (arith, from)) (ahead_after destination source count ahead)
+      (λ i j k before below has there. apart (suc i) (suc j) k (omega (arith, before)) (omega (arith, below)) (following_is destination i k has) (following_is source j k there))
       (λ j k below has.
       one.others k (right.low (suc source + j) k has) (right.high (suc source + j) k has)
-      (λ there. apart 0 (suc j) k (omega arith) (omega (arith, below)) (ap register_at (let e : destination + 0 ≡ destination = omega arith in e) ∙ there) (behind_is source j k has))
-      ∙ (cached (suc j) k (omega (arith, below)) (behind_is source j k has) ∙ sym (next_same x destination source count ahead j below)))
+      (λ there. apart 0 (suc j) k (omega arith) (omega (arith, below)) (ap register_at (let e : destination + 0 ≡ destination = omega arith in e) ∙ there) (following_is source j k has))
+      ∙ (cached (suc j) k (omega (arith, below)) (following_is source j k has) ∙ sym (next_same x destination source count ahead j below)))
       (λ j below. subst IsWord (sym (next_same x destination source count ahead j below)) (fits (suc j) (omega (arith, below)))) in
       let registers : after_r (is ++ js) q m ≡ after_r js q1 m1 = after_r-append is js q m in
       let same : (n : ℕ) → after_r (is ++ js) q m n ≡ after_r js q1 m1 n = λ n. ap (λ (p : Words). p n) registers in
@@ -289,12 +289,12 @@ module _ (program : Program) (well : IsWellFormed program) (frames : List Frame)
         given = given_at destination source count q1 m1 x1 x rest (after_r (is ++ js) q m) same one.given (λ j below. next_same x destination source count ahead j below);
         others = λ n low high none.
             same n
-            ∙ (rest.others n low high (λ i below there. none (suc i) (omega (arith, below)) (behind_is destination i n there))
+            ∙ (rest.others n low high (λ i below there. none (suc i) (omega (arith, below)) (following_is destination i n there))
             ∙ one.others n low high (λ there. none 0 (omega arith) (ap register_at (let e : destination + 0 ≡ destination = omega arith in e) ∙ there)));
       }
     where
-      behind_is : (first i k : ℕ) → register_at (suc first + i) ≡ Some k → register_at (first + suc i) ≡ Some k
-      behind_is first i k has = ap register_at (let e : first + suc i ≡ suc first + i = omega arith in e) ∙ has
+      following_is : (first i k : ℕ) → register_at (suc first + i) ≡ Some k → register_at (first + suc i) ≡ Some k
+      following_is first i k has = ap register_at (let e : first + suc i ≡ suc first + i = omega arith in e) ∙ has
 
       given_at : (destination source count : ℕ) (q1 : Words) (m1 : Contents) (x1 x : Words) → AreMoved (suc destination) (suc source) count q1 m1 x1
           → (p : Words) → ((n : ℕ) → p n ≡ after_r (moves (frame_at frames c.active.function) (suc destination) (suc source) count) q1 m1 n)
@@ -305,10 +305,10 @@ module _ (program : Program) (well : IsWellFormed program) (frames : List Frame)
           let own : register_at destination ≡ Some k = ap register_at here ∙ has in
           same k
           ∙ (rest.others k (right.low destination k own) (right.high destination k own)
-          (λ i i_below there. absurd (let e = alone (suc i) (omega (arith, i_below)) (behind_is destination i k there) in omega (arith, e)))
+          (λ i i_below there. absurd (let e = alone (suc i) (omega (arith, i_below)) (following_is destination i k there) in omega (arith, e)))
           ∙ (first k own ∙ ap x (let e : source ≡ source + 0 = omega arith in e)))
       given_at destination source count q1 m1 x1 x rest p same first next (suc i) k below has alone =
           same k
           ∙ (rest.given i k (omega (arith, below)) (ap register_at (let e : suc destination + i ≡ destination + suc i = omega arith in e) ∙ has)
-          (λ j j_below there. let e = alone (suc j) (omega (arith, j_below)) (behind_is destination j k there) in omega (arith, e))
+          (λ j j_below there. let e = alone (suc j) (omega (arith, j_below)) (following_is destination j k there) in omega (arith, e))
           ∙ next i (omega (arith, below)))

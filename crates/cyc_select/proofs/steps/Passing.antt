@@ -1,4 +1,4 @@
--- Calls from their first line on: what they pass from memory comes there before.
+-- Calls from their first line on: slots passed from memory are stored there first.
 use Rattle.std.proofs.Common.{◌≡◌, ℕ, zero, suc, ◌+◌, ◌*◌, ◌%◌, ◌<◌, ◌≤◌, Bool, true, false, List, [], ◌∷◌, ◌++◌, length, Option, Some, None, refl, sym, ap, subst, ◌∙◌, arith, inl, inr}
 use Rattle.std.specs.Prelude.{if◌then◌else◌}
 use Rattle.std.proofs.lemmas.Bool.{eq-eqb, cases_eq}
@@ -6,7 +6,7 @@ use Rattle.cyc_select.specs.declared.constants.TheConstants.{FRAME}
 use Rattle.cyc_words.specs.Word.{IsWord}
 use Rattle.cyc_isa.specs.declared.instr.Instr.{Instr}
 use Rattle.cyc_isa.specs.Effect.{memory_address}
-use Rattle.cyc_machine.specs.State.{globals_length, words_per_call}
+use Rattle.cyc_machine_model.specs.State.{globals_length, words_per_call}
 use Rattle.cyc_plain.specs.declared.instruction.Instruction.TheVariants as plain
 use Rattle.cyc_plain.specs.inside.Program.{Program, routine_at}
 use Rattle.cyc_plain.specs.inside.State as states
@@ -29,8 +29,8 @@ use Rattle.cyc_select.proofs.values.Blocks.{safe_append}
 use Rattle.cyc_select.proofs.steps.Calls.{length_ordinary, calling_goes}
 use Rattle.cyc_select.proofs.steps.Copies.{is_free}
 use Rattle.cyc_select.proofs.emission.Counts.{length_spills}
-use Rattle.cyc_select.proofs.steps.Behind.{same_slots}
-use Rattle.cyc_select.proofs.relation.Waiting.{preserved_of, Finds, behind_line}
+use Rattle.cyc_select.proofs.steps.Trailing.{same_slots}
+use Rattle.cyc_select.proofs.relation.Waiting.{preserved_of, Finds, after_line}
 use Rattle.cyc_select.proofs.relation.Standing.{Stage, Standing, slot_address, slot_cell, standing_slot, stage_of}
 use Rattle.cyc_select.proofs.relation.Matches.{After, At, Reached}
 use Rattle.cyc_select.proofs.relation.Values.{Caches, memory_kept, made_in_is, among}
@@ -49,11 +49,11 @@ module _ (program : Program) (well : IsWellFormed program) (frames : List Frame)
   abbrev StandsIn : (m : Contents) → Type 0
   StandsIn m = Standing program frames addresses pages calls c r m base back stage c.active.slots
 
-  -- the slot's word in the frame is its value
+  -- The slot's word in the frame is its value.
   abbrev IsThere : (m : Contents) (slot : ℕ) → Type 0
   IsThere m slot = m.words (base + slot_offset (frame_at frames c.active.function) slot) ≡ c.active.slots slot
 
-  -- where an argument comes from
+  -- The register from which an argument is passed, if any.
   abbrev from : (source slot : ℕ) → Option ℕ
   from source slot = passed_from (frame_at frames c.active.function) (coming (frame_at frames callee)) source slot
 
@@ -64,7 +64,7 @@ module _ (program : Program) (well : IsWellFormed program) (frames : List Frame)
     pub stay : (a : ℕ) → a < (routine_at program c.active.function).slots → IsThere m a → IsThere (after_w is r m) a
     pub there : (k : ℕ) → k < count → from (source + k) (slot + k) ≡ None → IsThere (after_w is r m) (source + k)
 
-  -- the register of a slot without a word in memory has its value
+  -- The register of a slot without a word in memory holds its value.
   abbrev HasCached : (slot : ℕ) → Type 0
   HasCached slot = (k : ℕ) → value_register (frame_at frames c.active.function) slot ≡ Some k → r k ≡ c.active.slots slot
 
@@ -80,7 +80,7 @@ module _ (program : Program) (well : IsWellFormed program) (frames : List Frame)
           ap r (let e : made_in (frame_at frames c.active.function) slot % 32 ≡ k = omega (arith, made_in_is (frame_at frames c.active.function) slot k has, right.high slot k has) in e)
           ∙ cached k has
 
-  -- a slot's word comes into memory, where it is not there
+  -- The slot's word is stored in memory, if it is not there.
   record IsSpilled (is : List Instr) (m : Contents) (slot : ℕ) : Type 0 where
     pub safe : AreSafe globals_length (words_per_call * calls) is r m
     pub same : after_r is r m ≡ r
@@ -131,7 +131,7 @@ module _ (program : Program) (well : IsWellFormed program) (frames : List Frame)
             ∙ is
       ]
 
-  -- only one that is passed from memory
+  -- Only slots passed from memory are stored.
   spilled_from : (m : Contents) (source slot : ℕ) → source < (routine_at program c.active.function).slots → StandsIn m → HasCached source
       → (o : Option ℕ) → from source slot ≡ o → AreSpilled (spill_from o (frame_at frames c.active.function) source) m source slot 1
   spilled_from m source slot below s cached None none =
@@ -194,7 +194,7 @@ module _ (program : Program) (well : IsWellFormed program) (frames : List Frame)
     (caches : Caches program frames c.active.function c.active.next r c.active.slots)
     (callee arguments count result : ℕ) (at_i : instruction_at program (states.place_of (states.Running c)) ≡ Some (plain.Call callee arguments count result))
     (in_range : IsCallInRange program (routine_at program c.active.function) callee arguments count result)
-    (inside : behind_line program frames c.active.function c.active.next callee arguments count result < length code.lines)
+    (inside : after_line program frames c.active.function c.active.next callee arguments count result < length code.lines)
     (stands : Stands code (instruction_line program frames c.active.function c.active.next) (body program frames c.active.function (instruction_line program frames c.active.function c.active.next) (plain.Call callee arguments count result))) where
   abbrev here : ℕ
   here = instruction_line program frames c.active.function c.active.next
@@ -214,7 +214,7 @@ module _ (program : Program) (well : IsWellFormed program) (frames : List Frame)
   at_slot : (slot : ℕ) → passed_from mine (coming (frame_at frames callee)) (arguments + slot) (0 + slot) ≡ passed_from mine (coming (frame_at frames callee)) (arguments + slot) slot
   at_slot slot = ap (passed_from mine (coming (frame_at frames callee)) (arguments + slot)) (let e : 0 + slot ≡ slot = omega arith in e)
 
-  -- what is passed from a register is live here
+  -- A slot passed from a register is live at the call.
   held_there : (slot k : ℕ) → slot < count → passed_from mine (coming (frame_at frames callee)) (arguments + slot) slot ≡ Some k
       → (6 ≤ k) × (k < 24) × (r k ≡ c.active.slots (arguments + slot)) × IsWord (c.active.slots (arguments + slot))
   held_there slot k below some =
@@ -223,7 +223,7 @@ module _ (program : Program) (well : IsWellFormed program) (frames : List Frame)
       let is = caches (arguments + slot) k has (0, (plain.Call callee arguments count result, at_i, among arguments count (arguments + slot) (omega arith) (omega (arith, below)))) in
       (right.low (arguments + slot) k has, right.high (arguments + slot) k has, is, subst IsWord is (now.r_words k))
 
-  -- what is live behind the call and not returned is live here
+  -- A slot that is live after the call, and not a result of the call, is live before it.
   finds_there : Finds program frames c.active.function c.active.next callee arguments count result (preserved_of r) c.active.slots
   finds_there slot j high has unwritten (steps, live) =
       caches slot (17 + j) has (suc steps, (plain.Call callee arguments count result, at_i, unwritten, suc c.active.next, eq-eqb (suc c.active.next) (suc c.active.next) refl, live))

@@ -1,4 +1,4 @@
--- The instruction that calls the store.
+-- The instruction that makes a request to the store.
 use Rattle.std.proofs.Common.{◌≡◌, ◌≢◌, ℕ, suc, ◌+◌, ◌*◌, ◌%◌, ◌^◌, ◌<◌, ◌≤◌, true, false, List, [], ◌∷◌, ◌++◌, length, length-append, Option, None, Some, refl, sym, ap, subst, ◌∙◌, arith, inl}
 use Rattle.std.specs.Prelude.{◌⊎◌}
 use Rattle.std.proofs.lemmas.Bool.{eq-eqb, ne_eqb, or_left, or_right}
@@ -9,8 +9,8 @@ use Rattle.cyc_words.proofs.Options.{same_from_some}
 use Rattle.cyc_plain.specs.inside.Uses.{is_slot, request_reads, request_writes}
 use Rattle.cyc_isa.specs.Effect.{memory_address}
 use Rattle.cyc_isa.specs.declared.instr.Instr.{Instr}
-use Rattle.cyc_machine.specs.State.{globals_length, words_per_call}
-use Rattle.cyc_machine.specs.declared.constants.TheConstants.{ARGUMENT, RETURN_ADDRESS, SECOND_ARGUMENT, SERVICE}
+use Rattle.cyc_machine_model.specs.State.{globals_length, words_per_call}
+use Rattle.cyc_machine_model.specs.declared.constants.TheConstants.{ARGUMENT, RETURN_ADDRESS, SECOND_ARGUMENT, SERVICE}
 use Rattle.cyc_store.specs.State.{StoreState, lexical_count}
 use Rattle.cyc_store.specs.Services as services
 use Rattle.cyc_store.specs.Services.{Call, Answer, refusal, served, answer}
@@ -24,7 +24,7 @@ use Rattle.cyc_plain.specs.inside.Requests.{first_operand, second_operand, answe
 use Rattle.cyc_plain.specs.inside.Program.{Program, routine_at}
 use Rattle.cyc_plain.specs.inside.State as states
 use Rattle.cyc_plain.specs.inside.State.{Words, put, Configuration}
-use Rattle.cyc_plain.specs.inside.Step.{Choice, IsAllowed, MayServe, call_in, call_of, asked, told, asks, instruction_at, operand_word, performed, with_slots, advanced}
+use Rattle.cyc_plain.specs.inside.Step.{Choice, IsAllowed, MayServe, call_in, call_of, asked, reported, asks, instruction_at, operand_word, performed, with_slots, advanced}
 use Rattle.cyc_plain.specs.inside.WellFormed.{IsOperand, IsOfWord, IsArgument, IsArgumentOfWord, IsRequestInRange, IsWellFormed}
 use Rattle.cyc_plain.proofs.SlotLaws.{put-other}
 use Rattle.cyc_plain.proofs.RunLaws.{zeros, zeros_refused, over_within, lies_at}
@@ -53,13 +53,13 @@ use Rattle.cyc_select.proofs.relation.Standing.{Stage, Standing, slot_address, s
 use Rattle.cyc_select.proofs.relation.Stores.{lexical_opened, lexical_besides, lexical_left, lexical_made, lexical_closed, marks_few, IsLaid, served_laid, served_words}
 use Rattle.cyc_select.proofs.relation.Values.{Caches, live_earlier, among, outside_among}
 use Rattle.cyc_select.proofs.effects.Views.{Contents, IsWritable, written, answered_r}
-use Rattle.cyc_select.proofs.effects.Sequences.{Stands, stands_first, stands_behind, after_r, after_w, AreSafe, after_r-append, after_w-append}
+use Rattle.cyc_select.proofs.effects.Sequences.{Stands, stands_first, stands_after, after_r, after_w, AreSafe, after_r-append, after_w-append}
 use Rattle.cyc_select.proofs.effects.Walks.{Walk, now_at, now_is, walk_few, walk_block, walk_served, walk_no_room, comes_block, lines_from, lines_rise}
 use Rattle.cyc_registers.specs.inside.Liveness.{IsLiveAt}
 
--- ---- what is asked, and what is answered
+-- ---- the request and its result
 
--- the call that registers ask for is that of the request
+-- The call that the registers describe is that of the request.
 is_call : (request : Request) (slots q : Words) → ((operand : Operand) → first_operand request ≡ Some operand → q 4 ≡ operand_word slots operand)
     → ((operand : Operand) → second_operand request ≡ Some operand → q 5 ≡ operand_word slots operand) → call_by request (q 4) (q 5) ≡ call_in slots request
 is_call (requests.OpenLexical destination) slots q first second = refl
@@ -70,18 +70,18 @@ is_call (requests.Allocate destination handle words) slots q first second =
     ap (λ (x : ℕ). services.Allocate x (q 5)) (first handle refl) ∙ ap (services.Allocate (operand_word slots handle)) (second words refl)
 is_call (requests.Free address) slots q first second = ap services.Free (first address refl)
 
--- the words of its registers are what the store answers, also behind the lines that count regions
-told_is : (request : Request) (store : StoreState) (slots q : Words) (m : Contents) (choice : services.Choice)
+-- The result registers hold the store's result, even after the lines that count regions.
+reported_is : (request : Request) (store : StoreState) (slots q : Words) (m : Contents) (choice : services.Choice)
     → put_all (destination_of request) (result_registers (answer_count request)) (after_r (regions_code request) (answered_r (answer store (call_in slots request) choice) q) m) slots
-    ≡ told (answer store (call_in slots request) choice) (destination_of request) slots
-told_is (requests.OpenLexical destination) store slots q m choice = refl
-told_is (requests.CloseTo mark) store slots q m choice = refl
-told_is (requests.OpenDynamic destination) store slots q m choice = refl
-told_is (requests.CloseDynamic handle) store slots q m choice = refl
-told_is (requests.Allocate destination handle words) store slots q m choice = refl
-told_is (requests.Free address) store slots q m choice = refl
+    ≡ reported (answer store (call_in slots request) choice) (destination_of request) slots
+reported_is (requests.OpenLexical destination) store slots q m choice = refl
+reported_is (requests.CloseTo mark) store slots q m choice = refl
+reported_is (requests.OpenDynamic destination) store slots q m choice = refl
+reported_is (requests.CloseDynamic handle) store slots q m choice = refl
+reported_is (requests.Allocate destination handle words) store slots q m choice = refl
+reported_is (requests.Free address) store slots q m choice = refl
 
--- these slots get its answer, and no others
+-- Exactly the destination slots receive the result.
 answers_written : (request : Request) (slot : ℕ) → destination_of request ≤ slot → slot < destination_of request + length (result_registers (answer_count request)) → request_writes request slot ≡ true
 answers_written (requests.OpenLexical destination) slot begun below = among destination 2 slot begun below
 answers_written (requests.CloseTo mark) slot begun below = absurd (omega (arith, begun, below))
@@ -98,7 +98,7 @@ answers_apart (requests.CloseDynamic handle) slot outside = refl
 answers_apart (requests.Allocate destination handle words) slot outside = ne_eqb destination slot (outside_one destination slot outside)
 answers_apart (requests.Free address) slot outside = refl
 
--- ---- how many lexical regions are open
+-- ---- the number of open lexical regions
 
 regions_safe : (globals stack : ℕ) (request : Request) (q : Words) (m : Contents) → AreSafe globals stack (regions_code request) q m
 regions_safe globals stack (requests.OpenLexical destination) q m = (refl, tt)
@@ -124,25 +124,25 @@ regions_others (requests.CloseDynamic handle) q m n other = refl
 regions_others (requests.Allocate destination handle words) q m n other = refl
 regions_others (requests.Free address) q m n other = refl
 
--- behind these lines a register tells it of what the store holds then
-regions_told : (request : Request) (store : StoreState) (slots q : Words) (m : Contents) (choice : services.Choice) → IsSound store → refusal store (call_in slots request) ≡ None
+-- After these lines the register holds the number of open lexical regions.
+regions_reported : (request : Request) (store : StoreState) (slots q : Words) (m : Contents) (choice : services.Choice) → IsSound store → refusal store (call_in slots request) ≡ None
     → ((operand : Operand) → first_operand request ≡ Some operand → q 4 ≡ operand_word slots operand) → q REGIONS ≡ lexical_count store.regions % 2 ^ 32
     → after_r (regions_code request) (answered_r (answer store (call_in slots request) choice) q) m REGIONS ≡ lexical_count (served store (call_in slots request) choice).regions % 2 ^ 32
 unfolding sign_extended
-regions_told (requests.OpenLexical destination) store slots q m choice sound free first before =
+regions_reported (requests.OpenLexical destination) store slots q m choice sound free first before =
     ap (λ (n : ℕ). n % 2 ^ 32) (sym (lexical_opened store.regions choice.handle))
-regions_told (requests.CloseTo mark) store slots q m choice sound free first before =
+regions_reported (requests.CloseTo mark) store slots q m choice sound free first before =
     let same : q 4 + 0 ≡ operand_word slots mark = omega (arith, first mark refl) in
     ap (λ (n : ℕ). n % 2 ^ 32) (same ∙ sym (lexical_left (operand_word slots mark) store.regions (marks_few store (operand_word slots mark) free)))
-regions_told (requests.OpenDynamic destination) store slots q m choice sound free first before =
+regions_reported (requests.OpenDynamic destination) store slots q m choice sound free first before =
     before ∙ ap (λ (n : ℕ). n % 2 ^ 32) (sym (lexical_besides store.regions choice.handle))
-regions_told (requests.CloseDynamic handle) store slots q m choice sound free first before =
+regions_reported (requests.CloseDynamic handle) store slots q m choice sound free first before =
     before ∙ ap (λ (n : ℕ). n % 2 ^ 32) (sym (lexical_closed store (operand_word slots handle) sound free))
-regions_told (requests.Allocate destination handle words) store slots q m choice sound free first before =
+regions_reported (requests.Allocate destination handle words) store slots q m choice sound free first before =
     before ∙ ap (λ (n : ℕ). n % 2 ^ 32) (sym (lexical_made store (operand_word slots handle) (services.block_of (operand_word slots handle) (operand_word slots words) choice)))
-regions_told (requests.Free address) store slots q m choice sound free first before = before
+regions_reported (requests.Free address) store slots q m choice sound free first before = before
 
--- other registers are as before
+-- The result of a request changes only the two result registers.
 answered-other : (a : Answer) (q : Words) (n : ℕ) → n ≢ 2 → n ≢ 3 → answered_r a q n ≡ q n
 answered-other (services.Refused why) q n first second = refl
 answered-other services.Done q n first second = refl
@@ -152,7 +152,7 @@ answered-other (services.Allocated address) q n first second = put-other q 2 n a
 
 module _ (program : Program) (well : IsWellFormed program) (frames : List Frame) (fit : AreFrames program frames) (addresses : ℕ → ℕ) (pages calls : ℕ) (few : calls ≤ 4096)
     (c : Configuration) (q : Words) (base back : ℕ) (stage : Stage) where
-  -- what registers hold comes to slots
+  -- Result registers are written to slots.
   pub record AreStored (slot : ℕ) (sources : List ℕ) (m : Contents) (slots : Words) : Type 0 where
     pub safe : AreSafe globals_length (words_per_call * calls) (store_all (frame_at frames c.active.function) slot sources) q m
     pub same : after_r (store_all (frame_at frames c.active.function) slot sources) q m ≡ q
@@ -208,9 +208,9 @@ module _ (program : Program) (well : IsWellFormed program) (frames : List Frame)
   homes_right : AreHomes program (routine_at program c.active.function) (frame_at frames c.active.function).saved (frame_at frames c.active.function).homes
   homes_right = fit.homes c.active.function s.known
 
-  -- ---- what a request takes
+  -- ---- the operands of a request
 
-  -- a register has the word of an operand, where there is one, and any other is as before
+  -- A register holds the word of an optional operand, and other registers are unchanged.
   record HasArgument (is : List Instr) (register : ℕ) (o : Option Operand) (q : Words) (m : Contents) : Type 0 where
     pub safe : AreSafe globals_length (words_per_call * calls) is q m
     pub memory : after_w is q m ≡ m
@@ -272,7 +272,7 @@ module _ (program : Program) (well : IsWellFormed program) (frames : List Frame)
     stored_few : length (counts ++ answers) ≡ regions_count request + gives_count frame (destination_of request) (answer_count request)
     stored_few = omega (arith, length-append counts answers, length_regions request, length_answer frame request)
 
-    -- its operands are what it needs
+    -- The instruction reads the operands of its request.
     first_used : (one : Request) (operand : Operand) (slot : ℕ) → first_operand one ≡ Some operand → is_slot operand slot ≡ true → request_reads one slot ≡ true
     first_used (requests.OpenLexical destination) operand slot some is_it = absurd (let e : None ≡ Some operand = some in cc)
     first_used (requests.CloseTo mark) operand slot some is_it = ap (λ (o : Operand). is_slot o slot) (same_from_some some) ∙ is_it
@@ -314,7 +314,7 @@ module _ (program : Program) (well : IsWellFormed program) (frames : List Frame)
     unchanged : after_w js q v ≡ w
     unchanged = second.memory ∙ first.memory
 
-    -- registers other than these two are as before
+    -- Registers other than the argument registers are unchanged.
     kept : (n : ℕ) → n < 32 → n ≢ ARGUMENT → n ≢ SECOND_ARGUMENT → p n ≡ r n
     kept n below other also = second.others n below also ∙ first.others n below other
 
@@ -333,13 +333,13 @@ module _ (program : Program) (well : IsWellFormed program) (frames : List Frame)
         (λ operand e. second.others ARGUMENT (omega arith) (λ x. absurd (omega (arith, x))) ∙ first.result operand e)
         (λ operand e. second.result operand e)
 
-    behind_lines : Stands code (here + length is) (ordinary (js ++ last))
-    behind_lines = stands_behind code here is (js ++ last) stands
+    after_lines : Stands code (here + length is) (ordinary (js ++ last))
+    after_lines = stands_after code here is (js ++ last) stands
 
     last_lines : Stands code (here + length is + length js) (ordinary last)
-    last_lines = stands_behind code (here + length is) js last behind_lines
+    last_lines = stands_after code (here + length is) js last after_lines
 
-    -- up to it
+    -- The lines that load the arguments and call the service are matched.
     called_goes : (n : ℕ) → 0 < n
         → ((d : labelled.Configuration) → At program well frames fit code formed addresses pages calls few called c.output c.input ready w d → Goes n called hi (Running d))
         → Goes 1 here hi (Running run)
@@ -347,13 +347,13 @@ module _ (program : Program) (well : IsWellFormed program) (frames : List Frame)
         walk_few code formed addresses globals_length (words_per_call * calls) 1 (length is + (length js + (1 + n))) here hi c.output _ (Running run) (omega (arith, some))
         (walk_block code formed addresses globals_length (words_per_call * calls) is (length js + (1 + n)) here here hi c.output c.input _ r w run now (stands_first code here is (js ++ last) stands) first.safe (omega arith)
         (λ d before.
-        walk_block code formed addresses globals_length (words_per_call * calls) js (1 + n) (here + length is) (here + length is) hi c.output c.input _ q v d before (stands_first code (here + length is) js last behind_lines) second.safe (omega arith)
+        walk_block code formed addresses globals_length (words_per_call * calls) js (1 + n) (here + length is) (here + length is) hi c.output c.input _ q v d before (stands_first code (here + length is) js last after_lines) second.safe (omega arith)
         (λ e later.
         walk_block code formed addresses globals_length (words_per_call * calls) numbered n (here + length is + length js) (here + length is + length js) hi c.output c.input _ p (after_w js q v) e later (last_lines.0, tt) (refl, tt) (omega arith)
         (λ f after.
         rest f (now_is code formed addresses globals_length (words_per_call * calls) called c.output c.input ready (after_w js q v) ready w f refl unchanged after)))))
 
-    -- there is no room for what it would come to
+    -- Without room for the result of the request, the run ends.
     full_goes : refusal c.store call ≡ Some services.Full → Goes 1 here hi (Running run)
     full_goes full =
         called_goes 1 (omega arith)
@@ -364,7 +364,7 @@ module _ (program : Program) (well : IsWellFormed program) (frames : List Frame)
         (zeros_refused program c call services.Full (ap (call_of c.active.slots) at_i) full) at_i (ap (asks zeros.serving c (destination_of request) call) full)
         (over_within pages calls Full c.output c.input) refl))
 
-    -- it is served
+    -- The case of a request that the store serves.
     module _ (free : refusal c.store call ≡ None) (chosen : services.Choice) (allowed : services.IsAllowed c.store call chosen) where
       abbrev choice : Choice
       choice = record { contents = zeros.contents; base = 0; serving = chosen }
@@ -384,7 +384,7 @@ module _ (program : Program) (well : IsWellFormed program) (frames : List Frame)
       c1 = record c { store = served c.store call chosen }
 
       abbrev next : Configuration
-      next = advanced (with_slots (record c { store = served c.store call chosen }) (told (answer c.store call chosen) (destination_of request) c.active.slots))
+      next = advanced (with_slots (record c { store = served c.store call chosen }) (reported (answer c.store call chosen) (destination_of request) c.active.slots))
 
       does : performed program choice c (plain.Ask request) ≡ states.Running next
       does = ap (asks chosen c (destination_of request) call) free
@@ -392,7 +392,7 @@ module _ (program : Program) (well : IsWellFormed program) (frames : List Frame)
       abbrev w1 : Contents
       w1 = record w { store = served c.store call chosen }
 
-      -- what the registers hold behind the service, and behind the lines that count regions
+      -- The registers after the service, and after the lines that count regions.
       abbrev answered : Words
       answered = answered_r (answer c.store call chosen) ready
 
@@ -430,9 +430,9 @@ module _ (program : Program) (well : IsWellFormed program) (frames : List Frame)
       laid : IsLaid pages (served c.store call chosen)
       laid = served_laid pages c.store call chosen free allowed s.laid
 
-      count_told : final REGIONS ≡ lexical_count (served c.store call chosen).regions % 2 ^ 32
-      count_told =
-          regions_told request c.store c.active.slots ready w1 chosen s.laid.sound free
+      count_reported : final REGIONS ≡ lexical_count (served c.store call chosen).regions % 2 ^ 32
+      count_reported =
+          regions_reported request c.store c.active.slots ready w1 chosen s.laid.sound free
           (λ operand e. second.others ARGUMENT (omega arith) (λ x. absurd (omega (arith, x))) ∙ first.result operand e)
           (put-other p SERVICE REGIONS (add_of (p 0) (sign_extended (service_number request))) (λ e. absurd (omega (arith, e)))
           ∙ (kept REGIONS (omega arith) (λ e. absurd (omega (arith, e))) (λ e. absurd (omega (arith, e))) ∙ s.counted))
@@ -440,10 +440,10 @@ module _ (program : Program) (well : IsWellFormed program) (frames : List Frame)
       in_final : Standing program frames addresses pages calls c1 final w1 base back (stage_of frames c) c.active.slots
       in_final =
           standing_store program well frames fit addresses pages calls few c r w base back (stage_of frames c) c.active.slots s (served c.store call chosen)
-          final zero_kept base_kept left_kept back_kept newest_kept count_told middle_kept laid
+          final zero_kept base_kept left_kept back_kept newest_kept count_reported middle_kept laid
           (λ j past high. values_kept (17 + j) (omega arith) (omega (arith, high)))
 
-      -- the answer comes to slots
+      -- The lines after the call write the result to slots.
       abbrev m : Contents
       m = after_w answers final w1
 
@@ -473,28 +473,28 @@ module _ (program : Program) (well : IsWellFormed program) (frames : List Frame)
             are_brought program well frames fit addresses pages calls few false c1 base back (frame_at frames c.active.function).saves (c.active.next + 1) (destination_of request) past final low_words fits_here shares_none (destination_of request) (result_registers (answer_count request)) final w1 c.active.slots
             (omega arith) (omega arith) (results_low (answer_count request) few_answers) (λ n below. refl) in_final
 
-        -- what is not answered is in registers as before
+        -- The registers of all other slots are unchanged.
         apart_kept : (a k : ℕ) → value_register (frame_at frames c.active.function) a ≡ Some k → IsLiveAt program (routine_at program c.active.function) a (c.active.next + 1)
             → a < destination_of request ⊎ destination_of request + length (result_registers (answer_count request)) ≤ a → final k ≡ c.active.slots a
         apart_kept a k has wanted outside =
             values_kept k (homes_right.low a k has) (homes_right.high a k has)
             ∙ caches a k has (live_earlier program frames c.active.function homes_right c.active.next (c.active.next + 1) a (plain.Ask request) at_i (eqb_next c.active.next) (answers_apart request a outside) wanted)
 
-        told_caches : Caches program frames c.active.function (c.active.next + 1) brought (told (answer c.store call chosen) (destination_of request) c.active.slots)
-        told_caches a k has wanted =
+        reported_caches : Caches program frames c.active.function (c.active.next + 1) brought (reported (answer c.store call chosen) (destination_of request) c.active.slots)
+        reported_caches a k has wanted =
             stored.caches (λ a k has wanted last outside. apart_kept a k has wanted outside) a k has wanted refl
-            ∙ ap (λ (x : Words). x a) (told_is request c.store c.active.slots ready w1 chosen)
+            ∙ ap (λ (x : Words). x a) (reported_is request c.store c.active.slots ready w1 chosen)
 
         abbrev there : Words
-        there = told (answer c.store call chosen) (destination_of request) c.active.slots
+        there = reported (answer c.store call chosen) (destination_of request) c.active.slots
 
         ends_at : Standing program frames addresses pages calls next brought m base back (stage_of frames c) there
         ends_at =
             let in_slots : Standing program frames addresses pages calls c1 brought m base back (stage_of frames c) there =
-            subst (λ (x : Words). Standing program frames addresses pages calls c1 brought m base back (stage_of frames c) x) (told_is request c.store c.active.slots ready w1 chosen) stored.standing in
+            subst (λ (x : Words). Standing program frames addresses pages calls c1 brought m base back (stage_of frames c) x) (reported_is request c.store c.active.slots ready w1 chosen) stored.standing in
             standing_at program well frames fit addresses pages calls few c1 brought m base back (stage_of frames c) there in_slots next refl refl refl refl refl refl s.input
 
-        -- both blocks, one behind the other
+        -- Two safe blocks, one after the other, are safe.
         block_safe : AreSafe globals_length (words_per_call * calls) (counts ++ answers) answered w1
         block_safe =
             safe_append globals_length (words_per_call * calls) counts answers answered w1 (regions_safe globals_length (words_per_call * calls) request answered w1)
@@ -524,7 +524,7 @@ module _ (program : Program) (well : IsWellFormed program) (frames : List Frame)
               now = now_at code formed addresses globals_length (words_per_call * calls) (called + 1 + length (counts ++ answers)) (instruction_line program frames c.active.function (c.active.next + 1)) c.output c.input brought m d line_is
                   (now_is code formed addresses globals_length (words_per_call * calls) (called + 1 + length (counts ++ answers)) c.output c.input (after_r (counts ++ answers) answered w1) (after_w (counts ++ answers) answered w1) brought m d block_registers block_memory later);
               standing = ends_at;
-              caches = told_caches;
+              caches = reported_caches;
             }))
 
     served_goes : refusal c.store call ≡ None → Goes 1 here hi (Running run)

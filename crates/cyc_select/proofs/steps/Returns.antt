@@ -1,15 +1,15 @@
--- Returns: what a function returns comes into registers, and the run goes on behind the call, or ends.
+-- Returns: the results are loaded into registers, and the run continues after the call or ends.
 use Rattle.std.proofs.Common.{◌≡◌, ◌≢◌, ℕ, zero, suc, ◌+◌, ◌-◌, ◌*◌, ◌%◌, ◌^◌, ◌<◌, ◌≤◌, Bool, true, false, not, List, [], ◌∷◌, ◌++◌, length, length-append, Some, slice_get, refl, sym, ap, subst, ◌∙◌, arith, inl, inr}
 use Rattle.std.specs.Prelude.{◌==◌, ◌⊎◌, if◌then◌else◌}
 use Rattle.std.proofs.lemmas.Bool.{cases_Bool, eq-eqb, ne_eqb}
 use Rattle.cyc_select.specs.declared.constants.TheConstants.{FRAME, LOWEST, HANDLERS, REGIONS, GLOBALS}
-use Rattle.cyc_machine.specs.declared.constants.TheConstants.{RETURN_ADDRESS}
+use Rattle.cyc_machine_model.specs.declared.constants.TheConstants.{RETURN_ADDRESS}
 use Rattle.cyc_words.specs.Ending.{Returned}
 use Rattle.cyc_words.specs.Word.{signed, add_of, sign_extended}
 use Rattle.cyc_isa.specs.declared.instr.Instr.{Instr}
 use Rattle.cyc_isa.specs.declared.instr.BranchOp.TheVariants as branch
 use Rattle.cyc_isa.specs.Decoding.{register_of}
-use Rattle.cyc_machine.specs.State.{globals_length, words_per_call}
+use Rattle.cyc_machine_model.specs.State.{globals_length, words_per_call}
 use Rattle.cyc_plain.specs.declared.instruction.Instruction.{Instruction}
 use Rattle.cyc_plain.specs.declared.instruction.Instruction.TheVariants as plain
 use Rattle.cyc_plain.specs.inside.Program.{Program, no_routine, routine_at}
@@ -30,7 +30,7 @@ use Rattle.cyc_select.specs.inside.Machine.{State, Running, Ended}
 use Rattle.cyc_select.specs.inside.Instructions.{small, syscall}
 use Rattle.cyc_select.specs.inside.Slots.{value_register, load_slot, load_all, restores, pop_frame, result_registers}
 use Rattle.cyc_select.specs.inside.Counts.{ending_count}
-use Rattle.cyc_select.specs.inside.Selection.{ordinary, ending_code, behind}
+use Rattle.cyc_select.specs.inside.Selection.{ordinary, ending_code, following}
 use Rattle.cyc_select.proofs.values.Blocks.{ValuesSame, Puts, safe_append}
 use Rattle.cyc_select.proofs.relation.Cells.{IsCell}
 use Rattle.cyc_select.proofs.steps.Preserving.{length_restores, are_restored, returned_left}
@@ -40,13 +40,13 @@ use Rattle.cyc_select.proofs.values.Operations.{add_small}
 use Rattle.cyc_select.proofs.effects.Views.{Contents, IsWritable}
 use Rattle.cyc_select.proofs.effects.Sequences.{Stands, stands_front, stands_back, after_r, after_w, after_r-append, after_w-append, AreSafe}
 use Rattle.cyc_select.proofs.effects.Walks.{Walk, walk_end, walk_few, walk_from, walk_block, walk_branch, walk_return, walk_returned}
-use Rattle.cyc_select.proofs.relation.Waiting.{preserved_of, left_same, LeftBy, frame_size, Chain, IsNewest, behind_line, AreBased}
+use Rattle.cyc_select.proofs.relation.Waiting.{preserved_of, left_same, LeftBy, frame_size, Chain, IsNewest, after_line, AreBased}
 use Rattle.cyc_select.proofs.relation.Standing.{word_cell, under_way, stage_of, Standing, lies}
 use Rattle.cyc_select.proofs.relation.Matches.{After, At, Reached, reached, within, result_register}
 
--- ---- what a function returns, from slots into registers
+-- ---- results loaded from slots into registers
 
--- the last instructions of a return load what is returned, restore registers, and take the frame away
+-- The last instructions of a return: they load the results, restore registers, and pop the frame.
 abbrev pub loaded : Frame → (value count : ℕ) → List Instr
 loaded frame value count = load_all frame value (result_registers count) ++ (restores frame ++ pop_frame ∷ [])
 
@@ -67,14 +67,14 @@ length_loaded frame value count few =
       length_restores frame.first_saved 0 frame.saved,
     )
 
--- the words that are returned are in registers; no others change
+-- The results are in registers, and no other register changes.
 record AreLoads (globals stack : ℕ) (frame : Frame) (value count : ℕ) (r : Words) (w : Contents) (slots : Words) : Type 0 where
   pub safe : AreSafe globals stack (load_all frame value (result_registers count)) r w
   pub memory : after_w (load_all frame value (result_registers count)) r w ≡ w
   pub kept : (n : ℕ) → n < 32 → n ≢ 2 → n ≢ 3 → n ≢ 5 → after_r (load_all frame value (result_registers count)) r w n ≡ r n
   pub returned : (k : ℕ) → k < count → after_r (load_all frame value (result_registers count)) r w (result_register k) ≡ slots (value + k)
 
--- and the caller finds what it is left
+-- The caller finds its callee-saved registers restored.
 record AreLoaded (globals stack base : ℕ) (frame : Frame) (value count : ℕ) (r : Words) (w : Contents) (slots : Words) : Type 0 where
   pub safe : AreSafe globals stack (loaded frame value count) r w
   pub base_moved : after_r (loaded frame value count) r w FRAME ≡ add_of (r FRAME) (sign_extended frame_size)
@@ -84,7 +84,7 @@ record AreLoaded (globals stack base : ℕ) (frame : Frame) (value count : ℕ) 
   pub preserved : (j : ℕ) → j < 7 → after_r (loaded frame value count) r w (17 + j) ≡ LeftBy frame base (preserved_of r) w j
 
 module _ (globals stack : ℕ) (frame : Frame) (r : Words) (w : Contents) (slots : Words) (value : ℕ) (zero_is : r 0 ≡ 0) where
-  -- a slot's word into one of these registers
+  -- Loads a slot's word into one of the result registers.
   abbrev Brings : (target slot : ℕ) (q : Words) (m : Contents) → Type 0
   Brings target slot q m = Puts globals stack (load_slot frame target slot ∷ []) q m (target % 32) (target % 32) (slots slot)
 
@@ -93,7 +93,7 @@ module _ (globals stack : ℕ) (frame : Frame) (r : Words) (w : Contents) (slots
   brings target slot writable held q m zero_same base_same memory values =
       slot_puts globals stack frame (r FRAME) w r slots q m (zero_same ∙ zero_is) base_same memory values (value_register frame slot) target slot writable held
 
-  -- the other registers, one load later
+  -- The registers that one more load does not write are unchanged.
   one_later : (target slot : ℕ) (q : Words) (m : Contents) → target < 6 → Brings target slot q m → (n : ℕ) → n < 32 → n ≢ target → after_r (load_slot frame target slot ∷ []) q m n ≡ q n
   one_later target slot q m small puts n below other = puts.others n below (λ e. other (let f : n ≡ target = omega (arith, e, small) in f))
 
@@ -177,30 +177,30 @@ module _ (globals stack : ℕ) (frame : Frame) (r : Words) (w : Contents) (slots
   result_low (suc (suc zero)) count below few = ((omega arith), (λ e. absurd (omega (arith, e))))
   result_low (suc (suc (suc k))) count below few = absurd (omega (arith, below, few))
 
-  -- behind the loads registers are restored, and the frame is taken away
+  -- After the loads, registers are restored and the frame is popped.
   module _ (base : ℕ) (base_is : r FRAME ≡ base) (top : base + frame_size < 2 ^ 32) (room : frame.first_saved + 7 ≤ 256) (few_saved : frame.saved ≤ 7)
       (cells : (j : ℕ) → j < 7 → IsCell globals stack (base + 4 * (frame.first_saved + j))) where
     are_loaded : (count : ℕ) → count ≤ 3 → ((slot : ℕ) → value ≤ slot → slot < value + count → HeldIn globals stack (value_register frame slot) frame (r FRAME) w r slots slot)
         → AreLoaded globals stack base frame value count r w slots
     are_loaded count few held =
         let loads : List Instr = load_all frame value (result_registers count) in
-        let behind : List Instr = restores frame ++ pop_frame ∷ [] in
+        let following : List Instr = restores frame ++ pop_frame ∷ [] in
         let load = are_loads count few held in
         let q : Words = after_r loads r w in
         let q_base : after_r loads r w FRAME ≡ base = load.kept FRAME (omega arith) (λ e. absurd (omega (arith, e))) (λ e. absurd (omega (arith, e))) (λ e. absurd (omega (arith, e))) ∙ base_is in
         let restored = are_restored globals stack base frame.first_saved top room cells 0 frame.saved q w q_base (omega (arith, few_saved)) in
         let p : Words = after_r (restores frame) q w in
         let final_is : after_r (loaded frame value count) r w ≡ put p FRAME (add_of (p FRAME) (sign_extended frame_size)) =
-        after_r-append loads behind r w
-        ∙ (ap (λ (m : Contents). after_r behind q m) load.memory ∙ after_r-append (restores frame) (pop_frame ∷ []) q w) in
+        after_r-append loads following r w
+        ∙ (ap (λ (m : Contents). after_r following q m) load.memory ∙ after_r-append (restores frame) (pop_frame ∷ []) q w) in
         let memory_is : after_w (loaded frame value count) r w ≡ w =
-        after_w-append loads behind r w
-        ∙ (ap (λ (m : Contents). after_w behind q m) load.memory ∙ (after_w-append (restores frame) (pop_frame ∷ []) q w ∙ restored.memory)) in
+        after_w-append loads following r w
+        ∙ (ap (λ (m : Contents). after_w following q m) load.memory ∙ (after_w-append (restores frame) (pop_frame ∷ []) q w ∙ restored.memory)) in
         let at : (n : ℕ) → n ≢ FRAME → after_r (loaded frame value count) r w n ≡ p n = λ n other. ap (λ (x : Words). x n) final_is ∙ put-other p FRAME n (add_of (p FRAME) (sign_extended frame_size)) other in
-        let safe_behind : AreSafe globals stack behind q w = safe_append globals stack (restores frame) (pop_frame ∷ []) q w restored.safe (refl, tt) in
+        let safe_after : AreSafe globals stack following q w = safe_append globals stack (restores frame) (pop_frame ∷ []) q w restored.safe (refl, tt) in
         let p_base : p FRAME ≡ r FRAME = restored.others FRAME (inr (omega (arith, few_saved))) ∙ (q_base ∙ sym base_is) in
         record {
-          safe = safe_append globals stack loads behind r w load.safe (subst (λ (m : Contents). AreSafe globals stack behind q m) (sym load.memory) safe_behind);
+          safe = safe_append globals stack loads following r w load.safe (subst (λ (m : Contents). AreSafe globals stack following q m) (sym load.memory) safe_after);
           base_moved = ap (λ (x : Words). x FRAME) final_is ∙ (put-same p FRAME (add_of (p FRAME) (sign_extended frame_size)) ∙ ap (λ (x : ℕ). add_of x (sign_extended frame_size)) p_base);
           kept = λ n below aside other.
               at n other
@@ -226,7 +226,7 @@ module _ (globals stack : ℕ) (frame : Frame) (r : Words) (w : Contents) (slots
         apart n k (inl low) e from below = omega (arith, low, e, from)
         apart n k (inr high) e from below = omega (arith, high, e, below)
 
--- from the line on where the way back is in its register
+-- From the line on at which the return address is in its register.
 module _ (program : Program) (well : IsWellFormed program) (frames : List Frame) (fit : AreFrames program frames) (code : Labelled) (formed : IsFormed code) (addresses : ℕ → ℕ) (pages calls : ℕ) (few : calls ≤ 4096)
     (lie : AreAddresses code addresses) (c : Configuration) (run : labelled.Configuration) (r : Words) (w : Contents) (base back : ℕ) (here : ℕ)
     (now : At program well frames fit code formed addresses pages calls few here c.output c.input r w run)
@@ -236,7 +236,7 @@ module _ (program : Program) (well : IsWellFormed program) (frames : List Frame)
     → HeldIn globals_length (words_per_call * calls) (value_register (frame_at frames c.active.function) slot) (frame_at frames c.active.function) (r FRAME) w r c.active.slots slot)
     (does : performed program zeros c i ≡ returns c value (routine_at program c.active.function).results c.frames) (none_open : c.active.handlers ≡ [])
     (returns_to : (function index callee arguments count result : ℕ) → instruction_at program (record { function = function; index = index }) ≡ Some (plain.Call callee arguments count result)
-    → IsReturnPoint code (behind_line program frames function index callee arguments count result))
+    → IsReturnPoint code (after_line program frames function index callee arguments count result))
     (stands : Stands code here (ending_code (c.active.function == program.main) (frame_at frames c.active.function) here value ++ ordinary (loaded (frame_at frames c.active.function) value (routine_at program c.active.function).results) ++ lines.Return ∷ [])) where
   abbrev frame : Frame
   frame = frame_at frames c.active.function
@@ -271,7 +271,7 @@ module _ (program : Program) (well : IsWellFormed program) (frames : List Frame)
       (over_within pages (limit_of (Some i) calls) (Returned (signed (c.active.slots value))) c.output c.input)
       (ap (λ (x : ℕ). Ended (Returned (signed x)) c.output c.input) puts.result))))
 
-  -- ---- back to a caller
+  -- ---- return to a caller
 
   back_goes : (line hi : ℕ) (d : labelled.Configuration) (f : states.Frame) (waiting : List states.Frame) → c.frames ≡ f ∷ waiting
       → Chain program frames addresses w base back s.left c.active.function (f ∷ waiting)
@@ -331,7 +331,7 @@ module _ (program : Program) (well : IsWellFormed program) (frames : List Frame)
       (stands_front code line (ordinary (loaded frame value results)) (lines.Return ∷ []) stands_here) load.safe (omega arith)
       (λ e after.
       walk_return code formed addresses globals_length (words_per_call * calls) 0 (line + size) (line + size) hi c.output c.input _ (after_r (loaded frame value results) r w) (after_w (loaded frame value results) r w) e
-      (behind_line program frames f.caller.function index c.active.function arguments count f.result) lie after
+      (after_line program frames f.caller.function index c.active.function arguments count f.result) lie after
       (subst (λ (n : ℕ). slice_get code.lines (line + n) ≡ Some lines.Return) same_size (stands_back code line (ordinary (loaded frame value results)) (lines.Return ∷ []) stands_here).0)
       (omega arith) (returns_to f.caller.function index c.active.function arguments count f.result at) (aside RETURN_ADDRESS (omega arith) (inr (omega arith)) (λ e. absurd (omega (arith, e))) ∙ (way_back ∙ is_back))
       (λ g returned.
@@ -354,7 +354,7 @@ module _ (program : Program) (well : IsWellFormed program) (frames : List Frame)
         is = refl;
         next = next;
         call = at;
-        now = subst (λ (m : Contents). AtLine (behind_line program frames f.caller.function index c.active.function arguments count f.result) (after_r (loaded frame value results) r w) m g) load.unchanged returned;
+        now = subst (λ (m : Contents). AtLine (after_line program frames f.caller.function index c.active.function arguments count f.result) (after_r (loaded frame value results) r w) m g) load.unchanged returned;
         standing = there;
         returned = load.returned;
         finds = λ slot j high has unwritten live. gives j high ∙ finds slot j high has unwritten live;
@@ -367,7 +367,7 @@ module _ (program : Program) (well : IsWellFormed program) (frames : List Frame)
   loaded_length : length (ordinary (loaded frame value results)) ≡ results + frame.saved + 1
   loaded_length = length_ordinary (loaded frame value results) ∙ length_loaded frame value results few_results
 
-  -- both cases of a return, from the lines that load
+  -- The lines of a return from those that load the results on, with or without restored registers.
   abbrev tail : List Line
   tail = ordinary (loaded frame value results) ++ lines.Return ∷ []
 
@@ -387,8 +387,8 @@ module _ (program : Program) (well : IsWellFormed program) (frames : List Frame)
       (stands_back code here (lines.Branch (conditions.Registers branch.NotEqual (register_of RETURN_ADDRESS) (register_of 0)) (here + 4) ∷ []) (ordinary (load_slot frame 4 value ∷ small 2 3 ∷ syscall ∷ []) ++ tail) stands_here))
       later)
   main_goes main stands_here (f ∷ waiting) under (arguments, count, index, known, at, next, is_back, holds, finds, chain) =
-      let line : ℕ = behind_line program frames f.caller.function index c.active.function arguments count f.result in
-      let high = lie.from (behind_line program frames f.caller.function index c.active.function arguments count f.result) (returns_to f.caller.function index c.active.function arguments count f.result at).inside in
+      let line : ℕ = after_line program frames f.caller.function index c.active.function arguments count f.result in
+      let high = lie.from (after_line program frames f.caller.function index c.active.function arguments count f.result) (returns_to f.caller.function index c.active.function arguments count f.result at).inside in
       let other : r RETURN_ADDRESS ≢ r 0 = λ e. absurd (omega (arith, e, s.zero_is, way_back, is_back, high)) in
       let leaps : (if not (r RETURN_ADDRESS == r 0) then here + 4 else here + 1) ≡ here + 4 = ap (λ (b : Bool). if not b then here + 4 else here + 1) (ne_eqb (r RETURN_ADDRESS) (r 0) other) in
       walk_branch code formed addresses globals_length (words_per_call * calls) 0 here here (here + (4 + (results + frame.saved + 2))) c.output c.input _ r w run (conditions.Registers branch.NotEqual (register_of RETURN_ADDRESS) (register_of 0)) (here + 4) (here + 4) now stands_here.0 (omega arith) leaps

@@ -1,4 +1,4 @@
--- Services of the machine: a byte is read, one is written, and an exception that nothing caught ends the run.
+-- Services of the machine: reading a byte, writing a byte, and ending the run by an uncaught exception.
 use Rattle.std.proofs.Common.{◌≡◌, ℕ, suc, ◌+◌, ◌-◌, ◌*◌, ◌%◌, ◌^◌, ◌<◌, ◌≤◌, List, [], ◌∷◌, ◌++◌, length, drop, Some, refl, sym, ap, subst, ◌∙◌, arith}
 use Rattle.std.specs.List.{AllByRecursion}
 use Rattle.cyc_words.specs.Ending.{Ending, Uncaught}
@@ -7,7 +7,7 @@ use Rattle.cyc_words.specs.Simulation as simulation
 use Rattle.cyc_words.proofs.SeenLemmas.{seen_same}
 use Rattle.cyc_words.proofs.Numbers.{eqb_next}
 use Rattle.cyc_isa.specs.declared.instr.Instr.{Instr}
-use Rattle.cyc_machine.specs.State.{globals_length, words_per_call}
+use Rattle.cyc_machine_model.specs.State.{globals_length, words_per_call}
 use Rattle.cyc_plain.specs.declared.instruction.Instruction.{Instruction}
 use Rattle.cyc_plain.specs.declared.instruction.Instruction.TheVariants as plain
 use Rattle.cyc_plain.specs.declared.instruction.Operand.{Operand}
@@ -20,7 +20,7 @@ use Rattle.cyc_plain.proofs.SlotLaws.{put-other}
 use Rattle.cyc_plain.proofs.RunLaws.{zeros, over_within, zeros_at}
 use Rattle.cyc_frame.specs.inside.Layout.{AreFrames, frame_at}
 use Rattle.cyc_frame.specs.inside.Frame.{Frame}
-use Rattle.cyc_machine.specs.declared.constants.TheConstants.{ARGUMENT, END_UNCAUGHT, PUT_BYTE, SECOND_ARGUMENT, SERVICE}
+use Rattle.cyc_machine_model.specs.declared.constants.TheConstants.{ARGUMENT, END_UNCAUGHT, PUT_BYTE, SECOND_ARGUMENT, SERVICE}
 use Rattle.cyc_select.specs.declared.constants.TheConstants.{FIRST, ZERO, FRAME}
 use Rattle.cyc_select.specs.inside.Labelled.{Labelled, IsFormed}
 use Rattle.cyc_select.specs.inside.Machine as labelled
@@ -38,7 +38,7 @@ use Rattle.cyc_select.proofs.layout.Lines.{line_next}
 use Rattle.cyc_select.proofs.values.Operations.{add_small}
 use Rattle.cyc_select.proofs.relation.Values.{Caches}
 use Rattle.cyc_select.proofs.effects.Views.{Contents}
-use Rattle.cyc_select.proofs.effects.Sequences.{Stands, stands_back, stands_first, stands_behind, after_r, after_w}
+use Rattle.cyc_select.proofs.effects.Sequences.{Stands, stands_back, stands_first, stands_after, after_r, after_w}
 use Rattle.cyc_select.proofs.effects.Walks.{Walk, walk_few, walk_from, walk_block, walk_get, walk_put, walk_uncaught}
 use Rattle.cyc_select.proofs.relation.Standing.{Standing, stage_of}
 use Rattle.cyc_select.proofs.relation.Matches.{After, steps_to, At, Reached, reached, reached_at, within}
@@ -87,13 +87,13 @@ module _ (program : Program) (well : IsWellFormed program) (frames : List Frame)
   pub read_goes : (destination : ℕ) → IsAt (plain.ReadByte destination) → destination < slots → Stands code here (body program frames c.active.function here (plain.ReadByte destination))
       → Goes 1 here (here + body_count program frames c.active.function (plain.ReadByte destination)) (Running run)
   read_goes destination at_i below stands =
-      let behind = stands_back code here (ordinary (small 2 1 ∷ [])) (ordinary (syscall ∷ give_code frame 2 destination)) stands in
+      let following = stands_back code here (ordinary (small 2 1 ∷ [])) (ordinary (syscall ∷ give_code frame 2 destination)) stands in
       let hi : ℕ = here + (2 + give_count frame destination) in
       let read : Words = put (after_r (small 2 1 ∷ []) r w) 2 (byte_of c.input) in
       walk_few code formed addresses globals_length (words_per_call * calls) 1 (1 + 1) here hi c.output _ (Running run) (omega arith)
       (walk_block code formed addresses globals_length (words_per_call * calls) (small 2 1 ∷ []) 1 here here hi c.output c.input _ r w run now (stands.0, tt) (refl, tt) (omega arith)
       (λ d later.
-      walk_get code formed addresses globals_length (words_per_call * calls) 0 (here + 1) (here + 1) hi c.output c.input _ (after_r (small 2 1 ∷ []) r w) w d later behind.0 (omega arith) (small_is 1 (omega arith)) (read_word c.input s.input) has_read
+      walk_get code formed addresses globals_length (words_per_call * calls) 0 (here + 1) (here + 1) hi c.output c.input _ (after_r (small 2 1 ∷ []) r w) w d later following.0 (omega arith) (small_is 1 (omega arith)) (read_word c.input s.input) has_read
       (λ e after.
       walk_few code formed addresses globals_length (words_per_call * calls) 0 1 (suc (here + 1)) hi c.output _ (Running e) (omega arith)
       (walk_from code formed addresses globals_length (words_per_call * calls) 1 (suc (here + 1)) (here + 1 + 1) hi c.output _ (Running e) (omega arith)
@@ -106,12 +106,12 @@ module _ (program : Program) (well : IsWellFormed program) (frames : List Frame)
         lasts_same = refl;
         values_same = λ n low high other. put-other (put r 2 _) 2 n (byte_of c.input) (λ x. absurd (omega (arith, x, low))) ∙ put-other r 2 n _ (λ x. absurd (omega (arith, x, low)));
       })
-      refl (read_word c.input s.input) (omega arith) (omega arith) behind.1)))))
+      refl (read_word c.input s.input) (omega arith) (omega arith) following.1)))))
     where
       next : Configuration
       next = record c { active = record c.active { next = c.active.next + 1; slots = put c.active.slots destination (byte_of c.input) }; input = drop 1 c.input }
 
-      -- the byte is read, and is still to come into its slot
+      -- The byte is read, and still has to be written to its slot.
       has_read : (t : State) → labelled.status_of t ≡ simulation.Running → labelled.output_of t ≡ c.output → labelled.input_of t ≡ drop 1 c.input → After program pages calls c t
       has_read t running output left = (
         running,
@@ -127,7 +127,7 @@ module _ (program : Program) (well : IsWellFormed program) (frames : List Frame)
       let last : List Instr = small SERVICE PUT_BYTE ∷ syscall ∷ [] in
       let puts = load_puts globals_length (words_per_call * calls) frame (r FRAME) w r c.active.slots r w s.zero_is refl refl (λ n low high. refl) ARGUMENT refl source (held program well frames fit code formed addresses pages calls few c run r w base back now s caches (plain.WriteByte source) at_i source (λ slot is. is) there) in
       let keeps = puts_keeps globals_length (words_per_call * calls) is r w ARGUMENT _ _ FIRST (argument_scratch globals_length (words_per_call * calls)) (argument_aside globals_length (words_per_call * calls) FIRST) puts in
-      let behind = stands_behind code here is last stands in
+      let following = stands_after code here is last stands in
       let long : length is ≡ load_count source = length_load frame ARGUMENT source in
       let q : Words = after_r is r w in
       let service : add_of (after_r is r w 0) (sign_extended 2) ≡ 2 = ap (λ (x : ℕ). add_of x (sign_extended 2)) keeps.zero ∙ small_is 2 (omega arith) in
@@ -136,9 +136,9 @@ module _ (program : Program) (well : IsWellFormed program) (frames : List Frame)
       (stands_first code here is last stands) keeps.safe (omega arith)
       (λ d later.
       walk_block code formed addresses globals_length (words_per_call * calls) (small SERVICE PUT_BYTE ∷ []) 1 (here + length is) (here + length is) (here + (load_count source + 2)) c.output c.input _ (after_r is r w) (after_w is r w) d later
-      (behind.0, tt) (refl, tt) (omega arith)
+      (following.0, tt) (refl, tt) (omega arith)
       (λ e after.
-      walk_put code formed addresses globals_length (words_per_call * calls) (here + length is + 1) (here + length is + 1) (here + (load_count source + 2)) c.output c.input _ (put (after_r is r w) 2 (add_of (after_r is r w 0) (sign_extended 2))) (after_w is r w) e after behind.1.0 (omega arith) (omega (arith, long)) service
+      walk_put code formed addresses globals_length (words_per_call * calls) (here + length is + 1) (here + length is + 1) (here + (load_count source + 2)) c.output c.input _ (put (after_r is r w) 2 (add_of (after_r is r w 0) (sign_extended 2))) (after_w is r w) e after following.1.0 (omega arith) (omega (arith, long)) service
       (λ f printed.
       reached_at program well frames fit code formed addresses pages calls few c (plain.WriteByte source) at_i refl r w base back s caches
       (record c { active = record c.active { next = c.active.next + 1 }; output = c.output ++ word_of source % 256 ∷ [] }) (here + length is + 1 + 1) f (put (after_r is r w) 2 (add_of (after_r is r w 0) (sign_extended 2))) (after_w is r w) refl refl refl refl refl refl refl refl refl
@@ -146,7 +146,7 @@ module _ (program : Program) (well : IsWellFormed program) (frames : List Frame)
       (λ n low high. put-other (after_r is r w) 2 n _ (λ x. absurd (omega (arith, x, low))) ∙ all_same (after_r is r w) r keeps.values n low high) keeps.memory (λ slot. refl) (eqb_next c.active.next)
       (subst (λ (x : ℕ). At program well frames fit code formed addresses pages calls few (here + length is + 1 + 1) (c.output ++ x % 256 ∷ []) c.input (put (after_r is r w) 2 (add_of (after_r is r w 0) (sign_extended 2))) (after_w is r w) f) puts.result printed)))))
 
-  -- ---- the end by an exception
+  -- ---- the end by an uncaught exception
 
   pub uncaught_goes : (tag : ℕ) (value : Operand) → IsAt (plain.Uncaught tag value) → IsThere value → IsWord tag → Stands code here (body program frames c.active.function here (plain.Uncaught tag value)) → Goes 1 here (here + (word_count tag + load_count value + 2)) (Running run)
   uncaught_goes tag value at_i there fits stands =
@@ -163,15 +163,15 @@ module _ (program : Program) (well : IsWellFormed program) (frames : List Frame)
       let tagged : q ARGUMENT ≡ tag = second.others ARGUMENT (omega arith) (λ e. absurd (omega (arith, e))) ∙ first.result in
       let same : Uncaught (q ARGUMENT) (signed (q SECOND_ARGUMENT)) ≡ Uncaught tag (signed (word_of value)) =
       ap (λ (x : ℕ). Uncaught x (signed (q SECOND_ARGUMENT))) tagged ∙ ap (λ (x : ℕ). Uncaught tag (signed x)) second.result in
-      let behind = stands_behind code here is (js ++ last) stands in
-      let at_last = stands_behind code (here + length is) js last behind in
+      let following = stands_after code here is (js ++ last) stands in
+      let at_last = stands_after code (here + length is) js last following in
       let hi : ℕ = here + (word_count tag + load_count value + 2) in
       let long : length is ≡ word_count tag = length_word ARGUMENT tag in
       let more : length js ≡ load_count value = length_load frame SECOND_ARGUMENT value in
       walk_few code formed addresses globals_length (words_per_call * calls) 1 (length is + (length js + (1 + 1))) here hi c.output _ (Running run) (omega arith)
       (walk_block code formed addresses globals_length (words_per_call * calls) is (length js + (1 + 1)) here here hi c.output c.input _ r w run now (stands_first code here is (js ++ last) stands) first.safe (omega arith)
       (λ d later.
-      walk_block code formed addresses globals_length (words_per_call * calls) js (1 + 1) (here + length is) (here + length is) hi c.output c.input _ (after_r is r w) (after_w is r w) d later (stands_first code (here + length is) js last behind) second.safe (omega arith)
+      walk_block code formed addresses globals_length (words_per_call * calls) js (1 + 1) (here + length is) (here + length is) hi c.output c.input _ (after_r is r w) (after_w is r w) d later (stands_first code (here + length is) js last following) second.safe (omega arith)
       (λ e after.
       walk_block code formed addresses globals_length (words_per_call * calls) (small SERVICE END_UNCAUGHT ∷ []) 1 (here + length is + length js) (here + length is + length js) hi c.output c.input _ q (after_w js (after_r is r w) (after_w is r w)) e after (at_last.0, tt) (refl, tt) (omega arith)
       (λ f prepared.

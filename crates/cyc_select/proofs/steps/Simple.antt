@@ -1,4 +1,4 @@
--- The instructions that neither call nor return: what gives a slot a word, copies and operators.
+-- Instructions that neither call nor return: writes of slots, copies and operators.
 use Rattle.std.proofs.Common.{◌≡◌, ◌≢◌, ℕ, suc, length-append, ◌+◌, ◌-◌, ◌*◌, ◌%◌, ◌<◌, ◌≤◌, Bool, true, false, List, [], ◌∷◌, ◌++◌, length, Option, Some, None, refl, sym, ap, subst, ◌∙◌, arith}
 use Rattle.std.specs.Prelude.{◌==◌, ◌||◌, if◌then◌else◌}
 use Rattle.std.specs.List.{AllByRecursion}
@@ -8,7 +8,7 @@ use Rattle.cyc_words.proofs.Numbers.{eqb_other, eqb_itself, eqb_next}
 use Rattle.cyc_plain.specs.inside.Uses.{is_slot, reads, writes, leads}
 use Rattle.cyc_isa.specs.Effect.{memory_address}
 use Rattle.cyc_isa.specs.declared.instr.Instr.{Instr}
-use Rattle.cyc_machine.specs.State.{globals_length, words_per_call}
+use Rattle.cyc_machine_model.specs.State.{globals_length, words_per_call}
 use Rattle.cyc_plain.specs.declared.instruction.Instruction.{Instruction}
 use Rattle.cyc_plain.specs.declared.instruction.Instruction.TheVariants as plain
 use Rattle.cyc_plain.specs.declared.instruction.UnaryOperator.{UnaryOperator}
@@ -26,7 +26,7 @@ use Rattle.cyc_plain.proofs.RunLaws.{zeros, calls_nothing}
 use Rattle.cyc_registers.specs.inside.Interference.{AreHomes}
 use Rattle.cyc_frame.specs.inside.Layout.{AreFrames, frame_at}
 use Rattle.cyc_frame.specs.inside.Frame.{Frame}
-use Rattle.cyc_machine.specs.declared.constants.TheConstants.{RETURN_ADDRESS}
+use Rattle.cyc_machine_model.specs.declared.constants.TheConstants.{RETURN_ADDRESS}
 use Rattle.cyc_select.specs.declared.constants.TheConstants.{FIRST, ZERO, LOWEST, FRAME}
 use Rattle.cyc_select.specs.declared.plan.Plan.{Plan}
 use Rattle.cyc_select.specs.inside.Plans.{unary_plan, binary_plan}
@@ -96,7 +96,7 @@ module _ (program : Program) (well : IsWellFormed program) (frames : List Frame)
   abbrev Held : Operand → Type 0
   Held o = IsHeld globals_length (words_per_call * calls) frame (r FRAME) w r c.active.slots o
 
-  -- the instruction needs the operand's word
+  -- The instruction reads the operand's slot.
   abbrev Uses : Instruction → Operand → Type 0
   Uses i o = (slot : ℕ) → is_slot o slot ≡ true → reads (routine_at program c.active.function).results i slot ≡ true
 
@@ -106,7 +106,7 @@ module _ (program : Program) (well : IsWellFormed program) (frames : List Frame)
   pub is_word : (o : Operand) → Held o → IsWord (word_of o)
   is_word o there = operand_is_word program well frames fit code formed addresses pages calls few c run r w base back now s caches o there
 
-  -- of two operands
+  -- An instruction with two operands reads the slots of both.
   pub left_used : (left right : Operand) (slot : ℕ) → is_slot left slot ≡ true → (is_slot left slot || is_slot right slot) ≡ true
   left_used left right slot is = or_left (is_slot left slot) (is_slot right slot) is
 
@@ -116,15 +116,15 @@ module _ (program : Program) (well : IsWellFormed program) (frames : List Frame)
   abbrev KeepsHere : List Instr → Type 0
   KeepsHere is = Keeps globals_length (words_per_call * calls) is r w FIRST
 
-  -- it does not call the store
+  -- The instruction does not call the store.
   abbrev IsFree : Instruction → Type 0
   IsFree i = calls_nothing i ≡ true
 
-  -- it has all its lines
+  -- The instruction has all its lines.
   abbrev pub IsCounted : Instruction → Type 0
   IsCounted i = count_of program frames c.active.function c.active.next i ≡ body_count program frames c.active.function i
 
-  -- it gives this slot a word, and leads to the next instruction
+  -- The instruction writes exactly this slot and leads to the next one.
   abbrev Gets : Instruction → (destination : ℕ) → Type 0
   Gets i destination =
       ((slot : ℕ) → slot ≢ destination → writes program i slot ≡ false) × (writes program i destination ≡ true) × (leads i c.active.next (c.active.next + 1) ≡ true)
@@ -132,7 +132,7 @@ module _ (program : Program) (well : IsWellFormed program) (frames : List Frame)
   pub gets : (destination : ℕ) → ((slot : ℕ) → slot ≢ destination → (destination == slot) ≡ false) × ((destination == destination) ≡ true) × ((suc c.active.next == c.active.next + 1) ≡ true)
   gets destination = (λ slot other. eqb_other destination slot other, eqb_itself destination, eqb_next c.active.next)
 
-  -- registers are those that the instruction began with, but for what no call keeps, and for one that a value may have
+  -- Registers are as at the start of the instruction, except temporaries and at most one slot's register.
   pub record Agrees (but : ℕ) (q : Words) : Type 0 where
     pub zero_same : q 0 ≡ r 0
     pub base_same : q FRAME ≡ r FRAME
@@ -158,7 +158,7 @@ module _ (program : Program) (well : IsWellFormed program) (frames : List Frame)
     values_same = λ n low high other. all_same q r agrees.values_same n low high;
   }
 
-  -- a register into the slot's word in memory, where it lives there
+  -- Stores a register in the slot's word, if its home includes memory.
   abbrev stored : Bool → (register destination : ℕ) → List Instr
   stored b register destination = if b then store_slot frame register destination ∷ [] else []
 
@@ -186,7 +186,7 @@ module _ (program : Program) (well : IsWellFormed program) (frames : List Frame)
   stored_length true register destination = refl
   stored_length false register destination = refl
 
-  -- A block that leaves a word in a register, and the store of it where the slot lives in memory. Where the slot has a register the
+  -- A block that computes a word in a register, followed by the store if the slot's home includes memory. If the slot has a register, the
   -- word is in that one too.
   gives_from : (i : Instruction) → IsAt i → IsFree i → (destination word : ℕ) (input : List ℕ) → Gets i destination → destination < slots → performed program zeros c i ≡ gives (record c { input = input }) destination word
       → AllByRecursion IsWord input → (line count : ℕ) (q : Words) (d : labelled.Configuration) → At program well frames fit code formed addresses pages calls few line c.output input q w d
@@ -217,7 +217,7 @@ module _ (program : Program) (well : IsWellFormed program) (frames : List Frame)
       (λ n low high other. same n ∙ (keeps.values n low high (aside n low high other) ∙ agrees.values_same n low high (aside n low high other)))
       puts later)))
 
-  -- the same where the word is made in the slot's own register, if it has one
+  -- The word is computed in the slot's own register, if it has one.
   made_here : (destination k : ℕ) → value_register frame destination ≡ Some k → k ≡ made_in frame destination % 32
   made_here destination k has =
       let high = homes_right.high destination k has in
@@ -240,7 +240,7 @@ module _ (program : Program) (well : IsWellFormed program) (frames : List Frame)
       gives_from i at_i free destination word input given below does fine line count q d now_d is (made_in frame destination) (made_in frame destination % 32) agrees keeps result
       (λ k has. ap (after_r is q w) (made_here destination k has) ∙ result) (made_aside destination) long counted stands
 
-  -- from the instruction's own first line on
+  -- An instruction that writes a computed word is matched, from its own first line on.
   pub gives_by : (i : Instruction) → IsAt i → IsFree i → (is : List Instr) (destination word count : ℕ) → 0 < length is → Keeps globals_length (words_per_call * calls) is r w (made_in frame destination % 32) → after_r is r w (made_in frame destination % 32) ≡ word
       → Gets i destination → destination < slots → performed program zeros c i ≡ gives c destination word → length is + keep_count frame destination ≡ count → count_of program frames c.active.function c.active.next i ≡ count
       → Stands code here (ordinary (is ++ keep_code frame destination)) → Goes 1 here (here + count) (Running run)
@@ -248,7 +248,7 @@ module _ (program : Program) (well : IsWellFormed program) (frames : List Frame)
       walk_few code formed addresses globals_length (words_per_call * calls) 1 (length is + keep_count frame destination) here (here + count) c.output _ (Running run) (omega (arith, some))
       (gives_made i at_i free destination word c.input given below does s.input here count r run now is (agrees_itself (made_in frame destination % 32)) keeps result (omega (arith, long)) counted stands)
 
-  -- a register's word comes into a slot
+  -- A register's word is written to a slot.
   pub gives_register : (i : Instruction) → IsAt i → IsFree i → (destination word : ℕ) (input : List ℕ) → Gets i destination → destination < slots → performed program zeros c i ≡ gives (record c { input = input }) destination word
       → AllByRecursion IsWord input → (line count source : ℕ) (q : Words) (d : labelled.Configuration) → At program well frames fit code formed addresses pages calls few line c.output input q w d → Agrees FIRST q
       → q (source % 32) ≡ word → IsWord word
@@ -324,7 +324,7 @@ module _ (program : Program) (well : IsWellFormed program) (frames : List Frame)
           (puts_keeps globals_length (words_per_call * calls) is r w (made_in frame destination % 32) _ _ (made_in frame destination % 32) (made_in_scratch destination) (λ n n_low n_high other. other) puts) puts.result
           (gets destination) below refl (omega (arith, length_load frame k source, counted)) all_counted stands_here
 
-  -- a word that is computed goes to a slot
+  -- A computed word is written to a slot.
   plan_goes : (i : Instruction) → IsAt i → IsFree i → (plan : Plan) (destination word : ℕ) → Held plan.left × Held plan.right × IsComputable globals_length (words_per_call * calls) plan.operation (word_of plan.left) (word_of plan.right)
       → plan_word c.active.slots plan ≡ word → Gets i destination → destination < slots → performed program zeros c i ≡ gives c destination word → count_of program frames c.active.function c.active.next i ≡ plan_count frame plan destination
       → Stands code here (ordinary (plan_code frame plan destination)) → Goes 1 here (here + plan_count frame plan destination) (Running run)
@@ -334,7 +334,7 @@ module _ (program : Program) (well : IsWellFormed program) (frames : List Frame)
       gives_by i at_i free (computed_code frame target plan) destination word (plan_count frame plan destination) (omega (arith, length_computed frame target plan, operation_some plan.operation)) leaves.keeps (leaves.result ∙ is)
       given below does (omega (arith, length_computed frame target plan)) counted stands
 
-  -- a plan whose operands are there, and which the machine computes of them
+  -- A plan whose operands exist and whose operation the machine can compute on them.
   abbrev IsPlanThere : Plan → Type 0
   IsPlanThere plan =
       Held plan.left × Held plan.right × IsComputable globals_length (words_per_call * calls) plan.operation (word_of plan.left) (word_of plan.right)
@@ -360,7 +360,7 @@ module _ (program : Program) (well : IsWellFormed program) (frames : List Frame)
       plan_goes (plain.Unary operator destination operand) at_i refl (unary_plan operator operand) destination (unary_result operator (word_of operand))
       (unary_there operator operand operand_there) (unary_word c.active.slots operand (is_word operand operand_there) operator) (gets destination) below refl counted stands
 
-  -- an operator that has a plan
+  -- An operator with a plan is matched.
   pub binary_goes : (operator : BinaryOperator) (destination : ℕ) (left right : Operand) → IsAt (plain.Binary operator destination left right) → destination < slots → IsThere left → IsThere right
       → is_tested operator right ≡ false
       → performed program zeros c (plain.Binary operator destination left right) ≡ gives c destination (binary_result operator (word_of left) (word_of right))

@@ -1,14 +1,14 @@
--- Blocks: safe instructions one behind another that write registers and leave memory as it is.
+-- Blocks: sequences of safe instructions that write registers and leave memory unchanged.
 use Rattle.std.proofs.Common.{◌≡◌, ◌≢◌, ℕ, ◌<◌, ◌≤◌, List, [], ◌∷◌, ◌++◌, ap, ◌∙◌, arith}
 use Rattle.cyc_isa.specs.declared.instr.Instr.{Instr}
-use Rattle.cyc_machine.specs.declared.constants.TheConstants.{RETURN_ADDRESS}
+use Rattle.cyc_machine_model.specs.declared.constants.TheConstants.{RETURN_ADDRESS}
 use Rattle.cyc_plain.specs.inside.State.{Words}
 use Rattle.cyc_select.specs.declared.constants.TheConstants.{ZERO, FRAME, LOWEST, HANDLERS, REGIONS, GLOBALS}
 use Rattle.cyc_select.proofs.effects.Views.{Contents, does_r, does_w}
 use Rattle.cyc_select.proofs.effects.Sequences.{after_r, after_w, AreSafe, after_r-append, after_w-append}
 
--- what stays in registers from call to call: the address of the newest handler's record, how many lexical regions are open,
--- and the address that the first globals are reached from
+-- The registers that keep their meaning across calls: the newest handler's record, the number of open lexical regions, and the base address
+-- of the globals.
 abbrev pub lasting : Words → ℕ × ℕ × ℕ
 lasting r = (r HANDLERS, r REGIONS, r GLOBALS)
 
@@ -24,30 +24,30 @@ count_lasts q r same = ap (λ (p : ℕ × ℕ × ℕ). p.1) same
 pub middle_lasts : (q r : Words) → lasting q ≡ lasting r → q GLOBALS ≡ r GLOBALS
 middle_lasts q r same = ap (λ (p : ℕ × ℕ × ℕ). p.2) same
 
--- the registers that values have are the same, but for this one
+-- The registers that slots may have are unchanged, except for this one.
 abbrev pub AreSame : (but : ℕ) → (q r : Words) → Type 0
 AreSame but q r = (n : ℕ) → 6 ≤ n → n < 24 → n ≢ but → q n ≡ r n
 
--- all of them are
+-- All registers that slots may have are unchanged.
 abbrev pub ValuesSame : (q r : Words) → Type 0
 ValuesSame q r = (n : ℕ) → 6 ≤ n → n < 24 → q n ≡ r n
 
 pub all_same : (q r : Words) → AreSame 24 q r → ValuesSame q r
 all_same q r same n low high = same n low high (λ e. absurd (omega (arith, e, high)))
 
--- a register that no value has, but perhaps that one
+-- A register that no slot may have, except perhaps this one.
 abbrev pub IsAside : (but target : ℕ) → Type 0
 IsAside but target = (n : ℕ) → 6 ≤ n → n < 24 → n ≢ but → n ≢ target
 
 module _ (globals stack : ℕ) where
-  -- Instructions that write one register: where they have been executed, a word is in this register, and any other is as before.
+  -- Instructions that write one register: afterwards it holds this word, and every other register is unchanged.
   pub record Puts (is : List Instr) (r : Words) (w : Contents) (target at word : ℕ) : Type 0 where
     pub safe : AreSafe globals stack is r w
     pub memory : after_w is r w ≡ w
     pub result : after_r is r w at ≡ word
     pub others : (n : ℕ) → n < 32 → n ≢ target → after_r is r w n ≡ r n
 
-  -- instructions that leave what a call keeps, and the registers of values but for one
+  -- Instructions that keep the reserved registers and those of slots, except one.
   pub record Keeps (is : List Instr) (r : Words) (w : Contents) (but : ℕ) : Type 0 where
     pub safe : AreSafe globals stack is r w
     pub memory : after_w is r w ≡ w
@@ -58,7 +58,7 @@ module _ (globals stack : ℕ) where
     pub lasts : lasting (after_r is r w) ≡ lasting r
     pub values : AreSame but (after_r is r w) r
 
-  -- a register that no call keeps
+  -- A temporary register, which no call keeps.
   pub record IsScratch (n : ℕ) : Type 0 where
     pub not_zero : ZERO ≢ n
     pub not_base : FRAME ≢ n
@@ -80,7 +80,7 @@ module _ (globals stack : ℕ) where
     values = λ n low high other. puts.others n (omega (arith, high)) (aside n low high other);
   }
 
-  -- ---- one block behind another
+  -- ---- consecutive blocks
 
   pub safe_append : (is js : List Instr) (r : Words) (w : Contents) → AreSafe globals stack is r w → AreSafe globals stack js (after_r is r w) (after_w is r w) → AreSafe globals stack (is ++ js) r w
   safe_append [] js r w first second = second

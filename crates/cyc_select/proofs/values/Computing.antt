@@ -1,4 +1,4 @@
--- What the code of operands, of plans and of tests leaves in registers.
+-- The registers after the code of operands, plans and tests.
 use Rattle.std.proofs.Common.{◌≡◌, ◌≢◌, ℕ, ◌-◌, ◌/◌, ◌%◌, ◌^◌, ◌<◌, ◌≤◌, Bool, true, false, List, [], ◌∷◌, Option, None, Some, refl, sym, ap, subst, ◌∙◌, arith}
 use Rattle.std.specs.Prelude.{◌==◌, nat_lt, if◌then◌else◌, bit_or}
 use Rattle.std.proofs.lemmas.Bool.{eqb-true, ne_eqb}
@@ -9,7 +9,7 @@ use Rattle.cyc_isa.specs.declared.instr.Instr.{Instr}
 use Rattle.cyc_isa.specs.declared.instr.MoveFromOp.TheVariants.{High, Low}
 use Rattle.cyc_isa.specs.declared.instr.MultiplyDivideOp.TheVariants.{Multiply, Divide}
 use Rattle.cyc_isa.specs.Effect.{memory_address, load_upper_result}
-use Rattle.cyc_machine.specs.declared.constants.TheConstants.{ARGUMENT}
+use Rattle.cyc_machine_model.specs.declared.constants.TheConstants.{ARGUMENT}
 use Rattle.cyc_plain.specs.declared.instruction.Operand.{Operand}
 use Rattle.cyc_plain.specs.declared.instruction.Operand.TheVariants as operands
 use Rattle.cyc_plain.specs.inside.State.{Words, put}
@@ -84,19 +84,19 @@ module _ (globals stack : ℕ) where
 
   -- ---- operands
 
-  -- a slot's word is in its register, or lies where it can be read
+  -- A slot's word is in its register, or at an address from which it can be loaded.
   abbrev pub HeldIn : Option ℕ → Frame → (base : ℕ) → (w : Contents) (r slots : Words) → (slot : ℕ) → Type 0
   HeldIn None frame base w r slots slot =
       IsCell globals stack (memory_address base (slot_offset frame slot)) × (w.words (memory_address base (slot_offset frame slot)) ≡ slots slot)
   HeldIn (Some register) frame base w r slots slot =
       (6 ≤ register) × (register < 24) × (r register ≡ slots slot) × IsWord (slots slot)
 
-  -- an operand is a word, or that of such a slot
+  -- An operand is a constant, or its slot's word is available.
   abbrev pub IsHeld : Frame → (base : ℕ) → (w : Contents) (r slots : Words) → Operand → Type 0
   IsHeld frame base w r slots (operands.Slot number) = HeldIn (value_register frame number) frame base w r slots number
   IsHeld frame base w r slots (operands.Word word) = IsWord word
 
-  -- from registers and memory on, where the frame lies as before, and values have the registers that they had
+  -- From registers and memory in which the frame and the slots' registers are as before.
   module _ (frame : Frame) (base : ℕ) (w : Contents) (r slots : Words) (q : Words) (m : Contents) (zero : q ZERO ≡ 0) (same : q FRAME ≡ base) (memory : m ≡ w) (values : ValuesSame q r) where
     memory_puts : (target number : ℕ) → IsWritable (target % 32) → IsCell globals stack (memory_address base (slot_offset frame number)) → w.words (memory_address base (slot_offset frame number)) ≡ slots number
         → Puts globals stack (load target (slot_offset frame number) ∷ []) q m (target % 32) (target % 32) (slots number)
@@ -156,14 +156,14 @@ module _ (globals stack : ℕ) where
     word_not_second true e = absurd (omega (arith, e))
     word_not_second false e = absurd (omega (arith, e))
 
-    -- what is in a register for the left operand is not in that of the right one
+    -- The register of the left operand is not the temporary of the right one.
     pub not_second : (o : Operand) → IsHeld frame base w r slots o → operand_register frame FIRST o % 32 ≢ SECOND
     not_second (operands.Slot number) held = fetched_not_second (value_register frame number) number held
     not_second (operands.Word word) held = word_not_second (is_zero_word (operands.Word word))
 
   -- ---- two operands
 
-  -- both words are in registers
+  -- Both operands of the operator are in registers.
   pub record AreLoaded (is : List Instr) (q : Words) (m : Contents) (but left right a b : ℕ) : Type 0 where
     pub keeps : Keeps globals stack is q m but
     pub left_is : after_r is q m (left % 32) ≡ a
@@ -214,14 +214,14 @@ module _ (globals stack : ℕ) where
   pub scratch_writable : (n : ℕ) → IsScratch globals stack n → IsWritable n
   scratch_writable n scratch = ne_eqb n 0 (λ same. scratch.not_zero (sym same))
 
-  -- ---- what is computed
+  -- ---- computed words
 
-  -- the machine computes it of these words
+  -- The machine can compute the operation on these words.
   abbrev pub IsComputable : Operation → (a b : ℕ) → Type 0
   IsComputable (operations.MultiplyDivide Divide from) a b = (b ≢ 0) × (a ≡ 2 ^ 31 → b ≡ 2 ^ 32 - 1 → ⊥)
   IsComputable operation a b = Unit {0}
 
-  -- any register that has a number of its own, once the target and the two words of a product or quotient are written
+  -- Any other general register is unchanged after the target, HI and LO are written.
   kept : (q : Words) (at n high low word : ℕ) → n < 32 → n ≢ at → put (put (put q 32 high) 33 low) at word n ≡ q n
   kept q at n high low word below other =
       put-other (put (put q 32 high) 33 low) at n word other
@@ -282,12 +282,12 @@ module _ (globals stack : ℕ) where
   minus_one_is n zero =
       ap (λ (x : ℕ). add_of x (sign_extended 65535)) zero ∙ (ap (add_of 0) (sign_extended_high 65535 (omega arith) (omega arith)) ∙ refl)
 
-  -- a register has a word
+  -- The instructions leave this word in the target register and change nothing else.
   pub record Leaves (is : List Instr) (q : Words) (m : Contents) (target word : ℕ) : Type 0 where
     pub keeps : Keeps globals stack is q m (target % 32)
     pub result : after_r is q m (target % 32) ≡ word
 
-  -- from registers and memory on, where the frame lies as before, and values have the registers that they had
+  -- From registers and memory in which the frame and the slots' registers are as before.
   module _ (frame : Frame) (base : ℕ) (w : Contents) (r slots : Words) (q : Words) (m : Contents) (zero : q ZERO ≡ 0) (same : q FRAME ≡ base) (memory : m ≡ w) (values : ValuesSame q r) where
     pub operands_put : (but : ℕ) (left right : Operand) → IsHeld frame base w r slots left → IsHeld frame base w r slots right
         → AreLoaded (operands_code frame left right) q m but (operand_register frame FIRST left) (operand_register frame SECOND right) (operand_word slots left) (operand_word slots right)
@@ -349,12 +349,12 @@ module _ (globals stack : ℕ) where
     word_not_third true target apart e = absurd (omega (arith, e))
     word_not_third false target apart e = apart e
 
-    -- an operand is in another register than -1
+    -- The register that receives -1 contains no operand.
     not_third : (target : ℕ) → target % 32 ≢ THIRD → (o : Operand) → IsHeld frame base w r slots o → operand_register frame target o % 32 ≢ THIRD
     not_third target apart (operands.Slot number) held = fetched_not_third (value_register frame number) target number apart held
     not_third target apart (operands.Word word) held = word_not_third (is_zero_word (operands.Word word)) target apart
 
-    -- dividend, divisor and -1 are in registers
+    -- The dividend, the divisor and -1 are in registers.
     pub record AreDivided (is : List Instr) (left right : Operand) : Type 0 where
       pub keeps : Keeps globals stack is q m FIRST
       pub dividend : after_r is q m (operand_register frame FIRST left % 32) ≡ operand_word slots left
@@ -387,9 +387,9 @@ module _ (globals stack : ℕ) where
           minus_one = after_both globals stack c e q m THIRD ∙ minus_one_is (after_r c q m ZERO) (loaded.keeps.zero ∙ zero);
         }
 
--- ---- what is made of a word
+-- ---- the register in which a slot's word is computed
 
--- the register where a slot's word is made is one that no call keeps
+-- The register in which a slot's word is computed is a temporary or the slot's own.
 pub made_scratch : (globals stack : ℕ) (program : Program) (r : Routine) (frame : Frame) → AreHomes program r frame.saved frame.homes → (slot : ℕ) → IsScratch globals stack (made_in frame slot % 32)
 made_scratch globals stack program r frame right slot = go (value_register frame slot) refl
   where

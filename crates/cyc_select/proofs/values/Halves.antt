@@ -1,4 +1,4 @@
--- The numbers that stand in an instruction are the words that they are for.
+-- The immediates in instructions denote the words that they stand for.
 use Rattle.std.proofs.Common.{◌≡◌, ◌≢◌, ℕ, ◌+◌, ◌-◌, ◌%◌, ◌^◌, ◌<◌, ◌≤◌, ℤ, pos, ◌+ℤ◌, ◌-ℤ◌, Bool, true, false, not, Some, None, refl, sym, ap, subst, ◌∙◌, inl, inr, arith}
 use Rattle.std.specs.Prelude.{◌==◌, nat_le, nat_lt, if◌then◌else◌}
 use Rattle.std.proofs.lemmas.Bool.{cases_eq, cases_lt, eqb-true, ltb-true, leb-true, eq-eqb, or_cases}
@@ -25,7 +25,7 @@ fits_is word is_word fits = elim (or_cases (nat_lt word (2 ^ 15)) (nat_le (2 ^ 3
       ∙ (let e : word % 2 ^ 16 + (2 ^ 32 - 2 ^ 16) ≡ word = omega (arith, above, is_word) in e)
 ]
 
--- ---- halves
+-- ---- 16-bit immediates
 
 half_either : (word h : ℕ) (b : Bool) → fits_signed word ≡ b → (if b then Some (word % 2 ^ 16) else None) ≡ Some h → (h ≡ word % 2 ^ 16) × (fits_signed word ≡ true)
 half_either word h true fits is = ((let e : Some (word % 2 ^ 16) ≡ Some h = is in let same : h ≡ word % 2 ^ 16 = cc in same), fits)
@@ -61,7 +61,7 @@ module _ (slots : Words) where
   next_is (operands.Slot number) h is = absurd (let e : None ≡ Some h = is in cc)
   next_is (operands.Word word) h is = half_is (add_of word 1) h (IsWord-add_of word 1) is
 
-  -- the greatest word has no next one
+  -- The greatest signed word has no successor.
   pub next_not_greatest : (o : Operand) (h : ℕ) → next_half o ≡ Some h → operand_word slots o ≢ 2 ^ 31 - 1
   next_not_greatest (operands.Slot number) h is same = absurd (let e : None ≡ Some h = is in cc)
   next_not_greatest (operands.Word word) h is same =
@@ -106,7 +106,7 @@ module _ (slots : Words) where
       not_same : (a b : ℕ) → a ≡ b → not (a == b) ≡ true → ⊥
       not_same a b same other = absurd (let e : false ≡ true = sym (ap not (eq-eqb a b same)) ∙ other in cc)
 
--- ---- they fit
+-- ---- the immediates fit 16 bits
 
 pub signed_fits : (o : Operand) (h : ℕ) → signed_half o ≡ Some h → h < 2 ^ 16
 signed_fits (operands.Slot number) h is = absurd (let e : None ≡ Some h = is in cc)
@@ -124,7 +124,7 @@ pub low_fits : (o : Operand) (h : ℕ) → low_half o ≡ Some h → h < 2 ^ 16
 low_fits (operands.Slot number) h is = absurd (let e : None ≡ Some h = is in cc)
 low_fits (operands.Word word) h is = (low_either word h (nat_lt word (2 ^ 16)) refl is).1
 
--- ---- one more, as a signed number
+-- ---- successors as signed numbers
 
 pub next_signed : (b : ℕ) → IsWord b → b ≢ 2 ^ 31 - 1 → signed (add_of b 1) ≡ signed b +ℤ pos 1
 next_signed b is_word other = elim (cases_lt b (2 ^ 31)) [

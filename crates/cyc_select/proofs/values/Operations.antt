@@ -1,4 +1,4 @@
--- What the machine's operations make of words, against what the plain program's operators are.
+-- The machine's operations on words agree with the plain program's operators.
 use Rattle.std.proofs.Common.{◌≡◌, ◌≢◌, ℕ, zero, suc, ◌+◌, ◌-◌, ◌*◌, ◌/◌, ◌%◌, ◌^◌, ◌<◌, ◌≤◌, ℤ, pos, negsuc, neg_ℤ, ◌*ℤ◌, Bool, not, sym, ap, subst, ◌∙◌, arith, inl, inr}
 use Rattle.std.proofs.lemmas.Nat.{mul-le}
 use Rattle.std.proofs.Math.IntN.{pos-*ℤ-pos, pos-*ℤ-negsuc, negsuc-*ℤ-pos, negsuc-*ℤ-negsuc}
@@ -12,7 +12,7 @@ use Rattle.cyc_isa.specs.Effect.{load_upper_result, memory_address, low_result, 
 use Rattle.cyc_isa.specs.declared.instr.MultiplyDivideOp.TheVariants.{Multiply}
 use Rattle.cyc_plain.specs.inside.Operators.{truth}
 use Rattle.cyc_select.specs.declared.constants.TheConstants.{GLOBALS_MIDDLE, NEAR_GLOBALS}
-use Rattle.cyc_machine.specs.State.{data_base}
+use Rattle.cyc_machine_model.specs.State.{data_base}
 
 -- ---- constants and addresses
 
@@ -32,7 +32,7 @@ take_small a number is_word some small fits =
     ap (add_of a) (sign_extended_high (2 ^ 16 - number) (omega arith) (omega arith))
     ∙ (let e : add_of a (2 ^ 16 - number + (2 ^ 32 - 2 ^ 16)) ≡ a - number = omega arith in e)
 
--- where a global lies
+-- The address of a global as upper half plus signed offset.
 pub global_lies : (address : ℕ) → IsWord address → memory_address (load_upper_result ((address + 2 ^ 15) / 2 ^ 16)) (address % 2 ^ 16) ≡ address
 global_lies address is_word = elim (cases_lt (address % 2 ^ 16) (2 ^ 15)) [
   | inl low ↦
@@ -43,7 +43,7 @@ global_lies address is_word = elim (cases_lt (address % 2 ^ 16) (2 ^ 15)) [
       ∙ (let e : add_of (load_upper_result ((address + 2 ^ 15) / 2 ^ 16)) (address % 2 ^ 16 + (2 ^ 32 - 2 ^ 16)) ≡ address = omega (arith, high) in e)
 ]
 
--- where one lies that is reached from the register of globals
+-- The address of a global as base register plus signed offset.
 pub near_lies : (global : ℕ) → global < NEAR_GLOBALS → memory_address GLOBALS_MIDDLE ((data_base + 4 * global + 2 ^ 15) % 2 ^ 16) ≡ data_base + 4 * global
 near_lies global near = elim (cases_lt global (2 ^ 13)) [
   | inl low ↦
@@ -91,7 +91,7 @@ not_zero_test a = elim (cases_eq a 0) [
 
 -- ---- products
 
--- a number that is not far below 0
+-- The signed number is at least -2^63.
 abbrev IsNear : ℤ → Type 0
 IsNear (pos n) = Unit {0}
 IsNear (negsuc n) = n < 2 ^ 63
@@ -121,7 +121,7 @@ low_product a b is_a is_b =
 
 -- ---- quotients by -1
 
--- the product of the dividend and -1 has the quotient by -1, and that of 0 and 0 the remainder
+-- The product of the dividend and -1 gives the quotient by -1, and that of 0 and 0 the remainder.
 pub product_quotient : (a : ℕ) → IsWord a → low_result Multiply a (2 ^ 32 - 1) ≡ div_of a (2 ^ 32 - 1)
 unfolding div_of
 product_quotient a is_a =

@@ -1,9 +1,9 @@
--- The address that a global is reached from: the first globals have it in a register, and for the others it comes into one.
+-- The base address of a global: a register contains that of the first globals, and for the others it is loaded.
 use Rattle.std.proofs.Common.{◌≡◌, ◌≢◌, ℕ, ◌+◌, ◌*◌, ◌%◌, ◌^◌, ◌<◌, Bool, true, false, [], ◌∷◌, refl, ap, ◌∙◌, arith}
 use Rattle.std.specs.Prelude.{◌/◌, if◌then◌else◌}
 use Rattle.std.proofs.lemmas.Bool.{ltb-true}
 use Rattle.cyc_isa.specs.Effect.{load_upper_result, memory_address}
-use Rattle.cyc_machine.specs.State.{data_base, globals_length}
+use Rattle.cyc_machine_model.specs.State.{data_base, globals_length}
 use Rattle.cyc_plain.specs.inside.State.{Words}
 use Rattle.cyc_plain.proofs.SlotLaws.{put-other}
 use Rattle.cyc_select.specs.declared.constants.TheConstants.{GLOBALS, GLOBALS_MIDDLE, NEAR_GLOBALS, SECOND}
@@ -15,7 +15,7 @@ use Rattle.cyc_select.proofs.values.Computing.{second_scratch, second_aside}
 use Rattle.cyc_select.proofs.values.Operations.{global_lies, near_lies}
 
 module _ (globals stack : ℕ) where
-  -- the address is in a register, and the global lies at an offset from it
+  -- The base address is in a register, and the global lies at an offset from it.
   pub record Reaches (near : Bool) (global but : ℕ) (q : Words) (m : Contents) : Type 0 where
     pub keeps : Keeps globals stack (if near then [] else upper_of_global global ∷ []) q m but
     pub others : (n : ℕ) → n < 32 → n ≢ SECOND → after_r (if near then [] else upper_of_global global ∷ []) q m n ≡ q n

@@ -1,5 +1,5 @@
--- What the code that emits says of itself: what it adds to the lines made so far, and the tables of line numbers that it
--- looks targets up in. This project's own choice.
+-- Contracts of the functions that emit code: the lines that they append, and the tables of line numbers used to resolve targets. The form
+-- of these contracts is this project's own choice.
 use Rattle.std.specs.Prelude.{◌≡◌, ℕ, suc, ◌+◌, ◌<◌, ◌≤◌, ◌⊎◌, List, [], ◌∷◌, ◌++◌, length, sum_by, Option, Some, None, slice_get, Result, OnOk}
 use Rattle.std.specs.declared.alloc.AllocError.{AllocError}
 use Rattle.cyc_plain.specs.declared.instruction.Instruction.{Instruction}
@@ -24,19 +24,19 @@ use Rattle.cyc_select.specs.declared.tables.FunctionLines.{FunctionLines}
 use Rattle.cyc_select.specs.declared.tables.Ready.{Ready}
 use Rattle.cyc_select.specs.declared.tables.Tables.{Tables}
 
--- these lines are added behind what there was
+-- A successful call appends these lines.
 abbrev pub AddsLines : {T : Type 0} → Result T AllocError → (old new : Emitter) → List Line → Type 0
 AddsLines result old new lines = OnOk result (new.lines.items ≡ old.lines.items ++ lines)
 
--- a slot lies where an offset reaches
+-- The offset of a slot in the frame fits an instruction.
 abbrev pub IsReached : Frame → (slot : ℕ) → Type 0
 IsReached frame slot = slot_word frame slot < MOST_FRAME_WORDS
 
--- and so do so many slots from this one on, where there are any
+-- The offsets of `count` slots from `first` on fit an instruction.
 abbrev pub AreReached : Frame → (first count : ℕ) → Type 0
 AreReached frame first count = (count ≡ 0) ⊎ (slot_word frame first + count ≤ MOST_FRAME_WORDS)
 
--- an operand's slot, if it has one
+-- The slot of an operand, if it has one, is reached.
 abbrev pub IsFound : Frame → Operand → Type 0
 IsFound frame (operands.Slot number) = IsReached frame number
 IsFound frame (operands.Word word) = Unit {0}
@@ -45,7 +45,7 @@ abbrev pub IsArgumentFound : Frame → Option Operand → Type 0
 IsArgumentFound frame (Some operand) = IsFound frame operand
 IsArgumentFound frame None = Unit {0}
 
--- What a request takes is found, and the slots that get its answer are reached.
+-- The operands of a request are reached, and so are the slots of its result.
 pub record IsRequestFound (frame : Frame) (request : Request) : Type 0 where
   pub first : IsArgumentFound frame (first_operand request)
   pub second : IsArgumentFound frame (second_operand request)
@@ -59,37 +59,37 @@ IsTestFound frame (tests.Operands op left right) = IsFound frame left × IsFound
 IsTestFound frame (tests.Sign op operand) = IsFound frame operand
 IsTestFound frame (tests.Computed plan) = IsPlanFound frame plan
 
--- so many lines a program has at most
+-- The most lines that a program may have.
 abbrev pub most_lines : ℕ
 most_lines = START_LINES + MOST_SIZE
 
--- no function returns more than a value has words
+-- Each function returns at most the words of one value.
 abbrev pub AreFew : Program → Type 0
 AreFew program = (k : ℕ) → (routine_at program k).results ≤ GREATEST_VALUE
 
--- the line numbers of the instructions of a function's code from this index on, of which the first has this one
+-- The line numbers of the instructions of a function's code from `index` on, the first of which has number `here`.
 abbrev pub instruction_lines : Program → List Frame → (function index here : ℕ) → List Instruction → List ℕ
 instruction_lines program frames function index here [] = []
 instruction_lines program frames function index here (i ∷ code) =
     here ∷ instruction_lines program frames function (suc index) (here + count_of program frames function index i) code
 
--- those of the instructions of a function
+-- The line numbers of the instructions of a function.
 abbrev pub lines_in : Program → List Frame → (function : ℕ) → List ℕ
 lines_in program frames function =
     instruction_lines program frames function 0 (function_line program frames function + saving_count (frame_at frames function)) (routine_at program function).code
 
--- where the lines of a function begin
+-- The table gives the line numbers of a function.
 pub record IsNumbered (program : Program) (frames : List Frame) (function : ℕ) (its : FunctionLines) : Type 0 where
   pub first_is : its.first ≡ function_line program frames function
   pub lines_are : its.lines.items ≡ lines_in program frames function
 
--- where those of the first functions begin, so many of them
+-- The table gives the line numbers of the first `count` functions.
 pub record AreNumbered (program : Program) (frames : List Frame) (count : ℕ) (functions : List FunctionLines) : Type 0 where
   pub as_many : length functions ≡ count
   pub each : (k : ℕ) (its : FunctionLines) → slice_get functions k ≡ Some its → IsNumbered program frames k its
 
--- What the lines of a program are made from: its functions are not too large together, these are their frames, and here their lines
--- begin.
+-- The data from which the lines of a program are emitted: its functions are not too large together, and the frames and line numbers are
+-- theirs.
 pub record AreReady (program : Program) (frames : List Frame) (functions : List FunctionLines) : Type 0 where
   pub well_formed : IsWellFormed program
   pub few : sum_by size program.functions ≤ MOST_SIZE
@@ -99,7 +99,7 @@ pub record AreReady (program : Program) (frames : List Frame) (functions : List 
 abbrev pub IsReady : Ready → Type 0
 IsReady ready = AreReady ready.plain.now ready.frames.now ready.functions.now
 
--- The same for a function of the program, with the numbers of the first lines of its instructions.
+-- The data for one function of the program, with the line numbers of its instructions.
 pub record AreTables (program : Program) (frames : List Frame) (functions : List FunctionLines) (lines : List ℕ) (function : ℕ) : Type 0 where
   pub ready : AreReady program frames functions
   pub function_in_range : function < length program.functions

@@ -1,8 +1,8 @@
--- What stands in front of a branch: the first line of its target.
+-- The instruction hoisted before a branch to fill its delay slot: the first line of the branch target.
 use Rattle.std.specs.Prelude.{ℕ, ◌+◌, ◌%◌, ◌^◌, ◌==◌, ◌&&◌, ◌||◌, Bool, false, not, nat_lt, nat_le, if◌then◌else◌, List, [], ◌∷◌, ◌++◌, Option, Some, None, slice_get}
 use Rattle.cyc_isa.specs.declared.instr.Instr.{Instr}
 use Rattle.cyc_isa.specs.declared.instr.Instr.TheVariants as machine
-use Rattle.cyc_machine.specs.declared.constants.TheConstants.{ARGUMENT, GET_BYTE, SERVICE}
+use Rattle.cyc_machine_model.specs.declared.constants.TheConstants.{ARGUMENT, GET_BYTE, SERVICE}
 use Rattle.cyc_plain.specs.declared.instruction.Instruction.{Instruction}
 use Rattle.cyc_plain.specs.declared.instruction.Instruction.TheVariants as plain
 use Rattle.cyc_plain.specs.declared.instruction.Operand.{Operand}
@@ -24,7 +24,7 @@ use Rattle.cyc_select.specs.inside.Instructions.{add_immediate, small, minus, lo
 use Rattle.cyc_select.specs.inside.Slots.{value_register, made_in, is_own}
 use Rattle.cyc_select.specs.inside.Operands.{or_immediate, operand_register, condition_of, is_tested}
 
--- An idle place has no lines of its own: where its frame says so, of an instruction that may be idle.
+-- An idle place has no lines: its frame marks it as idle, and its instruction may be idle.
 abbrev pub is_idle : Frame → (index : ℕ) → Instruction → Bool
 is_idle frame index (plain.Move destination source) = idle_at frame.idle index
 is_idle frame index (plain.MoveWords destination source count) = idle_at frame.idle index
@@ -34,32 +34,31 @@ is_idle frame index (plain.Jump target) = idle_at frame.idle index
 is_idle frame index (plain.Branch comparison left right target) = idle_at frame.idle index
 is_idle frame index instruction = false
 
--- ---- what a branch does of its target
+-- ---- the line that a branch copies from its target
 
--- Where the first line of a branch's target makes a word of what is in registers, in a register that no value has, or in its
--- slot's own where the frame says so, a copy of it stands in front of the branch, which leads to the line behind: so the slot
--- of the branch is filled.
+-- The first line of a branch target may only compute a register from registers. A copy of such a line may fill the branch's delay slot, and
+-- the branch then jumps to the next line. The register must be a temporary, or that of a slot for which the frame permits the copy.
 
--- the first line of what brings a word into a register
+-- The first line that loads a word into a register.
 abbrev pub word_first : (target word : ℕ) → Instr
 word_first target word =
     if fits_signed word
     then small target (word % 2 ^ 16)
     else (if nat_lt word (2 ^ 16) then or_immediate target word else load_upper target word)
 
--- The first line of what brings an operand into a register, or else this one of what stands behind; none where it is loaded.
-abbrev pub slot_first : Option ℕ → (behind : Option Instr) → Option Instr
-slot_first None behind = None
-slot_first (Some own) behind = behind
+-- The first line that loads an operand into a register, or else `following`; none if the line reads memory.
+abbrev pub slot_first : Option ℕ → (following : Option Instr) → Option Instr
+slot_first None following = None
+slot_first (Some own) following = following
 
-abbrev pub operand_first : Frame → (register : ℕ) → Operand → (behind : Option Instr) → Option Instr
-operand_first frame register (operands.Slot number) behind = slot_first (value_register frame number) behind
-operand_first frame register (operands.Word word) behind =
-    if is_zero_word (operands.Word word) then behind else Some (word_first register word)
+abbrev pub operand_first : Frame → (register : ℕ) → Operand → (following : Option Instr) → Option Instr
+operand_first frame register (operands.Slot number) following = slot_first (value_register frame number) following
+operand_first frame register (operands.Word word) following =
+    if is_zero_word (operands.Word word) then following else Some (word_first register word)
 
--- of two operands
-abbrev pub operands_first : Frame → (left right : Operand) → (behind : Option Instr) → Option Instr
-operands_first frame left right behind = operand_first frame FIRST left (operand_first frame SECOND right behind)
+-- The first line that loads two operands, or else `following`.
+abbrev pub operands_first : Frame → (left right : Operand) → (following : Option Instr) → Option Instr
+operands_first frame left right following = operand_first frame FIRST left (operand_first frame SECOND right following)
 
 abbrev pub operation_first : Operation → (target left right : ℕ) → Option Instr
 operation_first (operations.Arithmetic op) target left right = Some (arithmetic_of op target left right)
@@ -68,7 +67,7 @@ operation_first (operations.Shift op) target left right = Some (shift_of op targ
 operation_first (operations.ShiftBy op amount) target left right = Some (shift_by_of op target left amount)
 operation_first (operations.MultiplyDivide op from) target left right = None
 
--- the first line of a plan, of a division that is tested, of a test, and of a copy
+-- The first line of a plan, of a tested division, of a test, and of a copy.
 abbrev pub plan_first : Frame → (target : ℕ) → Plan → Option Instr
 plan_first frame target plan =
     operands_first frame plan.left plan.right
@@ -94,8 +93,8 @@ abbrev pub move_first : Option ℕ → Frame → Operand → Option Instr
 move_first None frame source = operand_first frame FIRST source None
 move_first (Some register) frame source = load_first frame register source
 
--- The first line of an instruction, where it has one that makes a word of what is in registers, and behind it the instruction
--- has more lines or leads to the next one alone.
+-- The first line of an instruction, if it computes a register from registers. More lines must follow, or the instruction must lead only to
+-- the next one.
 abbrev pub first_line : Frame → Instruction → Option Instr
 first_line frame (plain.Move destination source) = move_first (value_register frame destination) frame source
 first_line frame (plain.Unary operator destination operand) =
@@ -110,18 +109,18 @@ first_line frame (plain.WriteByte source) = load_first frame ARGUMENT source
 first_line frame (plain.StoreGlobal global source) = operand_first frame FIRST source None
 first_line frame instruction = None
 
--- the register that an instruction computes a slot's word in, if the slot has one
+-- The register of the slot that an instruction computes, if the slot has one.
 abbrev pub given_register : Frame → Instruction → Option ℕ
 given_register frame (plain.Move destination source) = value_register frame destination
 given_register frame (plain.Unary operator destination operand) = value_register frame destination
 given_register frame (plain.Binary operator destination left right) = value_register frame destination
 given_register frame instruction = None
 
--- and of a place, where the frame says that it fills slots
+-- The register of the target slot, if the frame allows the place to fill delay slots.
 abbrev pub own_register : Frame → (target : ℕ) → Instruction → Option ℕ
 own_register frame target instruction = if fills_at frame.fills target then given_register frame instruction else None
 
--- the register that an instruction makes a word in, of what is in registers alone
+-- The register that an instruction computes from registers only.
 abbrev pub target_of : Instr → Option ℕ
 target_of (machine.Immediate op target source half) = Some target.number
 target_of (machine.LoadUpper target half) = Some target.number
@@ -134,11 +133,11 @@ abbrev pub tests_register : Condition → (register : ℕ) → Bool
 tests_register (conditions.Registers op left right) register = left.number == register || right.number == register
 tests_register (conditions.Sign op source) register = source.number == register
 
--- no value has the register, and nothing keeps its word
+-- A temporary register: no slot has it, and its word is not used later.
 abbrev pub is_spare : (register : ℕ) → Bool
 is_spare register = register == FIRST || (nat_lt ZERO register && nat_le register THIRD_RESULT)
 
--- A line may stand in front of the branch where it makes a word in such a register or in this one, and none that is tested.
+-- A line may stand before the branch if it writes a temporary or the register `own`, and the branch does not test that register.
 abbrev pub may_write : Condition → (own : Option ℕ) → Option ℕ → Bool
 may_write condition own None = false
 may_write condition own (Some register) =
@@ -155,7 +154,7 @@ hoisted_at frame condition target (Some instruction) =
     then None
     else copied_if condition (own_register frame target instruction) (first_line frame instruction)
 
--- what stands in front of a branch by this test to this place of the code
+-- The line hoisted before a branch with this test to this place.
 abbrev pub hoisted : Frame → List Instruction → Test → (target : ℕ) → Option Instr
 hoisted frame code test target = hoisted_at frame (condition_of frame test) target (slice_get code target)
 
@@ -167,7 +166,7 @@ abbrev pub with_hoisted : List Instr → Option Instr → List Instr
 with_hoisted instructions None = instructions
 with_hoisted instructions (Some first) = instructions ++ first ∷ []
 
--- the line that the branch leads to
-abbrev pub behind_hoisted : Option Instr → (label : ℕ) → ℕ
-behind_hoisted None label = label
-behind_hoisted (Some first) label = label + 1
+-- The line that the branch then jumps to.
+abbrev pub after_hoisted : Option Instr → (label : ℕ) → ℕ
+after_hoisted None label = label
+after_hoisted (Some first) label = label + 1

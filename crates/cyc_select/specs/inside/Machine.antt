@@ -1,19 +1,18 @@
--- The labelled machine: what labelled code means. It is the machine without program counter and delay slots: a line is
--- executed whole, and a return address is looked up among the addresses of the lines behind calls. What an ordinary instruction does
--- is the machine's own step.
+-- The labelled machine, the meaning of labelled code: the machine without program counter and delay slots. A line is executed as a whole,
+-- and a return looks up the line with the return address. An ordinary instruction has the effect of the machine's own step.
 use Rattle.std.specs.Prelude.{◌≡◌, ◌≢◌, ℕ, ◌+◌, ◌-◌, ◌*◌, ◌⊎◌, Bool, true, false, if◌then◌else◌, List, [], ◌++◌, length, replicate, Option, Some, None, slice_get, slice_set}
 use Rattle.cyc_words.specs.Ending.{Ending}
 use Rattle.cyc_isa.specs.Effect.{branch_taken, branch_zero_taken}
 use Rattle.cyc_isa.specs.declared.instr.Instr.{Instr}
 use Rattle.cyc_store.specs.State.{StoreState}
-use Rattle.cyc_machine.specs.declared.constants.TheConstants.{ARGUMENT, RETURN_ADDRESS, STACK_POINTER}
-use Rattle.cyc_machine.specs.State as machines
-use Rattle.cyc_machine.specs.State.{register, with_register, globals_length, words_per_call, stack_end}
-use Rattle.cyc_machine.specs.Step.{Acts, executes}
-use Rattle.cyc_machine.specs.Run.{World, told, ending_of}
-use Rattle.cyc_machine.specs.declared.event.Event.{Event}
-use Rattle.cyc_machine.specs.declared.phase.Phase.{Phase}
-use Rattle.cyc_machine.specs.declared.phase.Phase.TheVariants as phases
+use Rattle.cyc_machine_model.specs.declared.constants.TheConstants.{ARGUMENT, RETURN_ADDRESS, STACK_POINTER}
+use Rattle.cyc_machine_model.specs.State as machines
+use Rattle.cyc_machine_model.specs.State.{register, with_register, globals_length, words_per_call, stack_end}
+use Rattle.cyc_machine_model.specs.Step.{Acts, executes}
+use Rattle.cyc_machine_model.specs.Run.{World, reported, ending_of}
+use Rattle.cyc_machine_model.specs.declared.event.Event.{Event}
+use Rattle.cyc_machine_model.specs.declared.phase.Phase.{Phase}
+use Rattle.cyc_machine_model.specs.declared.phase.Phase.TheVariants as phases
 use Rattle.cyc_words.specs.Seen.{Seen, showing}
 use Rattle.cyc_words.specs.Simulation as simulation
 use Rattle.cyc_select.specs.inside.Labelled.{Labelled, is_ordinary, IsReturnPoint}
@@ -22,8 +21,8 @@ use Rattle.cyc_select.specs.declared.code.Condition.TheVariants as conditions
 use Rattle.cyc_select.specs.declared.code.Line.{Line}
 use Rattle.cyc_select.specs.declared.code.Line.TheVariants as lines
 
--- A run that goes on: the registers, HI and LO, the words of the data range and of the stack, the store, what was printed,
--- what is still to be read, and the line that is executed next.
+-- A running configuration: the registers, HI and LO, the words of the data range and the stack, the store, the output, the remaining input,
+-- and the next line.
 pub record Configuration : Type 0 where
   pub registers : List ℕ
   pub high : ℕ
@@ -35,14 +34,14 @@ pub record Configuration : Type 0 where
   pub input : List ℕ
   pub line : ℕ
 
--- A state: under way, ended, or stopped by a trap or for want of a line.
+-- A state: running, ended, or stopped by a trap or a missing line.
 pub data State : Type 0 where
   Running : Configuration → State
   Ended : Ending → (output input : List ℕ) → State
   Stopped : (output input : List ℕ) → State
 
--- The machine with the same registers and memory. It has no text, so that no word of it can be loaded, and its counter
--- has no meaning.
+-- The machine without text, with the registers and memory of the labelled machine. The machine loads no word of text, because it has no
+-- text, and its program counter has no meaning.
 abbrev pub core_of : Configuration → machines.Core
 core_of c =
     record { registers = c.registers; high = c.high; low = c.low; counter = 0; next = 4; in_slot = false }
@@ -56,7 +55,7 @@ machine_of c = record { core = core_of c; memory = memory_of c; phase = phases.R
 abbrev pub world_of : Configuration → World
 world_of c = record { machine = machine_of c; output = c.output; input = c.input }
 
--- The configuration with a machine's registers and memory, and this line next.
+-- The configuration with a machine's registers and memory, and this next line.
 abbrev pub from_world : World → ℕ → Configuration
 from_world w line =
     record {
@@ -71,51 +70,51 @@ from_world w line =
       line = line;
     }
 
--- a run that is over has ended as a program does, or was stopped
+-- A run that is over has ended like a program or was stopped.
 abbrev pub closed : World → Option Ending → State
 closed w (Some ending) = Ended ending w.output w.input
 closed w None = Stopped w.output w.input
 
--- the state that a world shows, with this line next where it goes on
+-- The state that a world corresponds to, with this next line if it is running.
 abbrev pub settled : World → (line : ℕ) → Phase → State
 settled w line phases.Running = Running (from_world w line)
 settled w line phases.Waiting = Stopped w.output w.input
 settled w line (phases.Over end) = closed w (ending_of end)
 
--- An ordinary instruction: the machine that executes it may tell this event, and leave this state.
+-- An ordinary instruction: the machine that executes it may emit this event and reach this state.
 abbrev pub Performs : Configuration → Instr → State → Type 0
 Performs c instruction new =
     (event : Event) × (after : machines.State) × Acts (executes (machine_of c) instruction) (machine_of c) event after
-    × (new ≡ settled (told (world_of c) event after) (c.line + 1) (told (world_of c) event after).machine.phase)
+    × (new ≡ settled (reported (world_of c) event after) (c.line + 1) (reported (world_of c) event after).machine.phase)
 
 abbrev pub PerformsOrdinary : Bool → Configuration → Instr → State → Type 0
 PerformsOrdinary true c instruction new = Performs c instruction new
 PerformsOrdinary false c instruction new = new ≡ Stopped c.output c.input
 
--- the word of a register
+-- The word in a register.
 abbrev pub word_in : Configuration → ℕ → ℕ
 word_in c number = register (core_of c) number
 
--- this line is next
+-- The configuration with this number of the next line.
 abbrev pub at : Configuration → ℕ → Configuration
 at c line = record c { line = line }
 
--- register 31 has the address of the line behind this one
+-- The configuration with the address of the next line in register 31.
 abbrev pub linked : (ℕ → ℕ) → Configuration → Configuration
 linked addresses c = record c { registers = (with_register (core_of c) RETURN_ADDRESS (addresses (c.line + 1))).registers }
 
--- a return goes to the line behind a call that lies at the address in register 31, and stops the run where there is none
+-- A return goes to the line after a call whose address is in register 31, and stops the run if there is none.
 abbrev pub Returns : Labelled → (ℕ → ℕ) → Configuration → State → Type 0
 Returns code addresses c new =
     ((line : ℕ) × IsReturnPoint code line × (addresses line ≡ word_in c RETURN_ADDRESS) × (new ≡ Running (at c line)))
     ⊎ (((line : ℕ) → IsReturnPoint code line → addresses line ≢ word_in c RETURN_ADDRESS) × (new ≡ Stopped c.output c.input))
 
--- a condition holds of these registers
+-- A branch condition holds for these register values.
 abbrev pub holds_of : (ℕ → ℕ) → Condition → Bool
 holds_of words (conditions.Registers op left right) = branch_taken op (words left.number) (words right.number)
 holds_of words (conditions.Sign op source) = branch_zero_taken op (words source.number)
 
--- what a line does
+-- The effect of executing a line.
 abbrev pub Executes : Labelled → (ℕ → ℕ) → Configuration → Line → State → Type 0
 Executes code addresses c (lines.Ordinary instruction) new = PerformsOrdinary (is_ordinary instruction) c instruction new
 Executes code addresses c (lines.Branch condition label) new =
@@ -128,13 +127,13 @@ abbrev pub ExecutesAt : Labelled → (ℕ → ℕ) → Configuration → Option 
 ExecutesAt code addresses c (Some line) new = Executes code addresses c line new
 ExecutesAt code addresses c None new = new ≡ Stopped c.output c.input
 
--- From old, the labelled machine may step to new. A run that is over stays as it is.
+-- The labelled machine may step from `old` to `new`. A run that is over stays as it is.
 abbrev pub Step : Labelled → (ℕ → ℕ) → State → State → Type 0
 Step code addresses (Running c) new = ExecutesAt code addresses c (slice_get code.lines c.line) new
 Step code addresses (Ended ending output input) new = new ≡ Ended ending output input
 Step code addresses (Stopped output input) new = new ≡ Stopped output input
 
--- where the run stands, and what is seen of it; a run that is over stands nowhere
+-- The next line, and the observation of a state. A run that is over has no next line.
 abbrev pub line_of : State → ℕ
 line_of (Running c) = c.line
 line_of (Ended ending output input) = 0
@@ -158,7 +157,7 @@ status_of (Running c) = simulation.Running
 status_of (Ended ending output input) = simulation.Ended ending
 status_of (Stopped output input) = simulation.Failed
 
--- labelled code whose lines lie at these addresses, as a machine
+-- Labelled code with lines at these addresses, as a transition system.
 abbrev pub machine : Labelled → (ℕ → ℕ) → simulation.Machine
 machine code addresses = record {
   State = State;
@@ -169,8 +168,8 @@ machine code addresses = record {
   status = status_of;
 }
 
--- The start. Register 29 points to the end of the stack and register 4 has the call limit, as for the machine, and the
--- data range begins with the globals.
+-- The initial state. As on the machine, register 29 points to the end of the stack, register 4 holds the call limit, and the data range
+-- begins with the globals.
 
 abbrev pub start_in : (globals stack : List ℕ) → StoreState → (calls : ℕ) → (input : List ℕ) → State
 start_in globals stack store calls input =
@@ -186,7 +185,7 @@ start_in globals stack store calls input =
       line = 0;
     })
 
--- (Not an `abbrev`, since it would compute a million words.)
+-- The words of the data range. The definition is not an `abbrev`, since unfolding it would compute a million words.
 unfoldable pub globals_of : List ℕ → List ℕ
 globals_of globals = globals ++ replicate (globals_length - length globals) 0
 

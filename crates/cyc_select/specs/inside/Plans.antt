@@ -1,5 +1,5 @@
--- Which instructions compute what an operator or a comparison says, and of which operands. This project's own choice; that
--- they compute it is proved (`proofs/Plans`).
+-- Plans: the machine operation and operands that compute an operator or a comparison. The plans are this project's own choice;
+-- `proofs/Plans` proves them correct.
 use Rattle.std.specs.Prelude.{ℕ, Bool, true, false, Option, Some, None, if◌then◌else◌}
 use Rattle.cyc_isa.specs.declared.instr.ImmediateOp.{ImmediateOp}
 use Rattle.cyc_isa.specs.declared.instr.ImmediateOp.TheVariants as immediate
@@ -34,12 +34,12 @@ abbrev pub arithmetic_plan : ArithmeticOp → (left right : Operand) → Outcome
 arithmetic_plan op left right outcome =
     record { operation = operations.Arithmetic op; left = left; right = right; outcome = outcome }
 
--- a plan with a number in the instruction: the right operand is the word 0, which needs no line
+-- A plan whose instruction has an immediate operand. The right operand of such a plan is the word 0, which needs no line.
 abbrev pub immediate_plan : ImmediateOp → Operand → (half : ℕ) → Outcome → Plan
 immediate_plan op left half outcome =
     record { operation = operations.Immediate op half; left = left; right = operands.Word 0; outcome = outcome }
 
--- such a plan, if there is a number, and otherwise another
+-- A plan with an immediate, if there is one, else another plan.
 abbrev pub immediate_or : Option ℕ → ImmediateOp → Operand → Outcome → Plan → Plan
 immediate_or (Some half) op left outcome other = immediate_plan op left half outcome
 immediate_or None op left outcome other = other
@@ -61,7 +61,7 @@ abbrev pub multiply_divide_plan : MultiplyDivideOp → MoveFromOp → (left righ
 multiply_divide_plan op from left right =
     record { operation = operations.MultiplyDivide op from; left = left; right = right; outcome = outcomes.AsItIs }
 
--- a product: by a power of two it is a shift
+-- The plan of a product: a shift if one factor is a power of two.
 abbrev pub product_or : Option ℕ → (left right : Operand) → Plan
 product_or (Some amount) left right = shift_by (Some amount) shift.Left left right
 product_or None left right = multiply_divide_plan Multiply Low left right
@@ -71,7 +71,7 @@ product_plan left right = product_or (power_of right) left right
 
 -- ---- comparisons
 
--- the comparison with its operands the other way round
+-- The comparison that holds for the exchanged operands exactly if the given one holds.
 abbrev pub mirrored : Comparison → Comparison
 mirrored comparisons.Less = comparisons.Greater
 mirrored comparisons.LessOrEqual = comparisons.GreaterOrEqual
@@ -79,14 +79,14 @@ mirrored comparisons.Greater = comparisons.Less
 mirrored comparisons.GreaterOrEqual = comparisons.LessOrEqual
 mirrored comparison = comparison
 
--- whether a word is 0, or is not
+-- The plan of the test that a word is 0, or is not.
 abbrev pub zero_plan : Operand → (holds : Bool) → Plan
 zero_plan operand holds =
     if holds
     then immediate_plan immediate.SetLessUnsigned operand 1 outcomes.AsItIs
     else arithmetic_plan arithmetic.SetLessUnsigned (operands.Word 0) operand outcomes.AsItIs
 
--- whether two words are equal, or are not: their difference is 0, or is not
+-- The plan of the test that two words are equal, or differ: their difference is 0, or is not.
 abbrev pub differs_plan : (left right : Operand) → Outcome → Plan
 differs_plan left right outcome =
     immediate_or (negated_half right) immediate.AddUnsigned left outcome
@@ -98,7 +98,7 @@ equal_plan left right holds =
     then zero_plan left holds
     else differs_plan left right (if holds then outcomes.WhetherZero else outcomes.WhetherNotZero)
 
--- whether the left word is less than the right one, or is not
+-- The plan of the test that the left word is less than the right one, or is not.
 abbrev pub less_plan : (left right : Operand) → Outcome → Plan
 less_plan left right outcome =
     immediate_or (signed_half right) immediate.SetLess left outcome
@@ -109,7 +109,7 @@ less_unsigned_plan left right outcome =
     immediate_or (signed_half right) immediate.SetLessUnsigned left outcome
     (arithmetic_plan arithmetic.SetLessUnsigned left right outcome)
 
--- whether the left word is at most the right one, which is whether it is less than one more, or is not
+-- The plan of the test that the left word is at most the right one: it is less than its successor.
 abbrev pub at_most_plan : (left right : Operand) → (holds : Bool) → Plan
 at_most_plan left right holds =
     immediate_or (next_half right) immediate.SetLess left (if holds then outcomes.AsItIs else outcomes.WhetherZero)
@@ -125,13 +125,13 @@ compared_plan comparisons.GreaterOrEqual left right = less_plan left right outco
 compared_plan comparisons.LessUnsigned left right = less_unsigned_plan left right outcomes.AsItIs
 compared_plan comparisons.GreaterOrEqualUnsigned left right = less_unsigned_plan left right outcomes.WhetherZero
 
--- the operands are better the other way round: the left one is a word, and the comparison can be mirrored
+-- The operands should be exchanged: the left one is a constant, and the comparison can be mirrored.
 abbrev pub is_mirrored : Comparison → Operand → Bool
 is_mirrored comparisons.LessUnsigned left = false
 is_mirrored comparisons.GreaterOrEqualUnsigned left = false
 is_mirrored comparison left = is_word left
 
--- whether a comparison holds: 1 or 0
+-- The plan of a comparison's truth value: 1 or 0.
 abbrev pub comparison_plan : Comparison → (left right : Operand) → Plan
 comparison_plan comparison left right =
     if is_mirrored comparison left
@@ -156,12 +156,12 @@ difference_plan left right =
     immediate_or (negated_half right) immediate.AddUnsigned left outcomes.AsItIs
     (arithmetic_plan arithmetic.SubtractUnsigned left right outcomes.AsItIs)
 
--- an operation on bits, of registers and of a register and a number
+-- The plan of a bitwise operation, on two registers or on a register and an immediate.
 abbrev pub bits_plan : ArithmeticOp → ImmediateOp → (left right : Operand) → Plan
 bits_plan op number_op left right =
     immediate_or (low_half right) number_op left outcomes.AsItIs (arithmetic_plan op left right outcomes.AsItIs)
 
--- (a division's plan is for a divisor by which the machine divides any word)
+-- The plan of a division assumes a divisor by which the machine can divide every word.
 abbrev pub operator_plan : BinaryOperator → (left right : Operand) → Plan
 operator_plan binary.Add left right = sum_plan left right
 operator_plan binary.Subtract left right = difference_plan left right
@@ -180,7 +180,7 @@ operator_plan binary.LessOrEqual left right = comparison_plan comparisons.LessOr
 operator_plan binary.Greater left right = comparison_plan comparisons.Greater left right
 operator_plan binary.GreaterOrEqual left right = comparison_plan comparisons.GreaterOrEqual left right
 
--- the operands are better the other way round: the left one is a word, and the operator commutes
+-- The operands should be exchanged: the left one is a constant, and the operator commutes.
 abbrev pub is_swapped : BinaryOperator → Operand → Bool
 is_swapped binary.Add left = is_word left
 is_swapped binary.Multiply left = is_word left
@@ -189,14 +189,14 @@ is_swapped binary.Or left = is_word left
 is_swapped binary.Xor left = is_word left
 is_swapped operator left = false
 
--- an operator on two operands
+-- The plan of an operator on two operands.
 abbrev pub binary_plan : BinaryOperator → (left right : Operand) → Plan
 binary_plan operator left right =
     if is_swapped operator left then operator_plan operator right left else operator_plan operator left right
 
--- ---- tests
+-- ---- tests of branches
 
--- the branch on a sign that is a comparison with 0, if there is one
+-- The branch on a sign that performs a comparison with 0, if there is one.
 abbrev pub sign_of : Comparison → Option BranchZeroOp
 sign_of comparisons.Less = Some signs.Less
 sign_of comparisons.LessOrEqual = Some signs.LessOrEqual
@@ -204,7 +204,7 @@ sign_of comparisons.Greater = Some signs.Greater
 sign_of comparisons.GreaterOrEqual = Some signs.GreaterOrEqual
 sign_of comparison = None
 
--- a test for order: with 0 by the sign
+-- A test of order; a comparison with 0 tests the sign.
 abbrev pub sign_or : Option BranchZeroOp → Operand → Test → Test
 sign_or (Some op) operand other = tests.Sign op operand
 sign_or None operand other = other
@@ -217,7 +217,7 @@ order_test comparison left right =
     then sign_or (sign_of (mirrored comparison)) right (tests.Computed (comparison_plan comparison left right))
     else tests.Computed (comparison_plan comparison left right))
 
--- what a branch tests
+-- The test that a branch on a comparison performs.
 abbrev pub test_of : Comparison → (left right : Operand) → Test
 test_of comparisons.Equal left right = tests.Operands branch.Equal left right
 test_of comparisons.NotEqual left right = tests.Operands branch.NotEqual left right

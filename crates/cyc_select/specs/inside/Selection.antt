@@ -1,8 +1,8 @@
--- Which code a plain program has, as a function. This project's own choice; what the code means is stated and proved apart
--- from it (`Selected`).
+-- The code of a plain program, as a function. The selected code is this project's own choice; its meaning is stated and proved separately
+-- (`Selected`).
 --
--- Frames grow downward from the end of the stack. The return address of the call that starts the program is 0. Which
--- registers have what is in the module `constants`.
+-- Frames grow downward from the end of the stack. The return address of the call that starts the program is 0. The module `constants`
+-- assigns the registers.
 use Rattle.std.specs.Prelude.{ℕ, zero, suc, ◌+◌, ◌==◌, Bool, true, false, if◌then◌else◌, List, [], ◌∷◌, ◌++◌, map, Option, Some, None}
 use Rattle.cyc_registers.specs.inside.Bars.{is_crossing}
 use Rattle.cyc_isa.specs.Decoding.{register_of}
@@ -16,7 +16,7 @@ use Rattle.cyc_isa.specs.declared.instr.MoveFromOp.{MoveFromOp}
 use Rattle.cyc_isa.specs.declared.instr.MoveFromOp.TheVariants.{High, Low}
 use Rattle.cyc_isa.specs.declared.instr.MultiplyDivideOp.TheVariants.{Divide, Multiply}
 use Rattle.cyc_isa.specs.declared.instr.ArithmeticOp.TheVariants as arithmetic
-use Rattle.cyc_machine.specs.declared.constants.TheConstants.{ALLOCATE, ARGUMENT, CLOSE_DYNAMIC, CLOSE_LEXICAL, END_FULL, END_RETURNED, END_UNCAUGHT, FREE, GET_BYTE, OPEN_DYNAMIC, OPEN_LEXICAL, PUT_BYTE, RETURN_ADDRESS, SECOND_ANSWER, SECOND_ARGUMENT, SERVICE}
+use Rattle.cyc_machine_model.specs.declared.constants.TheConstants.{ALLOCATE, ARGUMENT, CLOSE_DYNAMIC, CLOSE_LEXICAL, END_FULL, END_RETURNED, END_UNCAUGHT, FREE, GET_BYTE, OPEN_DYNAMIC, OPEN_LEXICAL, PUT_BYTE, RETURN_ADDRESS, SECOND_ANSWER, SECOND_ARGUMENT, SERVICE}
 use Rattle.cyc_plain.specs.declared.instruction.Instruction.{Instruction}
 use Rattle.cyc_plain.specs.declared.instruction.Instruction.TheVariants as plain
 use Rattle.cyc_plain.specs.declared.instruction.BinaryOperator.{BinaryOperator}
@@ -40,29 +40,30 @@ use Rattle.cyc_select.specs.inside.Instructions.{load, slot_offset, store_slot, 
 use Rattle.cyc_select.specs.inside.Slots.{value_register, load_slot, made_in, keep_code, give_code, bring_all, reloads, global_code, push_frame, pop_frame, restores, restoring_code, way_count, coming, saving_code, saving_count, result_registers, load_all, load_words, store_all}
 use Rattle.cyc_select.specs.inside.Operands.{word_code, load_code, operand_code, operand_register, operands_code, plan_code, test_code, condition_of, address_code, at_address, load_count, operand_count, reload_count, is_tested}
 use Rattle.cyc_select.specs.inside.Passing.{spills, spills_count, copies}
-use Rattle.cyc_select.specs.inside.Hoisting.{is_idle, hoisted, with_hoisted, behind_hoisted}
+use Rattle.cyc_select.specs.inside.Hoisting.{is_idle, hoisted, with_hoisted, after_hoisted}
 use Rattle.cyc_select.specs.inside.Counts.{count_of, function_count, function_line, instruction_line}
 
--- ---- blocks
+-- ---- instruction sequences
 
 abbrev pub ordinary : List Instr → List Line
 ordinary instructions = map lines.Ordinary instructions
 
--- dividend and divisor in registers, and -1 in a third
+-- Loads dividend and divisor into registers, and -1 into a third.
 abbrev pub divided_code : Frame → (left right : Operand) → List Instr
 divided_code frame left right = operands_code frame left right ++ add_immediate THIRD ZERO (minus 1) ∷ []
 
--- What has the quotient and the remainder by -1 as its words: the product of the dividend and -1, and that of 0 and 0.
+-- The instruction that computes the quotient and the remainder by -1: the product of the dividend and -1, and that of 0 and 0.
 abbrev pub product_code : MoveFromOp → (left : ℕ) → Instr
 product_code High left = multiply_divide_of Multiply ZERO ZERO
 product_code Low left = multiply_divide_of Multiply left THIRD
 
--- a division by the machine, and the word of it that is read
+-- Divides, and reads the quotient or the remainder.
 abbrev pub quotient_code : Frame → MoveFromOp → (destination left right : ℕ) → List Instr
 quotient_code frame which destination left right =
     multiply_divide_of Divide left right ∷ move_from_of which (made_in frame destination) ∷ keep_code frame destination
 
--- By -1 the machine does not divide the least number, so there it multiplies, and the word is read in the same place.
+-- The code of a division. For the divisor -1 it multiplies instead, since the machine cannot divide the least number by -1. The product is
+-- read from the place of the quotient.
 abbrev pub divide_code : Frame → (here : ℕ) → MoveFromOp → (destination : ℕ) → (left right : Operand) → List Line
 divide_code frame here which destination left right =
     ordinary (divided_code frame left right)
@@ -71,7 +72,7 @@ divide_code frame here which destination left right =
     ∷ lines.Jump (here + (operand_count frame left + operand_count frame right) + 5)
     ∷ ordinary (quotient_code frame which destination (operand_register frame FIRST left) (operand_register frame SECOND right))
 
--- which result of a division is read
+-- The result register of a division: quotient or remainder.
 abbrev pub part_of : BinaryOperator → MoveFromOp
 part_of binary.Remainder = High
 part_of operator = Low
@@ -82,9 +83,9 @@ operator_code frame here operator destination left right =
     then divide_code frame here (part_of operator) destination left right
     else ordinary (plan_code frame (binary_plan operator left right) destination)
 
--- ---- the lines
+-- ---- lines of instructions
 
--- an operand into a slot
+-- Copies an operand into a slot.
 abbrev pub move_to : Option ℕ → Frame → (destination : ℕ) → Operand → List Instr
 move_to None frame destination source =
     operand_code frame FIRST source ++ store_slot frame (operand_register frame FIRST source) destination ∷ []
@@ -94,17 +95,17 @@ abbrev pub move_code : Frame → (destination : ℕ) → Operand → List Line
 move_code frame destination source =
     ordinary (move_to (value_register frame destination) frame destination source)
 
--- a jump where a test holds, with what was hoisted in front of it
+-- Branches if a test holds, with the hoisted line before it.
 abbrev pub branch_code : Frame → Test → (first : Option Instr) → (label : ℕ) → List Line
 branch_code frame test first label =
     ordinary (with_hoisted (test_code frame test) first)
-    ++ lines.Branch (condition_of frame test) (behind_hoisted first label) ∷ []
+    ++ lines.Branch (condition_of frame test) (after_hoisted first label) ∷ []
 
--- an operand's low byte is printed
+-- Prints an operand's low byte.
 abbrev pub write_code : Frame → Operand → List Line
 write_code frame source = ordinary (load_code frame ARGUMENT source ++ small SERVICE PUT_BYTE ∷ syscall ∷ [])
 
--- a global into a slot, and an operand into a global
+-- Loads a global into a slot, or stores an operand in a global.
 abbrev pub load_global : Frame → (destination global : ℕ) → List Line
 load_global frame destination global =
     ordinary (global_code LoadWord (made_in frame destination) global ++ keep_code frame destination)
@@ -113,19 +114,20 @@ abbrev pub store_global : Frame → (global : ℕ) → Operand → List Line
 store_global frame global source =
     ordinary (operand_code frame FIRST source ++ global_code StoreWord (operand_register frame FIRST source) global)
 
--- words from slots to slots, one by one
+-- Copies words from slots to slots, one by one.
 abbrev pub moves : Frame → (destination source count : ℕ) → List Instr
 moves frame destination source zero = []
 moves frame destination source (suc count) =
     move_to (value_register frame destination) frame destination (operands.Slot source)
     ++ moves frame (suc destination) (suc source) count
 
--- or all of them are in registers before the first goes to its slot
+-- Copies words from slots to slots, loading all words before the first is written.
 abbrev pub all_moved : Frame → (destination source count : ℕ) → List Instr
 all_moved frame destination source count =
     load_words frame source (result_registers count) ++ store_all frame destination (result_registers count)
 
--- Where they get lost one by one, they go all together; their slots have no registers then.
+-- Copies several words: all at once if copying one by one would overwrite a source. If they are copied at once, the slots have no
+-- registers.
 abbrev pub moved_code : Frame → (destination source count : ℕ) → List Instr
 moved_code frame destination source count =
     if is_crossing destination source count
@@ -135,14 +137,14 @@ moved_code frame destination source count =
 abbrev pub move_words : Frame → (destination source count : ℕ) → List Line
 move_words frame destination source count = ordinary (moved_code frame destination source count)
 
--- the address of a slot's word comes into a slot
+-- Writes the address of a slot's word to a slot.
 abbrev pub address_of : Frame → (destination slot : ℕ) → List Line
 address_of frame destination slot =
     ordinary (
     add_immediate (made_in frame destination) FRAME (slot_offset frame slot)
     ∷ keep_code frame destination)
 
--- a word or a byte of memory into a slot, and an operand into one
+-- Loads a word or a byte of memory into a slot, or stores an operand.
 abbrev pub load_at : Frame → MemoryOp → (destination : ℕ) → (address : Operand) → (offset : ℕ) → List Line
 load_at frame op destination address offset =
     ordinary (
@@ -156,12 +158,12 @@ store_at frame op address offset source =
     address_code frame address offset
     ++ (operand_code frame SECOND source ++ at_address frame op (operand_register frame SECOND source) address offset ∷ []))
 
--- an operand into a register, where there is one
+-- Loads an optional argument into a register.
 abbrev pub argument_code : Frame → (register : ℕ) → Option Operand → List Instr
 argument_code frame register None = []
 argument_code frame register (Some operand) = load_code frame register operand
 
--- which service a request is
+-- The number of the service that serves a request.
 abbrev pub service_number : Request → ℕ
 service_number (requests.OpenLexical destination) = OPEN_LEXICAL
 service_number (requests.CloseTo mark) = CLOSE_LEXICAL
@@ -170,11 +172,11 @@ service_number (requests.CloseDynamic handle) = CLOSE_DYNAMIC
 service_number (requests.Allocate destination handle words) = ALLOCATE
 service_number (requests.Free address) = FREE
 
--- its answer comes to slots; a service answers in the registers of results
+-- Moves the result of a request from the result registers to slots.
 abbrev pub answer_code : Frame → Request → List Instr
 answer_code frame request = bring_all false frame (destination_of request) (result_registers (answer_count request))
 
--- A register tells how many lexical regions are open: one more than before one was opened, and as many as the mark where others were closed.
+-- Updates the register that counts the open lexical regions: one more than before on opening, and the mark after closing.
 abbrev pub regions_code : Request → List Instr
 regions_code (requests.OpenLexical destination) = add_immediate REGIONS SECOND_ANSWER 1 ∷ []
 regions_code (requests.CloseTo mark) = add_immediate REGIONS ARGUMENT 0 ∷ []
@@ -183,7 +185,7 @@ regions_code (requests.CloseDynamic handle) = []
 regions_code (requests.Allocate destination handle words) = []
 regions_code (requests.Free address) = []
 
--- a call of the store
+-- The code of a request to the store.
 abbrev pub ask_code : Frame → Request → List Line
 ask_code frame request =
     ordinary (
@@ -191,28 +193,28 @@ ask_code frame request =
     ++ (argument_code frame SECOND_ARGUMENT (second_operand request)
     ++ small SERVICE (service_number request) ∷ syscall ∷ (regions_code request ++ answer_code frame request)))
 
--- the end of a run with an exception that nothing caught
+-- Ends the run with an uncaught exception.
 abbrev pub uncaught_code : Frame → (tag : ℕ) → Operand → List Line
 uncaught_code frame tag value =
     ordinary (
     word_code ARGUMENT tag ++ (load_code frame SECOND_ARGUMENT value ++ small SERVICE END_UNCAUGHT ∷ syscall ∷ []))
 
--- Where no call more may be under way the run ends.
+-- Ends the run if no further call is allowed.
 abbrev pub room_code : (here : ℕ) → List Line
 room_code here =
     lines.Branch (conditions.Registers branch.NotEqual (register_of FRAME) (register_of LOWEST)) (here + 3) ∷ []
     ++ ordinary (small SERVICE END_FULL ∷ syscall ∷ [])
 
--- A call of the function whose first line has this label. Where there is room for it the callee's frame is the current one.
+-- Calls the function whose first line has this label. If there is room, the callee's frame becomes the current one.
 abbrev pub calling_code : (caller callee : Frame) → (here label arguments count : ℕ) → List Line
 calling_code caller callee here label arguments count =
     room_code here ++ ordinary (push_frame ∷ copies caller callee arguments 0 count) ++ lines.Call label ∷ []
 
--- After a call of a function with so many results, the caller gets what was returned.
+-- After a call of a function with `results` result words, moves them to the caller's slots.
 abbrev pub returned_code : Frame → (result results : ℕ) → List Line
 returned_code frame result results = ordinary (bring_all true frame result (result_registers results) ++ reloads frame)
 
--- where `main` was called first its result ends the run
+-- Ends the run if this is the return of the first call of `main`.
 abbrev pub ending_code : Bool → Frame → (here value : ℕ) → List Line
 ending_code is_main frame here value =
     if is_main
@@ -220,7 +222,7 @@ ending_code is_main frame here value =
     ++ ordinary (load_slot frame ARGUMENT value ∷ small SERVICE END_RETURNED ∷ syscall ∷ [])
     else []
 
--- the return of a function with so many results, which may be the one that was called first
+-- Returns from a function with `results` result words, which may be the first call of `main`.
 abbrev pub returning_code : (is_main : Bool) → Frame → (here value results : ℕ) → List Line
 returning_code is_main frame here value results =
     ordinary (restoring_code frame)
@@ -228,14 +230,14 @@ returning_code is_main frame here value results =
     ++ ordinary (load_all frame value (result_registers results) ++ (restores frame ++ pop_frame ∷ []))
     ++ lines.Return ∷ [])
 
--- A handler is opened. Its record has the handler before it, its frame, and the line behind the call here.
+-- Fills a handler's record: the previous handler, the frame, and the line after the recording call.
 abbrev pub recorded_code : Frame → (first : ℕ) → List Instr
 recorded_code frame first =
     store_slot frame HANDLERS first
     ∷ store_slot frame FRAME (first + 1)
     ∷ []
 
--- where an exception comes to it
+-- Stores the exception's tag and value when it reaches the handler.
 abbrev pub caught_code : Frame → (first : ℕ) → List Instr
 caught_code frame first =
     store_slot frame ARGUMENT first
@@ -255,11 +257,11 @@ try_code frame here first label =
     ∷ ordinary (caught_code frame first)
     ++ (lines.Jump label ∷ ordinary (opened_code frame first)))
 
--- a word of the newest handler's record
+-- Loads a word of the newest handler's record.
 abbrev pub load_record : (target offset : ℕ) → Instr
 load_record target offset = machine.Memory LoadWord (register_of target) (register_of HANDLERS) offset
 
--- An exception goes to the newest handler, or ends the run.
+-- Passes an exception to the newest handler, or ends the run.
 abbrev pub unwound_code : List Instr
 unwound_code =
     load_record RETURN_ADDRESS 8 ∷ load_record FRAME 4 ∷ load_record HANDLERS 0 ∷ []
@@ -271,7 +273,7 @@ throw_code frame here tag value =
     ∷ ordinary (small SERVICE END_UNCAUGHT ∷ syscall ∷ [])
     ++ (ordinary unwound_code ++ lines.Return ∷ []))
 
--- what an instruction does, from this line on
+-- The lines of an instruction, if the first has number `here`.
 abbrev pub body : Program → List Frame → (function here : ℕ) → Instruction → List Line
 body program frames function here (plain.Move destination source) =
     move_code (frame_at frames function) destination source
@@ -322,13 +324,13 @@ body program frames function here (plain.Finish value) =
 body program frames function here (plain.Uncaught tag value) = uncaught_code (frame_at frames function) tag value
 body program frames function here (plain.Enter callee) = room_code here
 
--- behind a call, the lines that are executed after it returned
-abbrev pub behind : Program → List Frame → (function : ℕ) → Instruction → List Line
-behind program frames function (plain.Call callee arguments count result) =
+-- The lines that follow a call, executed after it returns.
+abbrev pub following : Program → List Frame → (function : ℕ) → Instruction → List Line
+following program frames function (plain.Call callee arguments count result) =
     returned_code (frame_at frames function) result (routine_at program callee).results
-behind program frames function instruction = []
+following program frames function instruction = []
 
--- what the instruction at this index does, from this line on
+-- The lines of the instruction at `index`, if the first has number `here`.
 abbrev pub place_lines : Program → List Frame → (function index here : ℕ) → Instruction → List Line
 place_lines program frames function index here instruction =
     if is_idle (frame_at frames function) index instruction then [] else body program frames function here instruction
@@ -336,7 +338,7 @@ place_lines program frames function index here instruction =
 abbrev pub code_lines : Program → List Frame → (function index here : ℕ) → List Instruction → List Line
 code_lines program frames function index here [] = []
 code_lines program frames function index here (i ∷ code) =
-    place_lines program frames function index here i ++ behind program frames function i
+    place_lines program frames function index here i ++ following program frames function i
     ++ code_lines program frames function (suc index) (here + count_of program frames function index i) code
 
 abbrev pub routine_lines : Program → List Frame → (function here : ℕ) → Routine → List Line
@@ -350,8 +352,8 @@ function_lines program frames function here (r ∷ routines) =
     routine_lines program frames function here r
     ++ function_lines program frames (suc function) (here + function_count program frames function r) routines
 
--- The globals are reached from a register. `main`, whose first line has this label, is called: its frame lies below the end of
--- the stack, and there is room for those of as many calls as may be under way.
+-- Loads the base register of the globals and calls `main`, whose first line has this label. The frame of `main` lies below the end of the
+-- stack, which has room for the frames of all allowed calls.
 abbrev pub start_code : (label : ℕ) → List Line
 start_code label =
     ordinary (

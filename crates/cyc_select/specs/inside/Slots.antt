@@ -1,12 +1,12 @@
--- What brings words to slots and from them, to globals and from them, and what a function saves where it begins.
+-- The code that reads and writes slots and globals, and that saves registers at a function's entry.
 use Rattle.std.specs.Prelude.{ℕ, zero, suc, ◌+◌, ◌*◌, ◌/◌, ◌%◌, ◌^◌, ◌==◌, ◌&&◌, Bool, false, nat_lt, if◌then◌else◌, List, [], ◌∷◌, ◌++◌, map, sum_by, take, Option, Some, None}
 use Rattle.cyc_plain.specs.declared.limits.TheConstants.{MOST_FRAME_WORDS}
 use Rattle.cyc_isa.specs.Decoding.{register_of}
 use Rattle.cyc_isa.specs.declared.instr.Instr.{Instr}
 use Rattle.cyc_isa.specs.declared.instr.Instr.TheVariants as machine
 use Rattle.cyc_isa.specs.declared.instr.MemoryOp.{MemoryOp}
-use Rattle.cyc_machine.specs.declared.constants.TheConstants.{RETURN_ADDRESS}
-use Rattle.cyc_machine.specs.State.{data_base}
+use Rattle.cyc_machine_model.specs.declared.constants.TheConstants.{RETURN_ADDRESS}
+use Rattle.cyc_machine_model.specs.State.{data_base}
 use Rattle.cyc_registers.specs.declared.home.Home.{Home}
 use Rattle.cyc_registers.specs.declared.home.Home.TheVariants as homes
 use Rattle.cyc_registers.specs.declared.home.TheConstants.{FIRST_PRESERVED}
@@ -15,9 +15,9 @@ use Rattle.cyc_frame.specs.inside.Frame.{Frame}
 use Rattle.cyc_select.specs.declared.constants.TheConstants.{FIRST_RESULT, SECOND_RESULT, THIRD_RESULT, FIRST, SECOND, FRAME, GLOBALS, NEAR_GLOBALS}
 use Rattle.cyc_select.specs.inside.Instructions.{load, store, slot_offset, store_slot, add_immediate, minus, copy}
 
--- ---- slots and their registers
+-- ---- slots and registers
 
--- the register that a slot has, and a register where it has none
+-- The register of a slot, and a temporary if it has none.
 abbrev pub value_register : Frame → (slot : ℕ) → Option ℕ
 value_register frame slot = homing.register_of (homing.home_of frame.homes slot)
 
@@ -25,11 +25,11 @@ abbrev pub or_else : Option ℕ → ℕ → ℕ
 or_else None other = other
 or_else (Some register) other = register
 
--- whether the slot's word in the frame holds its value
+-- The slot's word in the frame holds its value.
 abbrev pub is_kept : Frame → (slot : ℕ) → Bool
 is_kept frame slot = homing.is_kept (homing.home_of frame.homes slot)
 
--- a slot's word into a register
+-- Loads a slot's word into a register.
 abbrev pub load_from : Option ℕ → Frame → (target slot : ℕ) → Instr
 load_from None frame target slot = load target (slot_offset frame slot)
 load_from (Some register) frame target slot = copy target register
@@ -37,14 +37,14 @@ load_from (Some register) frame target slot = copy target register
 abbrev pub load_slot : Frame → (target slot : ℕ) → Instr
 load_slot frame target slot = load_from (value_register frame slot) frame target slot
 
--- the register where a slot's word is made, and what brings it from there into the frame
+-- The register in which a slot's word is computed, and the store from there into the frame.
 abbrev pub made_in : Frame → (slot : ℕ) → ℕ
 made_in frame slot = or_else (value_register frame slot) FIRST
 
 abbrev pub keep_code : Frame → (slot : ℕ) → List Instr
 keep_code frame slot = if is_kept frame slot then store_slot frame (made_in frame slot) slot ∷ [] else []
 
--- a register's word into a slot
+-- Writes a register to a slot.
 abbrev pub give_to : Option ℕ → Frame → (source slot : ℕ) → List Instr
 give_to None frame source slot = store_slot frame source slot ∷ []
 give_to (Some register) frame source slot = copy register source ∷ keep_code frame slot
@@ -52,27 +52,28 @@ give_to (Some register) frame source slot = copy register source ∷ keep_code f
 abbrev pub give_code : Frame → (source slot : ℕ) → List Instr
 give_code frame source slot = give_to (value_register frame slot) frame source slot
 
--- the slot has this register
+-- The home of the slot is this register.
 abbrev pub is_own : Option ℕ → (register : ℕ) → Bool
 is_own None register = false
 is_own (Some own) register = own == register
 
--- the same, where the register may be the slot's own: then its word is there already
+-- Writes a register to a slot; no move is needed if it is the slot's own register.
 abbrev pub hand_code : Frame → (source slot : ℕ) → List Instr
 hand_code frame source slot =
     if is_own (value_register frame slot) source then keep_code frame slot else give_code frame source slot
 
--- The same as `give_code`, where registers that stand beside memory are read again behind it: such a slot gets the word in memory alone.
+-- Writes a register to a slot as `give_code` does. If registers are reloaded afterwards (`again`), a slot with a register and memory is
+-- written in memory only.
 abbrev pub bring_code : (again : Bool) → Frame → (source slot : ℕ) → List Instr
 bring_code again frame source slot =
     if again && is_kept frame slot then store_slot frame source slot ∷ [] else give_code frame source slot
 
--- the words of registers into the slots from this one on
+-- Writes registers to the slots from `slot` on.
 abbrev pub bring_all : (again : Bool) → Frame → (slot : ℕ) → List ℕ → List Instr
 bring_all again frame slot [] = []
 bring_all again frame slot (source ∷ sources) = bring_code again frame source slot ++ bring_all again frame (suc slot) sources
 
--- Registers that stand beside memory are read again.
+-- Reloads the register of a slot that also has its word in memory.
 abbrev pub reload : Frame → Home → (slot : ℕ) → List Instr
 reload frame homes.Memory slot = []
 reload frame (homes.Both register) slot = load register (slot_offset frame slot) ∷ []
@@ -85,8 +86,8 @@ reloads_from frame slot (h ∷ hs) = reload frame h slot ++ reloads_from frame (
 abbrev pub reloads : Frame → List Instr
 reloads frame = reloads_from frame 0 frame.homes
 
--- A register has the address in the middle of the first globals, which an offset from it reaches: the offset is extended by
--- its sign. Any other global lies at an offset from a half's multiple of 2 ^ 16, which comes into a register before.
+-- A base register holds the address in the middle of the first globals, which signed offsets reach. The address of any other global is
+-- split: its upper half is loaded first.
 abbrev pub global_address : ℕ → ℕ
 global_address global = data_base + 4 * global
 
@@ -109,19 +110,18 @@ abbrev pub at_global : MemoryOp → (register global : ℕ) → Instr
 at_global op register global =
     machine.Memory op (register_of register) (register_of (reach_register global)) (reach_half global)
 
--- a global's word is loaded into a register, or stored from one
+-- Loads a global into a register, or stores it from one.
 abbrev pub global_code : MemoryOp → (register global : ℕ) → List Instr
 global_code op register global = reach_code global ++ at_global op register global ∷ []
 
--- the frame's address moved
+-- Moves the frame's address to the next frame.
 abbrev pub push_frame : Instr
 push_frame = add_immediate FRAME FRAME (minus (4 * MOST_FRAME_WORDS))
 
 abbrev pub pop_frame : Instr
 pop_frame = add_immediate FRAME FRAME (4 * MOST_FRAME_WORDS)
 
--- The registers that calls preserve come into the frame of a function that has some of them, so many from this one on, where the
--- function begins, and from there again where it returns.
+-- Saves `count` callee-saved registers in the frame at the function's entry, or restores them when it returns.
 abbrev pub saves_from : (first j count : ℕ) → List Instr
 saves_from first j zero = []
 saves_from first j (suc count) = store (FIRST_PRESERVED + j) (4 * (first + j)) ∷ saves_from first (suc j) count
@@ -136,7 +136,7 @@ saves frame = saves_from frame.first_saved 0 frame.saved
 abbrev pub restores : Frame → List Instr
 restores frame = restores_from frame.first_saved 0 frame.saved
 
--- So does the way back of a function that loses it.
+-- Saves the return address, if the function overwrites its register.
 abbrev pub way_code : Frame → List Instr
 way_code frame = if frame.saves then store RETURN_ADDRESS (4 * frame.return_address) ∷ [] else []
 
@@ -146,18 +146,18 @@ restoring_code frame = if frame.saves then load RETURN_ADDRESS (4 * frame.return
 abbrev pub way_count : Frame → ℕ
 way_count frame = if frame.saves then 1 else 0
 
--- A parameter comes where its home is, but for one with a register that calls preserve: that has a word of the caller's until it is
--- saved, so such a parameter comes in memory.
+-- The home in which a parameter arrives: its own, or memory if that is a callee-saved register, which holds a word of the caller's until it
+-- is saved.
 abbrev pub coming_home : Home → Home
 coming_home homes.Memory = homes.Memory
 coming_home (homes.Both register) = if homing.is_preserved register then homes.Memory else homes.Both register
 coming_home (homes.Register register) = if homing.is_preserved register then homes.Memory else homes.Register register
 
--- a frame as a caller sees it, who brings arguments to the homes of the first slots
+-- The frame as its callers see it: with the homes in which the parameters arrive.
 abbrev pub coming : Frame → Frame
 coming frame = record frame { homes = map coming_home frame.homes }
 
--- Where the function begins it is read into the register, behind the lines that save that.
+-- The register into which an arrived parameter is loaded at the function's entry, after the lines that save this register.
 abbrev pub arriving_home : Home → Home
 arriving_home homes.Memory = homes.Memory
 arriving_home (homes.Both register) = if homing.is_preserved register then homes.Both register else homes.Memory
@@ -172,14 +172,14 @@ arrivals frame = reloads_from frame 0 (arriving frame)
 abbrev pub arrival_count : Frame → ℕ
 arrival_count frame = sum_by homing.saved_count (take frame.parameters frame.homes)
 
--- all that a function saves where it begins, and the parameters that come to registers then
+-- The lines at a function's entry: saves of registers, then loads of the parameters that belong in them.
 abbrev pub saving_code : Frame → List Instr
 saving_code frame = way_code frame ++ (saves frame ++ arrivals frame)
 
 abbrev pub saving_count : Frame → ℕ
 saving_count frame = way_count frame + (frame.saved + arrival_count frame)
 
--- the registers of what a function returns
+-- The registers of a function's results.
 abbrev pub result_registers : ℕ → List ℕ
 result_registers count = take count (FIRST_RESULT ∷ SECOND_RESULT ∷ THIRD_RESULT ∷ [])
 
@@ -187,7 +187,7 @@ abbrev pub load_all : Frame → (slot : ℕ) → List ℕ → List Instr
 load_all frame slot [] = []
 load_all frame slot (target ∷ targets) = load_slot frame target slot ∷ load_all frame (suc slot) targets
 
--- the same of slots that live in memory alone
+-- Loads words from slots that are in memory only.
 abbrev pub load_words : Frame → (slot : ℕ) → List ℕ → List Instr
 load_words frame slot [] = []
 load_words frame slot (target ∷ targets) = load target (slot_offset frame slot) ∷ load_words frame (suc slot) targets

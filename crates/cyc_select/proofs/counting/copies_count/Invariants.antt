@@ -3,7 +3,7 @@ use Rattle.cyc_select.specs.inside.Slots.{coming}
 use Rattle.cyc_select.specs.inside.Passing.{copies_count}
 use Rattle.cyc_select.proofs.counting.copies_count.Given as goal
 
--- the lines so far, with those of the other arguments, are all of them
+-- The count so far plus the lines of the remaining arguments is the whole count.
 abbrev pub invariant-loop-word : goal.invariant-loop-word
 invariant-loop-word l =
     (l.lines + copies_count l.caller (coming l.callee) (l.source + l.word) l.word (l.count - l.word) ≡ copies_count l.caller (coming l.callee) l.source 0 l.count)

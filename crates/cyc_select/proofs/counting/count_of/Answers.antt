@@ -7,7 +7,7 @@ overflow_add-result c =
     omega (
       arith,
       c.body_count.ensures,
-      c.behind_count-behind.ensures,
+      c.after_count-following.ensures,
       c.requires.small,
       body_fits c.args.plain.now c.args.frames.now c.args.function c.requires.fit c.requires.few c.args.instruction,
     )
@@ -17,6 +17,6 @@ returns-else-is_idle-clause-few c =
     omega (
       arith,
       c.body_count.ensures,
-      c.behind_count-behind.ensures,
+      c.after_count-following.ensures,
       body_fits c.args.plain.now c.args.frames.now c.args.function c.requires.fit c.requires.few c.args.instruction,
     )

@@ -40,8 +40,8 @@ returns-clause-lines c =
     ∙ ap (λ (code : List Instruction). instruction_lines program frames function 0 (function_line program frames function + saving_count (frame_at frames function)) code) c.code_of.ensures)
     c.instruction_lines.ensures.lines
 
-pub returns-clause-behind : goal.returns-clause-behind
-returns-clause-behind c =
+pub returns-clause-following : goal.returns-clause-following
+returns-clause-following c =
     let program = c.args.plain.now in
     let frames = c.args.frames.now in
     let function = c.args.function in
@@ -56,4 +56,4 @@ returns-clause-behind c =
       start_next program frames function c.requires.function,
       ap (function_line program frames) next,
     ) in
-    subst (λ (n : ℕ). IfOk c.instruction_lines.result (λ counted. counted.behind ≡ n)) same c.instruction_lines.ensures.behind
+    subst (λ (n : ℕ). IfOk c.instruction_lines.result (λ counted. counted.following ≡ n)) same c.instruction_lines.ensures.following

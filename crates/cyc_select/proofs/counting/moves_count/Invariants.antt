@@ -2,7 +2,7 @@ use Rattle.std.proofs.Common.{◌≡◌, ◌+◌, ◌-◌, ◌*◌, ◌≤◌}
 use Rattle.cyc_select.specs.inside.Operands.{moves_count}
 use Rattle.cyc_select.proofs.counting.moves_count.Given as goal
 
--- the lines so far, with those of the other words, are all of them
+-- The count so far plus the lines of the remaining words is the whole count.
 abbrev pub invariant-loop-word : goal.invariant-loop-word
 invariant-loop-word l =
     (l.lines + moves_count l.frame (l.destination + l.word) (l.source + l.word) (l.count - l.word)

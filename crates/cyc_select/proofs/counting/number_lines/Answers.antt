@@ -11,5 +11,5 @@ loop-function-preserved c =
       subst (AreNumbered program frames (k + 1)) (sym c.in_ok-push.ensures.items)
           (numbered_more program frames k c.loop-function.functions.items _ c.loop-function.invariant.0
           (record { first_is = c.loop-function.invariant.1; lines_are = c.in_ok-counted.ensures.lines })),
-      c.in_ok-counted.ensures.behind,
+      c.in_ok-counted.ensures.following,
     )

@@ -4,6 +4,6 @@ use Rattle.cyc_registers.specs.inside.Interference.{both_count}
 use Rattle.cyc_select.specs.inside.Operands.{reload_count}
 use Rattle.cyc_select.proofs.operands.reload_count.Given as goal
 
--- those so far, with those of the other slots, are all of them
+-- The count so far plus the lines of the remaining slots is the whole count.
 abbrev pub invariant-loop-slot : goal.invariant-loop-slot
 invariant-loop-slot l = l.count + sum_by both_count (drop l.slot l.frame.homes) ≡ reload_count l.frame

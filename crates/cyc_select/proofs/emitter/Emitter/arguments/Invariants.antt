@@ -4,7 +4,7 @@ use Rattle.cyc_select.specs.inside.Passing.{copies}
 use Rattle.cyc_select.specs.inside.Selection.{ordinary}
 use Rattle.cyc_select.proofs.emitter.Emitter.arguments.Given as goal
 
--- the lines so far, with those of the other arguments, are all of them
+-- The lines so far, followed by those of the remaining arguments, are the whole code.
 abbrev pub invariant-loop-slot : goal.invariant-loop-slot
 invariant-loop-slot l =
     l.self.lines.items ++ ordinary (copies l.caller (coming l.callee) (l.source + l.slot) l.slot (l.count - l.slot))

@@ -5,7 +5,7 @@ use Rattle.cyc_select.specs.inside.Counts.{function_line, instruction_line}
 use Rattle.cyc_select.specs.inside.Selection.{code_lines}
 use Rattle.cyc_select.proofs.emitter.Emitter.code.Given as goal
 
--- the lines so far, with those of the other instructions, are all of them
+-- The lines so far, followed by those of the remaining instructions, are the whole code.
 abbrev pub invariant-loop-index : goal.invariant-loop-index
 invariant-loop-index l =
     l.self.lines.items

@@ -4,7 +4,7 @@ use Rattle.cyc_select.specs.inside.Counts.{function_line}
 use Rattle.cyc_select.specs.inside.Selection.{function_lines}
 use Rattle.cyc_select.proofs.emitter.Emitter.functions.Given as goal
 
--- the lines so far, with those of the other functions, are all of them
+-- The lines so far, followed by those of the remaining functions, are the whole code.
 abbrev pub invariant-loop-function : goal.invariant-loop-function
 invariant-loop-function l =
     l.self.lines.items

@@ -3,7 +3,7 @@ use Rattle.cyc_select.specs.inside.Slots.{load_words}
 use Rattle.cyc_select.specs.inside.Selection.{ordinary}
 use Rattle.cyc_select.proofs.emitter.Emitter.load_words.Given as goal
 
--- the lines so far, with those of the other registers, are all of them
+-- The lines so far, followed by those of the remaining registers, are the whole code.
 abbrev pub invariant-loop-target : goal.invariant-loop-target
 invariant-loop-target l =
     (l.next ≡ l.slot + l.target-index)

@@ -3,7 +3,7 @@ use Rattle.cyc_select.specs.inside.Slots.{store_all}
 use Rattle.cyc_select.specs.inside.Selection.{ordinary}
 use Rattle.cyc_select.proofs.emitter.Emitter.store_all.Given as goal
 
--- the lines so far, with those of the other registers, are all of them
+-- The lines so far, followed by those of the remaining registers, are the whole code.
 abbrev pub invariant-loop-source : goal.invariant-loop-source
 invariant-loop-source l =
     (l.next ≡ l.slot + l.source-index)

@@ -1,14 +1,14 @@
--- Behind a call: what was returned comes to the slots of the caller, and the registers that stand beside memory are read again.
+-- After a call: the results are written to the caller's slots, and registers of slots with a copy in memory are reloaded.
 use Rattle.std.proofs.Common.{◌≡◌, ◌≢◌, ℕ, zero, suc, ◌+◌, ◌-◌, ◌*◌, ◌%◌, ◌<◌, ◌≤◌, true, false, List, [], ◌∷◌, ◌++◌, length, length-append, Some, refl, sym, ap, subst, ◌∙◌, arith, inl, inr}
 use Rattle.std.specs.Prelude.{◌⊎◌}
 use Rattle.std.proofs.lemmas.Bool.{cases_eq, cases_lt, eq-eqb, leb-true, false≢true}
 use Rattle.cyc_plain.specs.inside.Uses.{writes}
 use Rattle.cyc_select.specs.declared.constants.TheConstants.{FRAME, LOWEST, HANDLERS, REGIONS, GLOBALS}
-use Rattle.cyc_machine.specs.declared.constants.TheConstants.{RETURN_ADDRESS}
+use Rattle.cyc_machine_model.specs.declared.constants.TheConstants.{RETURN_ADDRESS}
 use Rattle.cyc_words.specs.Word.{IsWord}
 use Rattle.cyc_isa.specs.Effect.{memory_address}
 use Rattle.cyc_isa.specs.declared.instr.Instr.{Instr}
-use Rattle.cyc_machine.specs.State.{globals_length, words_per_call}
+use Rattle.cyc_machine_model.specs.State.{globals_length, words_per_call}
 use Rattle.cyc_plain.specs.declared.instruction.Instruction.TheVariants as plain
 use Rattle.cyc_plain.specs.inside.Program.{Program, routine_at}
 use Rattle.cyc_plain.specs.inside.State.{Words, put, copied, Configuration}
@@ -26,7 +26,7 @@ use Rattle.cyc_select.specs.inside.Instructions.{slot_offset}
 use Rattle.cyc_select.specs.inside.Slots.{value_register, reloads, store_all, bring_all, is_kept, result_registers}
 use Rattle.cyc_select.specs.inside.Operands.{reload_count}
 use Rattle.cyc_select.specs.inside.Counts.{instruction_line}
-use Rattle.cyc_select.specs.inside.Selection.{behind}
+use Rattle.cyc_select.specs.inside.Selection.{following}
 use Rattle.cyc_select.proofs.values.Blocks.{lasting_same, safe_append}
 use Rattle.cyc_select.proofs.steps.Answers.{put_all, results_low, CachesBut, AreBrought, are_brought}
 use Rattle.cyc_select.proofs.layout.Lines.{line_next}
@@ -35,12 +35,12 @@ use Rattle.cyc_select.proofs.effects.Views.{Contents, written}
 use Rattle.cyc_select.proofs.effects.Sequences.{Stands, after_r, after_w, after_r-append, after_w-append, AreSafe}
 use Rattle.cyc_select.proofs.effects.Walks.{Walk, now_at, now_is, walk_few, walk_from, walk_block}
 use Rattle.cyc_select.proofs.emission.Counts.{length_results, length_registers}
-use Rattle.cyc_select.proofs.relation.Waiting.{saves_at, behind_line}
+use Rattle.cyc_select.proofs.relation.Waiting.{saves_at, after_line}
 use Rattle.cyc_select.proofs.relation.Standing.{under_way, Stage, stage_of, Standing, slot_address, slot_cell, slot_word_is, standing_registers, standing_slot}
 use Rattle.cyc_select.proofs.relation.Matches.{After, Ready, Back, result_register}
 use Rattle.cyc_registers.specs.inside.Liveness.{IsLiveAt}
 
--- one word more is copied
+-- Copying one more word extends the copied range.
 copied_slots_next : (from to : Words) (source count destination slot number word : ℕ) → slot ≡ destination + count → word ≡ from (source + count)
     → put (copied from source count to destination) slot word number ≡ copied from source (suc count) to destination number
 copied_slots_next from to source count destination slot number word is_slot is_word = elim (cases_eq number slot) [
@@ -102,7 +102,7 @@ module _ (program : Program) (well : IsWellFormed program) (frames : List Frame)
     middle = s.middle;
   }
 
-  -- the registers hold the values from this one on
+  -- The registers hold the results from this one on.
   abbrev Given : ℕ → List ℕ → Type 0
   Given k [] = Unit {0}
   Given k (source ∷ sources) = (q (source % 32) ≡ values (first + k)) × Given (suc k) sources
@@ -158,7 +158,7 @@ module _ (program : Program) (well : IsWellFormed program) (frames : List Frame)
       number
       ∙ ap (λ (n : ℕ). copied values first n waiting result number) (let e : suc k + length sources ≡ k + suc (length sources) = omega arith in e)
 
-  -- the words of the registers of results in slots are what was returned
+  -- The words written from the result registers are the results.
   pub results_copied : (count : ℕ) → count ≤ 3 → ((k : ℕ) → k < count → q (result_register k) ≡ values (first + k))
       → (number : ℕ) → put_all result (result_registers count) q waiting number ≡ copied values first count waiting result number
   results_copied count few_results holds number =
@@ -175,10 +175,10 @@ module _ (program : Program) (well : IsWellFormed program) (frames : List Frame)
       (same_slots m waiting (copied values first 0 waiting result) (λ number. no_slots values waiting first result number) s) in
       (all.safe, all.same, subst (λ (n : ℕ). StandsWith (after_w (store_all (frame_at frames c.active.function) result (result_registers count)) q m) (copied values first n waiting result)) (let e : 0 + length (result_registers count) ≡ count = omega (arith, long) in e) all.standing)
 
--- what stands behind a call brings the caller to its next instruction
+-- The lines after a call bring the caller to its next instruction.
 module _ (program : Program) (well : IsWellFormed program) (frames : List Frame) (fit : AreFrames program frames) (code : Labelled) (formed : IsFormed code) (addresses : ℕ → ℕ) (pages calls : ℕ) (few : calls ≤ 4096)
     (c : Configuration) (t : State) (b : Back program well frames fit code formed addresses pages calls few c t)
-    (stands : Stands code (behind_line program frames c.active.function b.index b.callee b.arguments b.count b.result) (behind program frames c.active.function (plain.Call b.callee b.arguments b.count b.result)))
+    (stands : Stands code (after_line program frames c.active.function b.index b.callee b.arguments b.count b.result) (following program frames c.active.function (plain.Call b.callee b.arguments b.count b.result)))
     (room : b.result + (routine_at program b.callee).results ≤ (routine_at program c.active.function).slots) (few_results : (routine_at program b.callee).results ≤ 3) where
   abbrev own_frame : Frame
   own_frame = frame_at frames c.active.function
@@ -199,17 +199,17 @@ module _ (program : Program) (well : IsWellFormed program) (frames : List Frame)
       let registers = length_registers (routine_at program b.callee).results few_results in
       omega (arith, long, stores, registers, length_reloads own_frame)
 
-  line_is : behind_line program frames c.active.function b.index b.callee b.arguments b.count b.result + length (kept_words ++ read_again) ≡ instruction_line program frames c.active.function c.active.next
+  line_is : after_line program frames c.active.function b.index b.callee b.arguments b.count b.result + length (kept_words ++ read_again) ≡ instruction_line program frames c.active.function c.active.next
   line_is =
       let e = line_next program frames c.active.function b.index (plain.Call b.callee b.arguments b.count b.result) b.call in
-      ap (λ (n : ℕ). behind_line program frames c.active.function b.index b.callee b.arguments b.count b.result + n) length_kept
-      ∙ ((let f : behind_line program frames c.active.function b.index b.callee b.arguments b.count b.result + ((routine_at program b.callee).results + reload_count own_frame) ≡ instruction_line program frames c.active.function (b.index + 1) = omega (arith, e) in f)
+      ap (λ (n : ℕ). after_line program frames c.active.function b.index b.callee b.arguments b.count b.result + n) length_kept
+      ∙ ((let f : after_line program frames c.active.function b.index b.callee b.arguments b.count b.result + ((routine_at program b.callee).results + reload_count own_frame) ≡ instruction_line program frames c.active.function (b.index + 1) = omega (arith, e) in f)
       ∙ ap (instruction_line program frames c.active.function) (sym b.next))
 
   saves_is : stage_of frames c ≡ under_way true
   saves_is = ap under_way (saves_at program frames fit c.active.function b.index (plain.Call b.callee b.arguments b.count b.result) b.standing.known b.call refl)
 
-  -- ---- what was returned comes to slots
+  -- ---- results are written to slots
 
   right : AreHomes program (routine_at program c.active.function) (frame_at frames c.active.function).saved (frame_at frames c.active.function).homes
   right = fit.homes c.active.function b.standing.known
@@ -229,7 +229,7 @@ module _ (program : Program) (well : IsWellFormed program) (frames : List Frame)
   next_is : c.active.next ≡ suc b.index
   next_is = omega (arith, b.next)
 
-  -- the call writes these slots, and no others
+  -- The call instruction writes exactly the result slots.
   written_by : (slot : ℕ) → b.result ≤ slot → slot < past → writes program (plain.Call b.callee b.arguments b.count b.result) slot ≡ true
   written_by slot begun below = among b.result (routine_at program b.callee).results slot begun (omega (arith, below, many))
 
@@ -237,13 +237,13 @@ module _ (program : Program) (well : IsWellFormed program) (frames : List Frame)
   apart_from_all slot (inl below) = outside_among b.result (routine_at program b.callee).results slot (inl below)
   apart_from_all slot (inr above) = outside_among b.result (routine_at program b.callee).results slot (inr (omega (arith, above, many)))
 
-  behind_next : (slot : ℕ) → IsLiveAt program (routine_at program c.active.function) slot c.active.next → IsLiveAt program (routine_at program c.active.function) slot (suc b.index)
-  behind_next slot wanted = subst (IsLiveAt program (routine_at program c.active.function) slot) next_is wanted
+  after_next : (slot : ℕ) → IsLiveAt program (routine_at program c.active.function) slot c.active.next → IsLiveAt program (routine_at program c.active.function) slot (suc b.index)
+  after_next slot wanted = subst (IsLiveAt program (routine_at program c.active.function) slot) next_is wanted
 
   shares_none : (d slot k : ℕ) → b.result ≤ d → d < past → value_register (frame_at frames c.active.function) d ≡ Some k → value_register (frame_at frames c.active.function) slot ≡ Some k
       → IsLiveAt program (routine_at program c.active.function) slot c.active.next → slot ≡ d
   shares_none d slot k begun below has_d has wanted =
-      right.made b.index (suc b.index) slot d k (plain.Call b.callee b.arguments b.count b.result) b.call (written_by d begun below) (eq-eqb (suc b.index) (suc b.index) refl) has_d has (behind_next slot wanted)
+      right.made b.index (suc b.index) slot d k (plain.Call b.callee b.arguments b.count b.result) b.call (written_by d begun below) (eq-eqb (suc b.index) (suc b.index) refl) has_d has (after_next slot wanted)
 
   low_words : (n : ℕ) → n < 6 → IsWord (b.r n)
   low_words n low = b.now.r_words n
@@ -259,7 +259,7 @@ module _ (program : Program) (well : IsWellFormed program) (frames : List Frame)
   abbrev given_w : Contents
   given_w = after_w kept_words b.r b.w
 
-  -- so the slots are those of the next instruction
+  -- After the reloads, the slots are those of the next configuration.
   slots_are : (number : ℕ) → put_all b.result registers_of b.r b.waiting number ≡ c.active.slots number
   slots_are number =
       results_copied program well frames fit addresses pages calls few c b.r b.base saved (under_way true) b.result b.first b.values b.waiting (routine_at program b.callee).results few_results
@@ -278,12 +278,12 @@ module _ (program : Program) (well : IsWellFormed program) (frames : List Frame)
       let same : register ≡ k = (let e : Some register ≡ Some k = has in cc) in
       omega (arith, same, leb-true 17 register lives)
 
-  -- what is live and in no memory was returned, or is in a register that the call preserved
+  -- A live slot that is not in memory is a result, or is in a callee-saved register.
   alone_returned : CachesBut program well frames fit addresses pages calls few true c b.base saved true c.active.next b.result past b.r low_words room_is shares_none b.result (length registers_of) b.r b.waiting
   alone_returned a k has wanted last outside =
       let unwritten = apart_from_all a outside in
-      let live = behind_next a wanted in
-      let lives = right.behind b.index b.callee b.arguments b.count b.result a b.call unwritten live in
+      let live = after_next a wanted in
+      let lives = right.following b.index b.callee b.arguments b.count b.result a b.call unwritten live in
       let low = own_home (homing.home_of own_frame.homes a) k has last lives in
       let high = right.high a k has in
       let is : k ≡ 17 + (k - 17) = omega (arith, low) in
@@ -293,11 +293,11 @@ module _ (program : Program) (well : IsWellFormed program) (frames : List Frame)
       → given_r k ≡ c.active.slots slot
   returned_alone slot k has wanted unkept = brought.caches alone_returned slot k has wanted unkept ∙ slots_are slot
 
-  pub behind_goes : (n hi : ℕ) (Goal : State → Type 0)
+  pub after_goes : (n hi : ℕ) (Goal : State → Type 0)
       → ((u : State) → Ready program well frames fit code formed addresses pages calls few c u → Walk code formed addresses globals_length (words_per_call * calls) n (instruction_line program frames c.active.function c.active.next) hi c.output (After program pages calls c) Goal u)
-      → Walk code formed addresses globals_length (words_per_call * calls) n (behind_line program frames c.active.function b.index b.callee b.arguments b.count b.result) hi c.output (After program pages calls c) Goal (Running b.run)
-  behind_goes n hi Goal rest =
-      let k : ℕ = behind_line program frames c.active.function b.index b.callee b.arguments b.count b.result in
+      → Walk code formed addresses globals_length (words_per_call * calls) n (after_line program frames c.active.function b.index b.callee b.arguments b.count b.result) hi c.output (After program pages calls c) Goal (Running b.run)
+  after_goes n hi Goal rest =
+      let k : ℕ = after_line program frames c.active.function b.index b.callee b.arguments b.count b.result in
       let again = reloaded globals_length (words_per_call * calls) program frames c.active.function right c.active.next given_r given_w c.active.slots
       (λ slot below. slot_cell program well frames fit addresses pages calls few c given_r given_w b.base saved (under_way true) c.active.slots given_stands slot below)
       (λ slot below slot_kept. slot_word_is program well frames fit addresses pages calls few c given_r given_w b.base saved (under_way true) c.active.slots given_stands slot below slot_kept)
