@@ -1,4 +1,4 @@
--- The order in which the lines stand: it has each line once, and the labelled machine does the same.
+-- The order of the lines contains each line once, and the labelled machine behaves as with the original order.
 use Rattle.std.proofs.Common.{◌≡◌, ℕ, zero, suc, ◌+◌, ◌-◌, ◌<◌, List, [], length, nat_le, Bool, true, false, cond, not, Option, None, Some, refl, sym, ap, subst, ◌∙◌, arith, inl, inr}
 use Rattle.std.specs.Prelude.{◌&&◌, All, slice_get, flat_map}
 use Rattle.std.specs.List.{swap, range_with_len}
@@ -16,7 +16,7 @@ use Rattle.cyc_select.specs.inside.Labelled.{Labelled, Fits, IsFormed, IsFormedL
 use Rattle.cyc_asm.specs.inside.Slots.{is_movable, moves, label_of, is_label, is_named, moved, filling, AreNamed}
 use Rattle.cyc_asm.specs.inside.Order.{passes, passes_line, passes_at, passes_all, comes_down, sunk, sunk_from, tried, settled, arranged_before, arranged, in_order}
 use Rattle.cyc_asm.specs.inside.Layout.{addresses_of}
-use Rattle.cyc_machine.specs.State.{text_base}
+use Rattle.cyc_machine_model.specs.State.{text_base}
 use Rattle.cyc_asm.specs.inside.Text.{stretch, own, IsTextInOrder, IsTextOf}
 use Rattle.cyc_asm.specs.inside.Words.{assembled}
 use Rattle.cyc_asm.specs.inside.Machine.{Runs}
@@ -26,13 +26,13 @@ use Rattle.cyc_asm.proofs.Exchanging.{IsExchange, point_before, point_after, exc
 use Rattle.cyc_asm.proofs.Standing.{in_order_means}
 use Rattle.cyc_asm.proofs.Running.{runs_in_order}
 
--- ---- two lines in each other's place
+-- ---- two lines exchanged
 
 swap_places : (code : List Line) (number : ℕ) (first second : Instr) → is_movable first ≡ true → passes first second ≡ true → is_named code (suc number) ≡ false
     → slice_get code number ≡ Some (lines.Ordinary first) → slice_get code (suc number) ≡ Some (lines.Ordinary second) → IsExchange code (swap code number (suc number)) number first second
-swap_places code number first second movable passing unnamed here behind =
+swap_places code number first second movable passing unnamed here following =
     let low = slice_get_within code number (lines.Ordinary first) here in
-    let inside = slice_get_within code (suc number) (lines.Ordinary second) behind in
+    let inside = slice_get_within code (suc number) (lines.Ordinary second) following in
     let long = length-swap code number (suc number) in
     let (at_first, at_second, elsewhere) = swapped_from_swap code (swap code number (suc number)) number (suc number) lines.Return low inside refl in
     record {
@@ -40,10 +40,10 @@ swap_places code number first second movable passing unnamed here behind =
       passing = passing;
       unnamed = unnamed;
       here = here;
-      behind = behind;
+      following = following;
       new_here = slice_get-get_or (swap code number (suc number)) number lines.Return (omega (arith, long, low))
-          ∙ ap (λ (line : Line). Some line) (at_first ∙ get_or_from_slice_get code (suc number) (lines.Ordinary second) lines.Return behind);
-      new_behind = slice_get-get_or (swap code number (suc number)) (suc number) lines.Return (omega (arith, long, inside))
+          ∙ ap (λ (line : Line). Some line) (at_first ∙ get_or_from_slice_get code (suc number) (lines.Ordinary second) lines.Return following);
+      new_after = slice_get-get_or (swap code number (suc number)) (suc number) lines.Return (omega (arith, long, inside))
           ∙ ap (λ (line : Line). Some line) (at_second ∙ get_or_from_slice_get code number (lines.Ordinary first) lines.Return here);
       others = λ n first_not second_not. elim (cases_lt n (length code)) [
         | inl within ↦
@@ -54,9 +54,10 @@ swap_places code number first second movable passing unnamed here behind =
       long = long;
     }
 
--- ---- what an order keeps
+-- ---- properties that a reordering keeps
 
--- the same lines, of which returns go to the same, and what runs as the second runs as the first
+-- The order contains the lines of the original, returns go to the same lines as there, and each run of the reordered code follows one of
+-- the original.
 pub record Keeps (globals : List ℕ) (code order : List Line) : Type 0 where
   pub permutes : IsPermutation code order
   pub points : (line : ℕ) → IsReturnPoint (record { lines = order; globals = globals }) line → IsReturnPoint (record { lines = code; globals = globals }) line
@@ -78,7 +79,7 @@ keeps_more globals code middle order first second = record {
 keeps_swapped : (globals : List ℕ) (code : List Line) (number : ℕ) (first second : Instr) → IsExchange code (swap code number (suc number)) number first second → Keeps globals code (swap code number (suc number))
 keeps_swapped globals code number first second x = record {
   permutes = IsPermutation-swap code (swap code number (suc number)) number (suc number)
-      (slice_get_within code number (lines.Ordinary first) x.here) (slice_get_within code (suc number) (lines.Ordinary second) x.behind) refl;
+      (slice_get_within code number (lines.Ordinary first) x.here) (slice_get_within code (suc number) (lines.Ordinary second) x.following) refl;
   points = point_before (record { lines = code; globals = globals }) (swap code number (suc number)) number first second x;
   new_points = point_after (record { lines = code; globals = globals }) (swap code number (suc number)) number first second x;
   runs = λ addresses words runs. exchange_runs (record { lines = code; globals = globals }) (swap code number (suc number)) number first second x addresses words runs;
@@ -87,46 +88,46 @@ keeps_swapped globals code number first second x = record {
 same_named : (code order : List Line) (number : ℕ) → IsPermutation code order → is_named order number ≡ is_named code number
 same_named code order number permutes = sym (list_any-IsPermutation (λ (line : Line). is_label number (label_of line)) code order permutes)
 
--- ---- an instruction that comes down
+-- ---- an instruction moved down
 
--- what passes is an instruction, and what is passed
-passing_lines : (line behind : Option Line) → passes_line line behind ≡ true
-    → (first second : Instr) × (line ≡ Some (lines.Ordinary first)) × (behind ≡ Some (lines.Ordinary second)) × (passes first second ≡ true)
+-- If a line may be moved past another, both lines are instructions.
+passing_lines : (line following : Option Line) → passes_line line following ≡ true
+    → (first second : Instr) × (line ≡ Some (lines.Ordinary first)) × (following ≡ Some (lines.Ordinary second)) × (passes first second ≡ true)
 passing_lines (Some (lines.Ordinary first)) (Some (lines.Ordinary second)) may = (first, second, refl, refl, may)
 passing_lines (Some (lines.Ordinary first)) (Some (lines.Branch condition label)) may = absurd (let e : false ≡ true = may in cc)
 passing_lines (Some (lines.Ordinary first)) (Some (lines.Jump label)) may = absurd (let e : false ≡ true = may in cc)
 passing_lines (Some (lines.Ordinary first)) (Some (lines.Call label)) may = absurd (let e : false ≡ true = may in cc)
 passing_lines (Some (lines.Ordinary first)) (Some lines.Return) may = absurd (let e : false ≡ true = may in cc)
 passing_lines (Some (lines.Ordinary first)) None may = absurd (let e : false ≡ true = may in cc)
-passing_lines (Some (lines.Branch condition label)) behind may = absurd (let e : false ≡ true = may in cc)
-passing_lines (Some (lines.Jump label)) behind may = absurd (let e : false ≡ true = may in cc)
-passing_lines (Some (lines.Call label)) behind may = absurd (let e : false ≡ true = may in cc)
-passing_lines (Some lines.Return) behind may = absurd (let e : false ≡ true = may in cc)
-passing_lines None behind may = absurd (let e : false ≡ true = may in cc)
+passing_lines (Some (lines.Branch condition label)) following may = absurd (let e : false ≡ true = may in cc)
+passing_lines (Some (lines.Jump label)) following may = absurd (let e : false ≡ true = may in cc)
+passing_lines (Some (lines.Call label)) following may = absurd (let e : false ≡ true = may in cc)
+passing_lines (Some lines.Return) following may = absurd (let e : false ≡ true = may in cc)
+passing_lines None following may = absurd (let e : false ≡ true = may in cc)
 
--- what moves behind a line is an instruction that may move
-moving_line : (line behind : Option Line) → is_some (moved line behind) ≡ true → (i : Instr) × (line ≡ Some (lines.Ordinary i)) × (is_movable i ≡ true)
+-- A line that fills a delay slot is an instruction that may be moved.
+moving_line : (line following : Option Line) → is_some (moved line following) ≡ true → (i : Instr) × (line ≡ Some (lines.Ordinary i)) × (is_movable i ≡ true)
 moving_line (Some (lines.Ordinary i)) (Some other) some = (i, refl, (filled_moves i other (it_moves (moves i other) some)).0)
   where
     it_moves : (b : Bool) → is_some (cond b (Some i) None) ≡ true → b ≡ true
     it_moves true is = refl
     it_moves false is = absurd (let e : false ≡ true = is in cc)
 moving_line (Some (lines.Ordinary i)) None some = absurd (let e : false ≡ true = some in cc)
-moving_line (Some (lines.Branch condition label)) behind some = absurd (let e : false ≡ true = some in cc)
-moving_line (Some (lines.Jump label)) behind some = absurd (let e : false ≡ true = some in cc)
-moving_line (Some (lines.Call label)) behind some = absurd (let e : false ≡ true = some in cc)
-moving_line (Some lines.Return) behind some = absurd (let e : false ≡ true = some in cc)
-moving_line None behind some = absurd (let e : false ≡ true = some in cc)
+moving_line (Some (lines.Branch condition label)) following some = absurd (let e : false ≡ true = some in cc)
+moving_line (Some (lines.Jump label)) following some = absurd (let e : false ≡ true = some in cc)
+moving_line (Some (lines.Call label)) following some = absurd (let e : false ≡ true = some in cc)
+moving_line (Some lines.Return) following some = absurd (let e : false ≡ true = some in cc)
+moving_line None following some = absurd (let e : false ≡ true = some in cc)
 
 same_instruction : (i j : Instr) → Some (lines.Ordinary i) ≡ Some (lines.Ordinary j) → i ≡ j
 same_instruction i j is = cc
 
 module _ (globals : List ℕ) (code : List Line) (from : ℕ) (i : Instr) (found : slice_get code from ≡ Some (lines.Ordinary i)) (movable : is_movable i ≡ true) where
-  -- where it has passed so many lines
+  -- The instruction has been moved past `count` lines.
   record IsSunk (count : ℕ) : Type 0 where
     pub keeps : Keeps globals code (sunk code from count)
     pub here : slice_get (sunk code from count) (from + count) ≡ Some (lines.Ordinary i)
-    pub behind : (n : ℕ) → from + count < n → slice_get (sunk code from count) n ≡ slice_get code n
+    pub following : (n : ℕ) → from + count < n → slice_get (sunk code from count) n ≡ slice_get code n
 
   one_more : (count : ℕ) → IsSunk count → is_named code (from + suc count) ≡ false → passes_line (slice_get code from) (slice_get code (from + suc count)) ≡ true → IsSunk (suc count)
   one_more count so_far unnamed may =
@@ -136,20 +137,20 @@ module _ (globals : List ℕ) (code : List Line) (from : ℕ) (i : Instr) (found
       let same = same_instruction first i (sym is_first ∙ found) in
       let x = swap_places before (from + count) i second movable (subst (λ (j : Instr). passes j second ≡ true) same passing)
       (same_named code before (suc (from + count)) so_far.keeps.permutes ∙ ap (is_named code) next ∙ unnamed)
-      so_far.here (so_far.behind (suc (from + count)) (omega arith) ∙ ap (slice_get code) next ∙ is_second) in
+      so_far.here (so_far.following (suc (from + count)) (omega arith) ∙ ap (slice_get code) next ∙ is_second) in
       let swapped : swap before (from + count) (suc (from + count)) ≡ sunk code from (suc count) = ap (swap before (from + count)) next in
       record {
         keeps = subst (Keeps globals code) swapped (keeps_more globals code before _ so_far.keeps (keeps_swapped globals before (from + count) i second x));
-        here = ap (slice_get (sunk code from (suc count))) (sym next) ∙ ap (λ (order : List Line). slice_get order (suc (from + count))) (sym swapped) ∙ x.new_behind;
-        behind = λ n past. ap (λ (order : List Line). slice_get order n) (sym swapped) ∙ x.others n (λ same. omega (arith, past, same)) (λ same. omega (arith, past, same))
-            ∙ so_far.behind n (omega (arith, past));
+        here = ap (slice_get (sunk code from (suc count))) (sym next) ∙ ap (λ (order : List Line). slice_get order (suc (from + count))) (sym swapped) ∙ x.new_after;
+        following = λ n past. ap (λ (order : List Line). slice_get order n) (sym swapped) ∙ x.others n (λ same. omega (arith, past, same)) (λ same. omega (arith, past, same))
+            ∙ so_far.following n (omega (arith, past));
       }
 
   sinks : (count : ℕ) → passes_all code from count ≡ true → IsSunk count
   sinks zero may = record {
     keeps = keeps_same globals code;
     here = ap (slice_get code) (let e : from + zero ≡ from = omega arith in e) ∙ found;
-    behind = λ n past. refl;
+    following = λ n past. refl;
   }
   sinks (suc count) may =
       let last = passes_at code from (from + suc count) in
@@ -158,7 +159,7 @@ module _ (globals : List ℕ) (code : List Line) (from : ℕ) (i : Instr) (found
       (not-true (is_named code (from + suc count)) (and_left (not (is_named code (from + suc count))) (passes_line (slice_get code from) (slice_get code (from + suc count))) both))
       (and_right (not (is_named code (from + suc count))) (passes_line (slice_get code from) (slice_get code (from + suc count))) both)
 
--- ---- the order of all
+-- ---- the order of all lines
 
 module _ (globals : List ℕ) where
   keeps_sunk : (code : List Line) (from count : ℕ) → Keeps globals code (sunk_from code from count)
@@ -189,7 +190,7 @@ module _ (globals : List ℕ) where
   keeps_before code (suc number) =
       keeps_more globals code (arranged_before code number) (arranged_before code (suc number)) (keeps_before code number) (keeps_settled (arranged_before code number) number)
 
--- the lines are the same, in another order
+-- The reordered lines are a permutation of the original ones.
 pub permutes_tried : (code : List Line) (number count : ℕ) → IsPermutation code (tried code number count)
 permutes_tried code number count = (keeps_tried [] code number count).permutes
 
@@ -199,7 +200,7 @@ permutes_before code count = (keeps_before [] code count).permutes
 pub permutes : (code : List Line) → IsPermutation code (arranged code)
 permutes code = permutes_before code (length code)
 
--- so the same labels are used
+-- A reordering keeps the set of used labels.
 pub still_named : (code order : List Line) (named : List Bool) → IsPermutation code order → AreNamed code (length code) named → AreNamed order (length order) named
 still_named code order named permutes are = record {
   long = are.long ∙ sym (length_permutation code order permutes);
@@ -217,7 +218,7 @@ same_words code = sum_by-IsPermutation words_of code (arranged code) (permutes c
 pub still_fits : (code : List Line) → Fits code → Fits (arranged code)
 still_fits code fits = let same = same_words code in omega (arith, same, fits)
 
--- ---- the text
+-- ---- the text of reordered code
 
 abbrev Points : (code other : Labelled) → Type 0
 Points code other = (line : ℕ) → IsReturnPoint other line → IsReturnPoint code line
@@ -230,7 +231,7 @@ same_addresses code other addresses long points places = record {
   below = λ line inside. places.below line (omega (arith, inside, long));
 }
 
--- text of code is text of any code of the same size in which returns go to the same lines, in the same order
+-- Words that represent code also represent any code of equal size with equal return points and an equal order of lines.
 text_as : (code other order : Labelled) (addresses : ℕ → ℕ) (words : List ℕ) → length other.lines ≡ length code.lines → Points code other → all_words other.lines ≡ all_words code.lines
     → IsTextInOrder code order addresses words → IsTextInOrder other order addresses words
 text_as code other order addresses words long points most text = record {
@@ -252,7 +253,7 @@ assembled_means code formed fits =
     (keeps_before code.globals code.lines (length code.lines)).new_points (sym (same_words code.lines))
     (in_order_means (in_order code) (still_formed code.lines formed) (still_fits code.lines fits))
 
--- words that mean labelled code run as it does
+-- Words that represent labelled code run as it does.
 pub runs : (code : Labelled) (addresses : ℕ → ℕ) (words : List ℕ) → IsTextOf code addresses words → Runs code addresses words
 runs code addresses words text =
     (keeps_before code.globals code.lines (length code.lines)).runs addresses words (runs_in_order (in_order code) addresses words (in_its_order code addresses words text))

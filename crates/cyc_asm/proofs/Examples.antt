@@ -1,4 +1,4 @@
--- Words by computation.
+-- Examples of assembled words, proved by computation.
 use Rattle.std.proofs.Common.{◌≡◌, ℕ, suc, List, [], ◌∷◌, false, Some, pos, refl, ap, ◌∙◌}
 use Rattle.std.specs.Prelude.{slice_get}
 use Rattle.cyc_isa.specs.Encoding.{word_of}
@@ -20,21 +20,21 @@ use Rattle.cyc_select.specs.inside.Labelled.{Labelled}
 use Rattle.cyc_select.specs.declared.code.Condition.TheVariants as conditions
 use Rattle.cyc_select.specs.declared.code.Line.{Line}
 use Rattle.cyc_select.specs.declared.code.Line.TheVariants as lines
-use Rattle.cyc_machine.specs.declared.event.End.TheVariants.{Returned}
-use Rattle.cyc_machine.specs.Run.{end_of}
-use Rattle.cyc_machine.specs.Step.{instruction_of}
-use Rattle.cyc_machine.proofs.Choosing.{after}
+use Rattle.cyc_machine_model.specs.declared.event.End.TheVariants.{Returned}
+use Rattle.cyc_machine_model.specs.Run.{end_of}
+use Rattle.cyc_machine_model.specs.Step.{instruction_of}
+use Rattle.cyc_machine_model.proofs.Choosing.{after}
 use Rattle.cyc_words.specs.Word.{sign_extended, slt_of}
 use Rattle.cyc_asm.specs.inside.Slots.{filling}
 use Rattle.cyc_asm.specs.inside.Layout.{is_near, position}
 use Rattle.cyc_asm.specs.inside.Words.{jump_words, head_of_branch, head_in, round_words, words_filled, words_ordinary, words_in, assembled}
 use Rattle.cyc_asm.specs.inside.Machine.{start_in}
 
--- The words are worked out by hand from the architecture's manual. A line's number stands before it, and behind it what
--- is put into its slot.
+-- The words are worked out by hand from the architecture's manual. Each line is preceded by its number and followed by the instruction in
+-- its delay slot.
 
--- Register 8 counts down from 3. No slot is filled: a label stands at the first branch, a call stands before the jump and a
--- branch before each call and return, and the second branch asks for what is set before it.
+-- Register 8 counts down from 3. No slot is filled: a label stands at the first branch, and a call precedes the jump. A branch precedes
+-- each call and return, and the second branch tests the register set just before it.
 abbrev counting : Labelled
 counting = record {
   lines =
@@ -62,8 +62,8 @@ counting_words : assembled counting ≡
     ∷ []
 counting_words = refl
 
--- what sets register 8 moves behind a branch on register 9 and behind a jump, and not behind a branch on register 8; what
--- reads the return address does not move behind a call
+-- An instruction that writes register 8 moves after a branch on register 9 and after a jump, but not after a branch on register 8. An
+-- instruction that reads the return address does not move after a call.
 abbrev moving : Labelled
 moving = record {
   lines =
@@ -91,8 +91,8 @@ moving_words : assembled moving ≡
     ∷ []
 moving_words = refl
 
--- Register 31 behind a call: what sets it does not move, what has nothing to do with it does. Before a return a load into it
--- stays, and the release of a frame moves.
+-- Register 31 at a call: an instruction that writes it does not move, and one that does not use it does. Before a return a load into
+-- register 31 stays, and the pop of the frame moves.
 abbrev calling : Labelled
 calling = record {
   lines =
@@ -120,8 +120,8 @@ calling_words : assembled calling ≡
     ∷ []
 calling_words = refl
 
--- HI and LO are no registers of a branch: `mult` and `mflo` move, but for one into the register that is asked for. A branch
--- behind a branch, and a jump behind a `syscall`, have empty slots.
+-- HI and LO are no registers of a branch: `mult` and `mflo` move, unless `mflo` writes a tested register. A branch after a branch, and a
+-- jump after a `syscall`, have empty slots.
 abbrev multiplying : Labelled
 multiplying = record {
   lines =
@@ -151,8 +151,8 @@ multiplying_words : assembled multiplying ≡
     ∷ []
 multiplying_words = refl
 
--- Two jumps to one label: each has its own instruction in its slot. The branch at the label has none, and what goes to an
--- instruction that moved goes to the branch or jump behind it. No run comes to the three lines before the branch.
+-- Two jumps to one label: each has its own instruction in its slot. The branch at the label has an empty slot. A jump to an instruction
+-- that moved goes to the branch or jump after it. The three lines before the branch are unreachable.
 abbrev meeting : Labelled
 meeting = record {
   lines =
@@ -175,9 +175,8 @@ meeting_words : assembled meeting ≡
     ∷ []
 meeting_words = refl
 
--- What comes down to a branch: past what the branch asks for, past two, and a store, which is not asked for. What sets a
--- register that is read behind it stays, and so do what reads one that is set behind it, what stands before a line to which
--- another goes, and what would pass a load.
+-- Instructions moved down to a branch: past one operand of the branch, past two, and a store, which is no operand. A line is not moved in
+-- four cases: it sets a register that is read after it, reads one that is set after it, precedes a line with a label, or would pass a load.
 abbrev passing : Labelled
 passing = record {
   lines =
@@ -232,7 +231,7 @@ passing_words : assembled passing ≡
     ∷ []
 passing_words = refl
 
--- A branch that is not near is its inverse round a jump, with the instruction in the inverse's slot. (Here of any code.)
+-- A far branch is the inverse branch over a jump, with the instruction in the inverse branch's slot. (The statement holds for any code.)
 far_words : (code : List Line) (number label : ℕ) (i : Instr) → slice_get code number ≡ Some (lines.Ordinary i) → filling code (suc number) ≡ Some i
     → slice_get code (suc number) ≡ Some (lines.Branch (conditions.Registers NotEqual (register_of 9) (register_of 0)) label) → is_near code (suc number) label ≡ false
     → (words_in code number (slice_get code number) ≡ 0x11200003 ∷ [])
@@ -246,8 +245,8 @@ far_words code number label i at some branch far = (
       ∙ ap (λ b. word_of i ∷ round_words b code label) far,
 )
 
--- the sum of 3, 2 and 1 by a loop that calls a function, which the machine comes to by 30 instructions: what adds is in the
--- slot of the return, and what counts down in that of the jump
+-- The sum of 3, 2 and 1 by a loop that calls a function, in 30 instructions. The addition is in the slot of the return, and the decrement
+-- in that of the jump.
 abbrev summing : Labelled
 summing = record {
   lines =
@@ -265,7 +264,7 @@ summing = record {
   globals = [];
 }
 
--- a store, which is not asked
+-- An empty store, since the example program allocates nothing.
 abbrev empty_store : StoreState
 empty_store = start 3 (λ (x : ℕ). 0)
 
@@ -273,8 +272,8 @@ sum_is_six : end_of (after 30 (any_choice empty_store) (start_in (assembled summ
 unfolding instruction_of sign_extended
 sum_is_six = refl
 
--- 2 three times, by a loop whose test stands at its end, in 16 instructions: what adds has passed what counts and what asks,
--- and stands in the slot of the branch back
+-- The sum of three 2s by a loop whose test is at its end, in 16 instructions. The addition is moved past the decrement and the test, into
+-- the slot of the backward branch.
 abbrev adding : Labelled
 adding = record {
   lines =

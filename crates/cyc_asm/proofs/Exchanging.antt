@@ -1,5 +1,5 @@
--- Labelled code does the same where two instructions have each other's places, of which the first passes the second. The
--- machines go line by line together; between the two lines each has executed one of the instructions.
+-- Labelled code behaves as before if two adjacent instructions are exchanged, the first of which may be moved past the second. The machines
+-- run in lockstep; between the two lines each has executed one of the instructions.
 use Rattle.std.proofs.Common.{◌≡◌, ◌≢◌, ℕ, suc, ◌+◌, List, [], ◌∷◌, length, Bool, true, false, cond, Option, None, Some, refl, sym, ap, subst, ◌∙◌, arith, inl, inr, append-nil}
 use Rattle.std.specs.Prelude.{◌⊎◌, slice_get, sum_by, flat_map}
 use Rattle.std.proofs.lemmas.Bool.{cases_eq}
@@ -11,12 +11,12 @@ use Rattle.cyc_words.proofs.Simulation.{running_ended, simulates, in_a_row, foll
 use Rattle.cyc_words.proofs.Matching.{by_one}
 use Rattle.cyc_words.proofs.Booleans.{true_is_not_false}
 use Rattle.cyc_isa.specs.declared.instr.Instr.{Instr}
-use Rattle.cyc_machine.specs.declared.event.Cause.{Cause}
-use Rattle.cyc_machine.specs.declared.phase.Phase.{Phase}
-use Rattle.cyc_machine.specs.declared.phase.Phase.TheVariants as phases
-use Rattle.cyc_machine.specs.Step.{cause_of}
-use Rattle.cyc_machine.specs.Run.{World, told, ending_of}
-use Rattle.cyc_machine.specs.WorldMachine.{world_machine}
+use Rattle.cyc_machine_model.specs.declared.event.Cause.{Cause}
+use Rattle.cyc_machine_model.specs.declared.phase.Phase.{Phase}
+use Rattle.cyc_machine_model.specs.declared.phase.Phase.TheVariants as phases
+use Rattle.cyc_machine_model.specs.Step.{cause_of}
+use Rattle.cyc_machine_model.specs.Run.{World, reported, ending_of}
+use Rattle.cyc_machine_model.specs.WorldMachine.{world_machine}
 use Rattle.cyc_store.specs.State.{StoreState}
 use Rattle.cyc_select.specs.declared.code.Line.{Line}
 use Rattle.cyc_select.specs.declared.code.Line.TheVariants as lines
@@ -32,17 +32,17 @@ use Rattle.cyc_asm.proofs.Moving.{did, movable_ordinary, performs_did, performs_
 use Rattle.cyc_asm.proofs.Passing.{passed_movable, passed_allowed, either_order, passing_refusal}
 use Rattle.cyc_asm.proofs.Fillings.{label_named}
 
--- ---- the exchange
+-- ---- exchanged code
 
--- the second lines are the first with the instructions of a line and the one behind it in each other's place
+-- The second code is the first with the instructions of two adjacent lines exchanged.
 pub record IsExchange (code exchanged : List Line) (number : ℕ) (first second : Instr) : Type 0 where
   pub movable : is_movable first ≡ true
   pub passing : passes first second ≡ true
   pub unnamed : is_named code (suc number) ≡ false
   pub here : slice_get code number ≡ Some (lines.Ordinary first)
-  pub behind : slice_get code (suc number) ≡ Some (lines.Ordinary second)
+  pub following : slice_get code (suc number) ≡ Some (lines.Ordinary second)
   pub new_here : slice_get exchanged number ≡ Some (lines.Ordinary second)
-  pub new_behind : slice_get exchanged (suc number) ≡ Some (lines.Ordinary first)
+  pub new_after : slice_get exchanged (suc number) ≡ Some (lines.Ordinary first)
   pub others : (n : ℕ) → n ≢ number → n ≢ suc number → slice_get exchanged n ≡ slice_get code n
   pub long : length exchanged ≡ length code
 
@@ -52,30 +52,30 @@ ordinary_no_call i label is = cc
 failed_running : Failed ≡ Running → ⊥
 failed_running is = cc
 
--- returns go to the same lines
+-- After the exchange of two lines, calls return to the same lines as before.
 module _ (code : Labelled) (exchanged : List Line) (number : ℕ) (first second : Instr) (x : IsExchange code.lines exchanged number first second) where
-  -- a call stands in neither place
+  -- Neither of the two exchanged lines is a call.
   call_apart : (call label : ℕ) → slice_get code.lines call ≡ Some (lines.Call label) → (call ≢ number) × (call ≢ suc number)
   call_apart call label calls = (
     λ same. ordinary_no_call first label (sym x.here ∙ ap (slice_get code.lines) (sym same) ∙ calls),
-    λ same. ordinary_no_call second label (sym x.behind ∙ ap (slice_get code.lines) (sym same) ∙ calls),
+    λ same. ordinary_no_call second label (sym x.following ∙ ap (slice_get code.lines) (sym same) ∙ calls),
   )
 
   new_call_apart : (call label : ℕ) → slice_get exchanged call ≡ Some (lines.Call label) → (call ≢ number) × (call ≢ suc number)
   new_call_apart call label calls = (
     λ same. ordinary_no_call second label (sym x.new_here ∙ ap (slice_get exchanged) (sym same) ∙ calls),
-    λ same. ordinary_no_call first label (sym x.new_behind ∙ ap (slice_get exchanged) (sym same) ∙ calls),
+    λ same. ordinary_no_call first label (sym x.new_after ∙ ap (slice_get exchanged) (sym same) ∙ calls),
   )
 
   pub point_before : (line : ℕ) → IsReturnPoint (record { lines = exchanged; globals = code.globals }) line → IsReturnPoint code line
   point_before line p =
-      let (not_here, not_behind) = new_call_apart p.call p.label p.calls in
-      record { inside = (let i = p.inside in let l = x.long in omega (arith, i, l)); call = p.call; label = p.label; behind = p.behind; calls = sym (x.others p.call not_here not_behind) ∙ p.calls }
+      let (not_here, not_after) = new_call_apart p.call p.label p.calls in
+      record { inside = (let i = p.inside in let l = x.long in omega (arith, i, l)); call = p.call; label = p.label; following = p.following; calls = sym (x.others p.call not_here not_after) ∙ p.calls }
 
   pub point_after : (line : ℕ) → IsReturnPoint code line → IsReturnPoint (record { lines = exchanged; globals = code.globals }) line
   point_after line p =
-      let (not_here, not_behind) = call_apart p.call p.label p.calls in
-      record { inside = (let i = p.inside in let l = x.long in omega (arith, i, l)); call = p.call; label = p.label; behind = p.behind; calls = x.others p.call not_here not_behind ∙ p.calls }
+      let (not_here, not_after) = call_apart p.call p.label p.calls in
+      record { inside = (let i = p.inside in let l = x.long in omega (arith, i, l)); call = p.call; label = p.label; following = p.following; calls = x.others p.call not_here not_after ∙ p.calls }
 
 module _ (code : Labelled) (exchanged : List Line) (number : ℕ) (first second : Instr) (x : IsExchange code.lines exchanged number first second) (addresses : ℕ → ℕ) where
   abbrev new_code : Labelled
@@ -87,7 +87,7 @@ module _ (code : Labelled) (exchanged : List Line) (number : ℕ) (first second 
   abbrev below : Machine
   below = labelled.machine new_code addresses
 
-  -- between the two lines
+  -- The state between the two lines.
   record Between (c d : Configuration) : Type 0 where
     pub before : Configuration
     pub at : before.line ≡ number
@@ -100,7 +100,7 @@ module _ (code : Labelled) (exchanged : List Line) (number : ℕ) (first second 
   Matches (labelled.Ended ending output input) t = t ≡ labelled.Ended ending output input
   Matches (labelled.Stopped output input) t = t ≡ labelled.Stopped output input
 
-  -- a run that is not between the two lines
+  -- A state that is not between the two lines.
   abbrev IsOutside : labelled.State → Type 0
   IsOutside (labelled.Running c) = c.line ≢ suc number
   IsOutside (labelled.Ended ending output input) = Unit {0}
@@ -142,10 +142,10 @@ module _ (code : Labelled) (exchanged : List Line) (number : ℕ) (first second 
 
   point_outside : (line : ℕ) → IsReturnPoint code line → line ≢ suc number
   point_outside line p same =
-      let (not_here, not_behind) = call_apart code exchanged number first second x p.call p.label p.calls in
-      not_here (let b = p.behind in omega (arith, same, b))
+      let (not_here, not_after) = call_apart code exchanged number first second x p.call p.label p.calls in
+      not_here (let b = p.following in omega (arith, same, b))
 
-  -- nothing goes to the second line
+  -- No line jumps to the second of the two lines.
   label_outside : (at label : ℕ) (line : Line) → slice_get code.lines at ≡ Some line → label_of line ≡ Some label → label ≢ suc number
   label_outside at label line found goes same =
       true_is_not_false (sym (label_named code.lines at label line found goes) ∙ ap (is_named code.lines) same ∙ x.unnamed)
@@ -164,7 +164,7 @@ module _ (code : Labelled) (exchanged : List Line) (number : ℕ) (first second 
     settled_outside w (phases.Over end) = closed_outside w (ending_of end)
 
     performs_outside : (b : Bool) (i : Instr) (u : labelled.State) → labelled.PerformsOrdinary b c i u → IsOutside u
-    performs_outside true i u (event, left, acts, is) = subst IsOutside (sym is) (settled_outside (told (world_of c) event left) (told (world_of c) event left).machine.phase)
+    performs_outside true i u (event, left, acts, is) = subst IsOutside (sym is) (settled_outside (reported (world_of c) event left) (reported (world_of c) event left).machine.phase)
     performs_outside false i u is = subst IsOutside (sym is) tt
 
     branch_outside : (b : Bool) (label : ℕ) → label ≢ suc number → IsOutside (labelled.Running (record c { line = cond b label (c.line + 1) }))
@@ -190,7 +190,7 @@ module _ (code : Labelled) (exchanged : List Line) (number : ℕ) (first second 
 
   -- ---- the two lines
 
-  -- an ordinary line is executed as its instruction
+  -- An ordinary line has the effect of its instruction.
   steps_as : (some : Labelled) (c : Configuration) (i : Instr) → is_movable i ≡ true → slice_get some.lines c.line ≡ Some (lines.Ordinary i) → (next : labelled.State)
       → labelled.Performs c i next → labelled.Step some addresses (labelled.Running c) next
   steps_as some c i movable found next performs =
@@ -237,21 +237,21 @@ module _ (code : Labelled) (exchanged : List Line) (number : ℕ) (first second 
       line_second : d.line ≡ between.before.line + 1
       line_second = ap (λ (e : Configuration). e.line) between.second_done
 
-      behind : between.before.line + 1 ≡ suc number
-      behind = let at = between.at in omega (arith, at)
+      following : between.before.line + 1 ≡ suc number
+      following = let at = between.at in omega (arith, at)
 
       both_done : did (did between.before second) first ≡ did c second
       both_done = sym (either_order between.before first second x.movable x.passing) ∙ ap (λ (e : Configuration). did e second) (sym between.first_done)
 
       goes : (u : labelled.State) → labelled.Step new_code addresses t u → (next : labelled.State) × labelled.Step code addresses (labelled.Running c) next × Matches next u
       goes u step =
-          let performs = performs_as new_code d first x.movable (ap (slice_get exchanged) (line_second ∙ behind) ∙ x.new_behind) u (subst (λ s. labelled.Step new_code addresses s u) is step) in
+          let performs = performs_as new_code d first x.movable (ap (slice_get exchanged) (line_second ∙ following) ∙ x.new_after) u (subst (λ s. labelled.Step new_code addresses s u) is step) in
           let done = only_did (did between.before second) first x.movable (passing_refusal between.before first second x.movable x.passing ∙ between.allowed) u
           (subst (λ (e : Configuration). labelled.Performs e first u) between.second_done performs) in (
             labelled.Running (did c second),
-            steps_as code c second second_movable (ap (slice_get code.lines) (line_first ∙ behind) ∙ x.behind) _
+            steps_as code c second second_movable (ap (slice_get code.lines) (line_first ∙ following) ∙ x.following) _
                 (performs_did c second second_movable (passed_allowed c first second x.passing)),
-            inl (done ∙ ap (λ (e : Configuration). labelled.Running e) both_done, (λ same. omega (arith, same, line_first, behind))),
+            inl (done ∙ ap (λ (e : Configuration). labelled.Running e) both_done, (λ same. omega (arith, same, line_first, following))),
           )
 
   matched : Steps above below matching
@@ -273,7 +273,7 @@ module _ (code : Labelled) (exchanged : List Line) (number : ℕ) (first second 
   follows store calls input never =
       simulates above below matching matched (code_is_lawful new_code addresses) [] (labelled.start code store calls input) never (labelled.start new_code store calls input) refl (inl (refl, (λ same. omega (arith, same))))
 
-  -- own places that cost the same
+  -- Two ways to assign places to lines have equal costs.
   module _ (one other : ℕ → List ℕ) (same : (price : ℕ → ℕ) (line : ℕ) → sum_by price (one line) ≡ sum_by price (other line)) (from : labelled.State) (w : World) where
     sums : (price : ℕ → ℕ) (places : List ℕ) → sum_by (λ (p : ℕ). sum_by price (one p)) places ≡ sum_by (λ (p : ℕ). sum_by price (other p)) places
     sums price [] = refl
@@ -291,7 +291,7 @@ module _ (code : Labelled) (exchanged : List Line) (number : ℕ) (first second 
           running = u.running;
           goes_on = u.goes_on;
           ahead = u.ahead;
-          behind = u.behind;
+          following = u.following;
           cost = λ price. omega (arith, u.cost price, sums price u.places, same price (labelled.line_of u.state));
         })
     as_other met now (inr over) = inr over

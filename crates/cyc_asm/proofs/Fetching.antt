@@ -1,22 +1,22 @@
--- The machine executes what stands in the text.
+-- The machine fetches and executes the instructions in the assembled text.
 use Rattle.std.proofs.Common.{◌≡◌, ℕ, ◌+◌, ◌*◌, ◌%◌, ◌≤◌, List, ◌∷◌, length, Bool, true, false, cond, nat_le, Option, None, Some, refl, sym, ap, subst, ◌∙◌, arith, eq-eqb}
 use Rattle.std.proofs.lemmas.List.{length-map, get_or_past}
 use Rattle.cyc_words.specs.Word.{add_of}
 use Rattle.cyc_isa.specs.Encoding.{word_of, IsEncodable}
 use Rattle.cyc_isa.proofs.RoundTrip.{decode_of-word_of}
 use Rattle.cyc_isa.specs.declared.instr.Instr.{Instr}
-use Rattle.cyc_machine.specs.State.{text_base, text_end, text_at, word_number}
-use Rattle.cyc_machine.specs.Step.{Acts, Does, instruction_of, is_aligned, action_of, executes}
-use Rattle.cyc_machine.specs.Run.{World, Goes, told}
-use Rattle.cyc_machine.specs.declared.event.Event.TheVariants.{Ran}
-use Rattle.cyc_machine.specs.declared.phase.Phase.TheVariants as phases
-use Rattle.cyc_machine.proofs.StepLaws.{action_of-instruction, Step-action}
+use Rattle.cyc_machine_model.specs.State.{text_base, text_end, text_at, word_number}
+use Rattle.cyc_machine_model.specs.Step.{Acts, Does, instruction_of, is_aligned, action_of, executes}
+use Rattle.cyc_machine_model.specs.Run.{World, Goes, reported}
+use Rattle.cyc_machine_model.specs.declared.event.Event.TheVariants.{Ran}
+use Rattle.cyc_machine_model.specs.declared.phase.Phase.TheVariants as phases
+use Rattle.cyc_machine_model.proofs.StepLaws.{action_of-instruction, Step-action}
 use Rattle.cyc_words.specs.inside.Following.{Comes}
 use Rattle.cyc_select.specs.inside.Machine.{Configuration}
 use Rattle.cyc_asm.specs.inside.Text.{text_of, IsAt, nothing}
-use Rattle.cyc_machine.specs.WorldMachine.{world_machine}
+use Rattle.cyc_machine_model.specs.WorldMachine.{world_machine}
 
--- The machine with a configuration's registers and memory and this text, at an address. `next` is executed after it.
+-- The machine with a configuration's registers and memory and this text, at an address, with `next` as the address after it.
 abbrev pub world_at : List ℕ → Configuration → (counter next : ℕ) → (in_slot : Bool) → World
 world_at words c counter next in_slot = record {
   machine = record {
@@ -40,7 +40,7 @@ pub fetches : (words : List ℕ) (c : Configuration) (at next : ℕ) (in_slot : 
 fetches words c at next in_slot i here multiple =
     action_of-instruction (world_at words c at next in_slot).machine (word_of i) i (aligned_address at multiple) here.word (decodes_to i here.encodable)
 
--- where the instruction is determined, there is one next world
+-- An instruction with a determined effect leads to one next world.
 pub goes_to : (words : List ℕ) (c c' : Configuration) (at next next' : ℕ) (in_slot in_slot' : Bool) (i : Instr) → IsAt words at i → at % 4 ≡ 0 → c'.output ≡ c.output → c'.input ≡ c.input
     → executes (world_at words c at next in_slot).machine i ≡ Does Ran (world_at words c' next next' in_slot').machine
     → (u : World) → Goes (world_at words c at next in_slot) u → u ≡ world_at words c' next next' in_slot'
@@ -48,11 +48,11 @@ goes_to words c c' at next next' in_slot in_slot' i here multiple output input d
     let w : World = world_at words c at next in_slot in
     let v : World = world_at words c' next next' in_slot' in
     let acts : Acts (Does Ran v.machine) w.machine event s = Step-action w.machine (Does Ran v.machine) event s refl (fetches words c at next in_slot i here multiple ∙ does) step in
-    is ∙ ap (λ e. told w e s) acts.0 ∙ ap (λ m. told w Ran m) acts.1
+    is ∙ ap (λ e. reported w e s) acts.0 ∙ ap (λ m. reported w Ran m) acts.1
     ∙ ap (λ (out : List ℕ). record v { output = out; input = c.input }) (sym output)
     ∙ ap (λ (from : List ℕ). record v { input = from }) (sym input)
 
--- A jump or branch and its delay slot: two steps.
+-- A jump or branch and its delay slot take two steps.
 pub through : (words : List ℕ) (c c' : Configuration) (at target : ℕ) (i : Instr) → IsAt words at i → IsAt words (at + 4) nothing → at % 4 ≡ 0 → c'.output ≡ c.output → c'.input ≡ c.input
     → executes (world_at words c at (at + 4) false).machine i ≡ Does Ran (world_at words c' (at + 4) target true).machine
     → (Way Goal : World → Type 0) (places : List ℕ)
@@ -75,8 +75,8 @@ either_none : (b : Bool) → cond b (let n : Option ℕ = None in n) None ≡ No
 either_none true = refl
 either_none false = refl
 
--- no text is found at an address behind it
+-- No text is found after its end.
 pub no_text_past_end : (words : List ℕ) (address : ℕ) → text_base + 4 * length words ≤ text_end → text_end ≤ address → text_at (text_of words) address ≡ None
-no_text_past_end words address inside behind =
+no_text_past_end words address inside following =
     let past : length (text_of words) ≤ word_number text_base address = omega (arith, length-map words (λ (word : ℕ). Some word)) in
     ap (λ (x : Option ℕ). cond (nat_le text_base address) x None) (get_or_past (text_of words) (word_number text_base address) None past) ∙ either_none (nat_le text_base address)

@@ -1,4 +1,4 @@
--- Laws of the slots that are filled, and of the lines that runs come to.
+-- Laws of filled delay slots, and of reachable lines.
 use Rattle.std.proofs.Common.{◌≡◌, ℕ, zero, suc, List, Bool, true, false, cond, Option, None, Some, refl, sym, ap, subst, ◌∙◌, eq-eqb}
 use Rattle.std.specs.Prelude.{◌&&◌, ◌||◌, not, slice_get}
 use Rattle.std.proofs.lemmas.List.Folds.{list_any_at}
@@ -8,16 +8,16 @@ use Rattle.cyc_isa.specs.declared.instr.Instr.{Instr}
 use Rattle.cyc_select.specs.inside.Labelled.{Labelled, IsReturnPoint}
 use Rattle.cyc_select.specs.declared.code.Line.{Line}
 use Rattle.cyc_select.specs.declared.code.Line.TheVariants as lines
-use Rattle.cyc_asm.specs.inside.Slots.{is_movable, moves, label_of, is_label, is_named, goes_on, is_call, may_lack, fills_behind, is_unreached_behind, is_unreached, is_unreached_before, moved, filling}
+use Rattle.cyc_asm.specs.inside.Slots.{is_movable, moves, label_of, is_label, is_named, goes_on, is_call, may_lack, fills_after, is_unreached_after, is_unreached, is_unreached_before, moved, filling}
 
--- a line that is a branch or a jump
+-- A line that is a branch or a jump.
 abbrev pub is_jump : Line → Bool
 is_jump (lines.Ordinary instruction) = false
 is_jump line = true
 
--- ---- a filled slot
+-- ---- a filled delay slot
 
--- what it means that an instruction fills the slot of a line
+-- The properties of an instruction that fills the delay slot of a line.
 pub record IsFilled (code : List Line) (number : ℕ) (i : Instr) : Type 0 where
   pub before : ℕ
   pub line : Line
@@ -58,7 +58,7 @@ filled code (suc before) i is = unless (is_named code (suc before)) refl is
     unless true named is = absurd (let e : None ≡ Some i = is in cc)
     unless false unnamed is = by (slice_get code before) (slice_get code (suc before)) refl refl is unnamed
 
--- what fills a slot may move, and its line is a branch or a jump
+-- An instruction that fills a slot may be moved, and its line is a branch or a jump.
 pub filled_moves : (i : Instr) (line : Line) → moves i line ≡ true → (is_movable i ≡ true) × (is_jump line ≡ true)
 filled_moves i (lines.Ordinary other) may = absurd (let e : false ≡ true = may in cc)
 filled_moves i (lines.Branch condition label) may = (and_left (is_movable i) _ may, refl)
@@ -66,38 +66,38 @@ filled_moves i (lines.Jump label) may = (may, refl)
 filled_moves i (lines.Call label) may = (and_left (is_movable i) _ may, refl)
 filled_moves i lines.Return may = (and_left (is_movable i) _ may, refl)
 
--- ---- slots that are empty
+-- ---- empty delay slots
 
--- a label that a line goes to is used
+-- A label that a line jumps to is used.
 pub label_named : (code : List Line) (number label : ℕ) (line : Line) → slice_get code number ≡ Some line → label_of line ≡ Some label → is_named code label ≡ true
 label_named code number label line at goes =
     list_any_at (λ (l : Line). is_label label (label_of l)) code number line (slice_get_within code number line at)
     (ap (λ (l : Line). is_label label (label_of l)) (get_or_from_slice_get code number line line at)
     ∙ ap (is_label label) goes ∙ eq-eqb label label refl)
 
--- a line at which a used label stands
+-- A line with a used label satisfies `IsMet`.
 pub named_empty : (code : List Line) (number label : ℕ) (line : Line) → slice_get code number ≡ Some line → label_of line ≡ Some label → filling code label ≡ None
 named_empty code number zero line at goes = refl
 named_empty code number (suc before) line at goes =
     ap (λ b. cond b None (moved (slice_get code before) (slice_get code (suc before)))) (label_named code number (suc before) line at goes)
 
--- a line behind a branch or jump
-pub behind_empty : (code : List Line) (number : ℕ) (line : Line) → slice_get code number ≡ Some line → is_jump line ≡ true → filling code (suc number) ≡ None
-behind_empty code number line at jumps =
+-- The delay slot of a line after a branch or jump is empty.
+pub after_empty : (code : List Line) (number : ℕ) (line : Line) → slice_get code number ≡ Some line → is_jump line ≡ true → filling code (suc number) ≡ None
+after_empty code number line at jumps =
     unless (is_named code (suc number)) (ap (λ (o : Option Line). moved o (slice_get code (suc number))) at ∙ still line jumps (slice_get code (suc number)))
   where
-    still : (line : Line) → is_jump line ≡ true → (behind : Option Line) → moved (Some line) behind ≡ None
-    still (lines.Ordinary i) jumps behind = absurd (let e : false ≡ true = jumps in cc)
-    still (lines.Branch condition label) jumps behind = refl
-    still (lines.Jump label) jumps behind = refl
-    still (lines.Call label) jumps behind = refl
-    still lines.Return jumps behind = refl
+    still : (line : Line) → is_jump line ≡ true → (following : Option Line) → moved (Some line) following ≡ None
+    still (lines.Ordinary i) jumps following = absurd (let e : false ≡ true = jumps in cc)
+    still (lines.Branch condition label) jumps following = refl
+    still (lines.Jump label) jumps following = refl
+    still (lines.Call label) jumps following = refl
+    still lines.Return jumps following = refl
 
     unless : (named : Bool) → moved (slice_get code number) (slice_get code (suc number)) ≡ None → cond named None (moved (slice_get code number) (slice_get code (suc number))) ≡ None
     unless true none = refl
     unless false none = none
 
--- an ordinary line has no slot
+-- An ordinary line has no delay slot.
 pub ordinary_empty : (code : List Line) (number : ℕ) (i : Instr) → slice_get code number ≡ Some (lines.Ordinary i) → filling code number ≡ None
 ordinary_empty code number i at = by (filling code number) refl
   where
@@ -109,55 +109,55 @@ ordinary_empty code number i at = by (filling code number) refl
         let same : f.line ≡ lines.Ordinary i = cc in
         absurd (let e : false ≡ true = ap (moves j) (sym same) ∙ f.moves in cc)
 
--- ---- lines that runs come to
+-- ---- reachable lines
 
--- of each line in turn
-pub unreached_in_turn : (code : List Line) (unreached : Bool) (number : ℕ) → unreached ≡ is_unreached_before code number → is_unreached_behind unreached code number ≡ is_unreached code number
+-- Reachability is computed line by line.
+pub unreached_in_turn : (code : List Line) (unreached : Bool) (number : ℕ) → unreached ≡ is_unreached_before code number → is_unreached_after unreached code number ≡ is_unreached code number
 unreached_in_turn code unreached zero is = refl
-unreached_in_turn code unreached (suc before) is = ap (λ b. is_unreached_behind b code (suc before)) is
+unreached_in_turn code unreached (suc before) is = ap (λ b. is_unreached_after b code (suc before)) is
 
--- a line behind one that is come to and goes on
-pub reached_behind : (code : List Line) (number : ℕ) (line : Line) → slice_get code number ≡ Some line → goes_on (Some line) ≡ true → is_unreached code number ≡ false → is_unreached code (suc number) ≡ false
-reached_behind code number line at on reached =
-    ap (λ b. is_unreached_behind b code (suc number)) reached
-    ∙ ap (λ b. not b && (not (is_named code (suc number)) && may_lack (fills_behind code (suc number)) (slice_get code (suc number)))) (ap goes_on at ∙ on)
+-- A line after a reachable one that continues is reachable.
+pub reached_after : (code : List Line) (number : ℕ) (line : Line) → slice_get code number ≡ Some line → goes_on (Some line) ≡ true → is_unreached code number ≡ false → is_unreached code (suc number) ≡ false
+reached_after code number line at on reached =
+    ap (λ b. is_unreached_after b code (suc number)) reached
+    ∙ ap (λ b. not b && (not (is_named code (suc number)) && may_lack (fills_after code (suc number)) (slice_get code (suc number)))) (ap goes_on at ∙ on)
 
--- a line at which a used label stands
+-- A line with a used label satisfies `IsMet`.
 named_reached : (code : List Line) (number : ℕ) → is_named code number ≡ true → is_unreached code number ≡ false
 named_reached code zero named = refl
 named_reached code (suc before) named =
-    let behind : Bool = is_unreached code before || not (goes_on (slice_get code before)) in
-    ap (λ b. behind && (not b && may_lack (fills_behind code (suc before)) (slice_get code (suc before)))) named ∙ and_false behind
+    let following : Bool = is_unreached code before || not (goes_on (slice_get code before)) in
+    ap (λ b. following && (not b && may_lack (fills_after code (suc before)) (slice_get code (suc before)))) named ∙ and_false following
 
--- a line that may not be left out
-kept_reached : (code : List Line) (number : ℕ) (line : Option Line) → slice_get code number ≡ line → may_lack (fills_behind code number) line ≡ false → is_unreached code number ≡ false
+-- A line that may not be omitted is reachable.
+kept_reached : (code : List Line) (number : ℕ) (line : Option Line) → slice_get code number ≡ line → may_lack (fills_after code number) line ≡ false → is_unreached code number ≡ false
 kept_reached code zero line at kept = refl
 kept_reached code (suc before) line at kept =
-    let behind : Bool = is_unreached code before || not (goes_on (slice_get code before)) in
-    ap (λ b. behind && (not (is_named code (suc before)) && b)) (ap (may_lack (fills_behind code (suc before))) at ∙ kept)
-    ∙ and_and_false behind (not (is_named code (suc before)))
+    let following : Bool = is_unreached code before || not (goes_on (slice_get code before)) in
+    ap (λ b. following && (not (is_named code (suc before)) && b)) (ap (may_lack (fills_after code (suc before))) at ∙ kept)
+    ∙ and_and_false following (not (is_named code (suc before)))
 
 pub call_reached : (code : List Line) (number label : ℕ) → slice_get code number ≡ Some (lines.Call label) → is_unreached code number ≡ false
 call_reached code number label at = kept_reached code number (Some (lines.Call label)) at refl
 
--- what fills the slot of a line that is come to
+-- The instruction that fills the slot of a reachable line is reachable.
 pub filling_reached : (code : List Line) (number : ℕ) (i : Instr) (f : IsFilled code number i) → is_unreached code number ≡ false → is_unreached code f.before ≡ false
 filling_reached code number i f reached = by f.line f.at f.moves
   where
     unnamed : is_named code (suc f.before) ≡ false
     unnamed = ap (is_named code) (sym f.is) ∙ f.unnamed
 
-    at_behind : (line : Line) → slice_get code number ≡ Some line → slice_get code (suc f.before) ≡ Some line
-    at_behind line at = ap (slice_get code) (sym f.is) ∙ at
+    at_after : (line : Line) → slice_get code number ≡ Some line → slice_get code (suc f.before) ≡ Some line
+    at_after line at = ap (slice_get code) (sym f.is) ∙ at
 
-    -- where no run comes to it none comes to the line either
-    neither : (line : Line) → slice_get code number ≡ Some line → may_lack (fills_behind code (suc f.before)) (Some line) ≡ true → is_unreached code f.before ≡ true → is_unreached code (suc f.before) ≡ true
+    -- If the instruction before a line is unreachable, so is the line.
+    neither : (line : Line) → slice_get code number ≡ Some line → may_lack (fills_after code (suc f.before)) (Some line) ≡ true → is_unreached code f.before ≡ true → is_unreached code (suc f.before) ≡ true
     neither line at lacks unreached =
-        ap (λ b. is_unreached_behind b code (suc f.before)) unreached
-        ∙ ap (λ b. not b && may_lack (fills_behind code (suc f.before)) (slice_get code (suc f.before))) unnamed
-        ∙ ap (may_lack (fills_behind code (suc f.before))) (at_behind line at) ∙ lacks
+        ap (λ b. is_unreached_after b code (suc f.before)) unreached
+        ∙ ap (λ b. not b && may_lack (fills_after code (suc f.before)) (slice_get code (suc f.before))) unnamed
+        ∙ ap (may_lack (fills_after code (suc f.before))) (at_after line at) ∙ lacks
 
-    unless : (line : Line) → slice_get code number ≡ Some line → may_lack (fills_behind code (suc f.before)) (Some line) ≡ true → (b : Bool) → is_unreached code f.before ≡ b → is_unreached code f.before ≡ false
+    unless : (line : Line) → slice_get code number ≡ Some line → may_lack (fills_after code (suc f.before)) (Some line) ≡ true → (b : Bool) → is_unreached code f.before ≡ b → is_unreached code f.before ≡ false
     unless line at lacks false is = is
     unless line at lacks true is = absurd (let e : false ≡ true = sym reached ∙ ap (is_unreached code) f.is ∙ neither line at lacks is in cc)
 
@@ -167,24 +167,24 @@ filling_reached code number i f reached = by f.line f.at f.moves
     by (lines.Jump label) at may = unless (lines.Jump label) at refl (is_unreached code f.before) refl
     by (lines.Call label) at may =
         kept_reached code f.before (Some (lines.Ordinary i)) f.from
-        (ap (λ b. not (not b && is_call (slice_get code (suc f.before)))) unnamed ∙ ap (λ o. not (is_call o)) (at_behind (lines.Call label) at))
+        (ap (λ b. not (not b && is_call (slice_get code (suc f.before)))) unnamed ∙ ap (λ o. not (is_call o)) (at_after (lines.Call label) at))
     by lines.Return at may = unless lines.Return at refl (is_unreached code f.before) refl
 
--- A line that is come to, with no instruction on the way into its slot.
+-- A reachable line whose delay slot is not filled.
 pub record IsMet (code : List Line) (number : ℕ) : Type 0 where
   pub empty : filling code number ≡ None
   pub reached : is_unreached code number ≡ false
 
--- a line at which a used label stands
+-- A line with a used label satisfies `IsMet`.
 pub named_met : (code : List Line) (number label : ℕ) (line : Line) → slice_get code number ≡ Some line → label_of line ≡ Some label → IsMet code label
 named_met code number label line at goes =
     record { empty = named_empty code number label line at goes; reached = named_reached code label (label_named code number label line at goes) }
 
--- a line behind a branch or a call that is come to
-pub behind_met : (code : List Line) (number : ℕ) (line : Line) → slice_get code number ≡ Some line → is_jump line ≡ true → goes_on (Some line) ≡ true → is_unreached code number ≡ false → IsMet code (suc number)
-behind_met code number line at jumps on reached = record { empty = behind_empty code number line at jumps; reached = reached_behind code number line at on reached }
+-- A line after a reachable branch or call satisfies `IsMet`.
+pub after_met : (code : List Line) (number : ℕ) (line : Line) → slice_get code number ≡ Some line → is_jump line ≡ true → goes_on (Some line) ≡ true → is_unreached code number ≡ false → IsMet code (suc number)
+after_met code number line at jumps on reached = record { empty = after_empty code number line at jumps; reached = reached_after code number line at on reached }
 
 pub point_met : (code : Labelled) (line : ℕ) → IsReturnPoint code line → IsMet code.lines line
 point_met code line point =
-    subst (IsMet code.lines) (sym point.behind)
-    (behind_met code.lines point.call (lines.Call point.label) point.calls refl refl (call_reached code.lines point.call point.label point.calls))
+    subst (IsMet code.lines) (sym point.following)
+    (after_met code.lines point.call (lines.Call point.label) point.calls refl refl (call_reached code.lines point.call point.label point.calls))

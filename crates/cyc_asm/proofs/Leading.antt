@@ -1,5 +1,5 @@
--- Where returns, branches and jumps lead, and which worlds match a configuration: a branch or jump whose slot is filled is
--- executed before the instruction that fills it.
+-- The targets of returns, branches and jumps, and the worlds that match a configuration. A branch or jump whose slot is filled is executed
+-- before the instruction that fills it.
 use Rattle.std.proofs.Common.{◌≡◌, ◌≢◌, ℕ, zero, suc, pos, ◌+◌, ◌%◌, ◌≤◌, ◌<◌, List, length, Bool, true, false, cond, not, nat_eq, Option, None, Some, refl, sym, ap, subst, ◌∙◌, arith, inl, inr}
 use Rattle.std.specs.Prelude.{◌⊎◌, ◌&&◌, slice_get}
 use Rattle.std.proofs.lemmas.Bool.{cases_eq, cases_lt, not-true}
@@ -18,17 +18,17 @@ use Rattle.cyc_isa.specs.declared.instr.Instr.TheVariants.{Jump, JumpRegister}
 use Rattle.cyc_isa.specs.declared.instr.BranchOp.TheVariants.{Equal, NotEqual}
 use Rattle.cyc_isa.specs.declared.instr.BranchZeroOp.TheVariants as signs
 use Rattle.cyc_isa.specs.declared.instr.JumpOp.TheVariants.{Plain, AndLink}
-use Rattle.cyc_machine.specs.declared.constants.TheConstants.{RETURN_ADDRESS}
-use Rattle.cyc_machine.specs.declared.event.End.{End}
-use Rattle.cyc_machine.specs.declared.event.Event.{Event}
-use Rattle.cyc_machine.specs.declared.event.Event.TheVariants as events
-use Rattle.cyc_machine.specs.declared.phase.Phase.TheVariants as phases
-use Rattle.cyc_machine.specs.State as machines
-use Rattle.cyc_machine.specs.State.{text_end, with_register}
-use Rattle.cyc_machine.specs.Step.{Action, Acts, Does, cause_of, after, executes, performs}
-use Rattle.cyc_machine.specs.Run.{World, told, Goes}
-use Rattle.cyc_machine.specs.WorldMachine.{world_machine, status_in, seen_of}
-use Rattle.cyc_machine.proofs.StepLaws.{executes-performs, Step-action}
+use Rattle.cyc_machine_model.specs.declared.constants.TheConstants.{RETURN_ADDRESS}
+use Rattle.cyc_machine_model.specs.declared.event.End.{End}
+use Rattle.cyc_machine_model.specs.declared.event.Event.{Event}
+use Rattle.cyc_machine_model.specs.declared.event.Event.TheVariants as events
+use Rattle.cyc_machine_model.specs.declared.phase.Phase.TheVariants as phases
+use Rattle.cyc_machine_model.specs.State as machines
+use Rattle.cyc_machine_model.specs.State.{text_end, with_register}
+use Rattle.cyc_machine_model.specs.Step.{Action, Acts, Does, cause_of, after, executes, performs}
+use Rattle.cyc_machine_model.specs.Run.{World, reported, Goes}
+use Rattle.cyc_machine_model.specs.WorldMachine.{world_machine, status_in, seen_of}
+use Rattle.cyc_machine_model.proofs.StepLaws.{executes-performs, Step-action}
 use Rattle.cyc_select.specs.declared.code.Condition.{Condition}
 use Rattle.cyc_select.specs.declared.code.Condition.TheVariants as conditions
 use Rattle.cyc_select.specs.declared.code.Line.{Line}
@@ -44,9 +44,9 @@ use Rattle.cyc_asm.proofs.Moving.{did, with_word, movable_ordinary, movable_does
 use Rattle.cyc_asm.proofs.Ordinary.{Shown, same_cause, performed}
 use Rattle.cyc_asm.proofs.Fillings.{is_jump}
 
--- ---- where a return goes
+-- ---- the target of a return
 
--- whether a line behind a call, one of the first lines, lies at an address
+-- One of the first `count` lines after calls is at this address, or none is.
 abbrev Found : Labelled → (ℕ → ℕ) → (address count : ℕ) → Type 0
 Found code addresses address count =
     ((line : ℕ) × IsReturnPoint code line × (addresses line ≡ address)) ⊎ ((line : ℕ) → line < count → IsReturnPoint code line → addresses line ≢ address)
@@ -67,10 +67,10 @@ find code addresses address (suc count) within = elim (find code addresses addre
 ]
   where
     here : (count : ℕ) → suc count ≤ length code.lines → ((line : ℕ) → line < count → IsReturnPoint code line → addresses line ≢ address) → Found code addresses address (suc count)
-    here zero within none = inr (λ line below point at. absurd (omega (arith, below, point.behind)))
+    here zero within none = inr (λ line below point at. absurd (omega (arith, below, point.following)))
     here (suc call) within none = elim (call_or_not (slice_get code.lines call)) [
       | inl calls ↦ elim (cases_eq (addresses (suc call)) address) [
-        | inl same ↦ inl (suc call, record { inside = omega (arith, within); call = call; label = calls.0; behind = refl; calls = calls.1 }, same)
+        | inl same ↦ inl (suc call, record { inside = omega (arith, within); call = call; label = calls.0; following = refl; calls = calls.1 }, same)
         | inr other ↦ inr (λ line below point at. elim (cases_lt line (suc call)) [
           | inl before ↦ none line before point at
           | inr last ↦ other (ap addresses (let e : suc call ≡ line = omega (arith, last, below) in e) ∙ at)
@@ -78,7 +78,7 @@ find code addresses address (suc count) within = elim (find code addresses addre
       ]
       | inr no_call ↦ inr (λ line below point at. elim (cases_lt line (suc call)) [
         | inl before ↦ none line before point at
-        | inr last ↦ no_call point.label (ap (slice_get code.lines) (let e : call ≡ point.call = omega (arith, last, below, point.behind) in e) ∙ point.calls)
+        | inr last ↦ no_call point.label (ap (slice_get code.lines) (let e : call ≡ point.call = omega (arith, last, below, point.following) in e) ∙ point.calls)
       ])
     ]
 
@@ -87,8 +87,7 @@ find code addresses address (suc count) within = elim (find code addresses addre
 running_over : (end : End) → phases.Running ≡ phases.Over end → ⊥
 running_over end is = let e : phases.Running ≡ phases.Over end = is in cc
 
--- a branch's inverse is taken where the branch is not
--- (`words` has the word of each register)
+-- The inverse of a branch is taken exactly if the branch is not. (`words` gives the word of each register.)
 pub holds-inverse : (words : ℕ → ℕ) (condition : Condition) → holds_of words (inverse_of condition) ≡ not (holds_of words condition)
 holds-inverse words (conditions.Registers Equal left right) = refl
 holds-inverse words (conditions.Registers NotEqual left right) = sym (not_not (nat_eq (words left.number) (words right.number)))
@@ -97,19 +96,19 @@ holds-inverse words (conditions.Sign signs.Greater source) = int_le-not_lt (sign
 holds-inverse words (conditions.Sign signs.Less source) = int_le-not_lt (pos 0) (signed (words source.number))
 holds-inverse words (conditions.Sign signs.GreaterOrEqual source) = int_lt-not_le (pos 0) (signed (words source.number))
 
--- a branch leaves its slot to be executed, and then goes where it is taken to
+-- A branch executes its slot and then continues at its target or after the slot.
 pub branches_to : (words : List ℕ) (c : Configuration) (from : ℕ) (condition : Condition) (offset : ℕ) → executes (world_at words c from (from + 4) false).machine (branch_of condition offset)
     ≡ Does events.Ran (world_at words c (from + 4) (cond (holds_of (word_in c) condition) (branch_target from offset) (add_of (from + 4) 4)) true).machine
 branches_to words c from (conditions.Registers op left right) offset = refl
 branches_to words c from (conditions.Sign op source) offset = refl
 
--- ---- branches and jumps, and what matches
+-- ---- branches and jumps, and matching worlds
 
 module _ (code : Labelled) (addresses : ℕ → ℕ) where
   abbrev pub above : Machine
   above = labelled.machine code addresses
 
-  -- what a branch or jump leaves before its slot is executed: a call has linked
+  -- The registers after a branch or jump, before its slot: a call has stored its return address.
   abbrev linked_in : (number : ℕ) → Line → Configuration → List ℕ
   linked_in number (lines.Call label) c = (with_register (core_of c) RETURN_ADDRESS (addresses (suc number))).registers
   linked_in number line c = c.registers
@@ -117,7 +116,7 @@ module _ (code : Labelled) (addresses : ℕ → ℕ) where
   abbrev pub headed : (number : ℕ) → Line → Configuration → Configuration
   headed number line c = record c { registers = linked_in number line c }
 
-  -- and where it leads behind its slot; a branch that is not near comes to the jump that it goes round
+  -- The address after the slot. A far branch that is taken continues at the jump that it skips otherwise.
   abbrev pub taken_to : (near : Bool) → (number label : ℕ) → ℕ
   taken_to true number label = addresses label
   taken_to false number label = addresses number + 4
@@ -132,7 +131,7 @@ module _ (code : Labelled) (addresses : ℕ → ℕ) where
   leads number (lines.Call label) c = addresses label
   leads number lines.Return c = word_in c RETURN_ADDRESS
 
-  -- an instruction that may move does the same before it as behind it
+  -- An instruction that may be moved has the same effect before and after the branch or jump.
   pub headed_moves : (number : ℕ) (line : Line) (c : Configuration) (i : Instr) → moves i line ≡ true → did (headed number line c) i ≡ headed number line (did c i)
   headed_moves number (lines.Ordinary other) c i may = refl
   headed_moves number (lines.Branch condition label) c i may = refl
@@ -154,7 +153,7 @@ module _ (code : Labelled) (addresses : ℕ → ℕ) where
       (not-true (reads i RETURN_ADDRESS) (and_left (not (reads i RETURN_ADDRESS)) (not (writes i RETURN_ADDRESS)) free)) ∙ allowed
   headed_allowed number lines.Return c i may allowed = allowed
 
-  -- and leaves where it leads
+  -- An instruction that may be moved does not change the target of the branch or jump.
   pub leads_moves : (number : ℕ) (line : Line) (c : Configuration) (i : Instr) → moves i line ≡ true → leads number line c ≡ leads number line (did c i)
   leads_moves number (lines.Ordinary other) c i may = refl
   leads_moves number (lines.Branch condition label) c i may =
@@ -166,12 +165,12 @@ module _ (code : Labelled) (addresses : ℕ → ℕ) where
       sym (unwritten_stays c i RETURN_ADDRESS (and_left (is_movable i) (not (writes i RETURN_ADDRESS)) may) (not-true (writes i RETURN_ADDRESS) (and_right (is_movable i) (not (writes i RETURN_ADDRESS)) may)))
 
   module _ (words : List ℕ) where
-    -- the world of a configuration
+    -- The machine's world that matches a configuration of labelled code.
     abbrev pub placed : Configuration → World
     placed c = world_at words c (addresses c.line) (add_of (addresses c.line) 4) false
 
-    -- In between: the instruction before a branch or jump is executed above, and below the branch or jump is, whose slot has
-    -- the instruction.
+    -- The state between the two instructions: the labelled machine has executed the one before the branch or jump. The machine has executed
+    -- the branch or jump and has that instruction in its slot.
     pub record Between (c : Configuration) (i : Instr) (line : Line) (w : World) : Type 0 where
       pub before : Configuration
       pub found : slice_get code.lines c.line ≡ Some line
@@ -193,7 +192,7 @@ module _ (code : Labelled) (addresses : ℕ → ℕ) where
     matched_seen None c w is = ap seen_of is
     matched_seen (Some i) c w (line, mid) = ap seen_of mid.is ∙ ap (λ (c : Configuration). labelled.seen_of (labelled.Running c)) (sym mid.did)
 
-    -- the matching at a line that is no branch or jump whose slot is filled
+    -- The matching world at a line that is no branch or jump with a filled slot.
     pub at_empty : (c : Configuration) (w : World) → filling code.lines c.line ≡ None → w ≡ placed c → MatchesAs (filling code.lines c.line) c w
     at_empty c w empty is = subst (λ (o : Option Instr). MatchesAs o c w) (sym empty) is
 
@@ -216,9 +215,9 @@ module _ (code : Labelled) (addresses : ℕ → ℕ) where
       endings = same_ending;
     }
 
-    -- ---- a branch or jump and its slot
+    -- ---- a branch or jump and its delay slot
 
-    -- a branch or jump stands with its slot filled or empty
+    -- A branch or jump is in the text with its slot filled or empty.
     pub jump_stands : (number : ℕ) (line : Line) → is_jump line ≡ true → Stands code words addresses number line → StandsFilled (filling code.lines number) code words addresses number line
     jump_stands number (lines.Ordinary i) jumps stands = absurd (let e : false ≡ true = jumps in cc)
     jump_stands number (lines.Branch condition label) jumps stands = stands
@@ -226,7 +225,7 @@ module _ (code : Labelled) (addresses : ℕ → ℕ) where
     jump_stands number (lines.Call label) jumps stands = stands
     jump_stands number lines.Return jumps stands = stands
 
-    -- it leads into its slot
+    -- Executing a branch or jump leads the machine to its delay slot.
     pub head_goes : (number : ℕ) (line : Line) (i : Instr) (from : ℕ) (c : Configuration) → StandsFrom code words addresses number line i from → addresses number ≡ from + 4 → from % 4 ≡ 0 → from < text_end
         → (u : World) → Goes (world_at words c from (from + 4) false) u → u ≡ world_at words (headed number line c) (from + 4) (leads number line c) true
     head_goes number (lines.Ordinary other) i from c stands place multiple low u goes = absurd stands
@@ -234,18 +233,18 @@ module _ (code : Labelled) (addresses : ℕ → ℕ) where
       where
         by : (near : Bool) → is_near code.lines number label ≡ near → StandsBranch near words addresses number condition label i from → u ≡ world_at words c (from + 4) (leads_by (is_near code.lines number label) number condition label c) true
         by true is (branches, next) =
-            let behind : add_of (from + 4) 4 ≡ addresses (suc number) = omega (arith, low, next) in
+            let following : add_of (from + 4) 4 ≡ addresses (suc number) = omega (arith, low, next) in
             goes_to words c c from (from + 4) (cond (holds_of (word_in c) condition) (branch_target from branches.offset) (add_of (from + 4) 4)) false true (branch_of condition branches.offset) branches.branch multiple refl refl
             (branches_to words c from condition branches.offset) u goes
             ∙ ap (λ (n : ℕ). world_at words c (from + 4) (cond (holds_of (word_in c) condition) n (add_of (from + 4) 4)) true) branches.target
-            ∙ ap (λ (n : ℕ). world_at words c (from + 4) (cond (holds_of (word_in c) condition) (addresses label) n) true) behind
+            ∙ ap (λ (n : ℕ). world_at words c (from + 4) (cond (holds_of (word_in c) condition) (addresses label) n) true) following
             ∙ ap (λ b. world_at words c (from + 4) (leads_by b number condition label c) true) (sym is)
         by false is (branches, jumps, next) =
-            let behind : add_of (from + 4) 4 ≡ addresses number + 4 = omega (arith, low, place) in
+            let following : add_of (from + 4) 4 ≡ addresses number + 4 = omega (arith, low, place) in
             goes_to words c c from (from + 4) (cond (holds_of (word_in c) (inverse_of condition)) (branch_target from branches.offset) (add_of (from + 4) 4)) false true (branch_of (inverse_of condition) branches.offset) branches.branch multiple refl refl
             (branches_to words c from (inverse_of condition) branches.offset) u goes
             ∙ ap (λ (n : ℕ). world_at words c (from + 4) (cond (holds_of (word_in c) (inverse_of condition)) n (add_of (from + 4) 4)) true) branches.target
-            ∙ ap (λ (n : ℕ). world_at words c (from + 4) (cond (holds_of (word_in c) (inverse_of condition)) (addresses (suc number)) n) true) behind
+            ∙ ap (λ (n : ℕ). world_at words c (from + 4) (cond (holds_of (word_in c) (inverse_of condition)) (addresses (suc number)) n) true) following
             ∙ ap (λ b. world_at words c (from + 4) (cond b (addresses (suc number)) (addresses number + 4)) true) (holds-inverse (word_in c) condition)
             ∙ ap (λ (n : ℕ). world_at words c (from + 4) n true) (cond-not (holds_of (word_in c) condition) (addresses (suc number)) (addresses number + 4))
             ∙ ap (λ b. world_at words c (from + 4) (leads_by b number condition label c) true) (sym is)
@@ -264,7 +263,7 @@ module _ (code : Labelled) (addresses : ℕ → ℕ) where
       pub line_stands : (number : ℕ) (line : Line) → slice_get code.lines number ≡ Some line → is_unreached code.lines number ≡ false → Stands code words addresses number line
       line_stands number line found reached = subst (λ b. StandsUnless b code words addresses number line) reached (text.stands number line found)
 
-      -- it does so in the slot
+      -- The instruction has its usual effect in the slot.
       pub slot_goes : (c : Configuration) (small : length c.stack ≤ 1048576) (i : Instr) → is_movable i ≡ true → cause_of (machine_of c) i ≡ None → (at next : ℕ) → IsAt words at i → at % 4 ≡ 0
           → (u : World) → Goes (world_at words c at next true) u → u ≡ world_at words (did c i) next (add_of next 4) false
       slot_goes c small i movable allowed at next here multiple u (event, s, step, is) =
@@ -274,13 +273,13 @@ module _ (code : Labelled) (addresses : ℕ → ℕ) where
           let acts : Acts (performs w.machine i) w.machine event s = Step-action w.machine (performs w.machine i) event s refl does step in
           let (e, t, does_above, shows) = performed words text.inside c small at next true i ordinary allowed event s acts in
           let ran : (e ≡ events.Ran) × (t ≡ after (machine_of c) i) = subst (λ (a : Action). Acts a (machine_of c) e t) (movable_does (machine_of c) i movable) does_above in
-          by e t ran (subst (λ (v : World). Shown words text.inside c small next (told (world_of c) e t) v) (sym is) shows)
+          by e t ran (subst (λ (v : World). Shown words text.inside c small next (reported (world_of c) e t) v) (sym is) shows)
         where
-          same_told : (e : Event) (t : machines.State) → (e ≡ events.Ran) × (t ≡ after (machine_of c) i) → told (world_of c) e t ≡ told (world_of c) events.Ran (after (machine_of c) i)
-          same_told e t ran = ap (λ (x : Event). told (world_of c) x t) ran.0 ∙ ap (told (world_of c) events.Ran) ran.1
+          same_reported : (e : Event) (t : machines.State) → (e ≡ events.Ran) × (t ≡ after (machine_of c) i) → reported (world_of c) e t ≡ reported (world_of c) events.Ran (after (machine_of c) i)
+          same_reported e t ran = ap (λ (x : Event). reported (world_of c) x t) ran.0 ∙ ap (reported (world_of c) events.Ran) ran.1
 
-          by : (e : Event) (t : machines.State) → (e ≡ events.Ran) × (t ≡ after (machine_of c) i) → Shown words text.inside c small next (told (world_of c) e t) u → u ≡ world_at words (did c i) next (add_of next 4) false
-          by e t ran (inl (running, shown)) = shown ∙ ap (λ (v : World). world_at words (from_world v 0) next (add_of next 4) false) (same_told e t ran)
+          by : (e : Event) (t : machines.State) → (e ≡ events.Ran) × (t ≡ after (machine_of c) i) → Shown words text.inside c small next (reported (world_of c) e t) u → u ≡ world_at words (did c i) next (add_of next 4) false
+          by e t ran (inl (running, shown)) = shown ∙ ap (λ (v : World). world_at words (from_world v 0) next (add_of next 4) false) (same_reported e t ran)
           by e t ran (inr (end, over, over_below, seen)) =
-              let runs : phases.Running ≡ phases.Over end = sym (after_runs c i movable) ∙ ap (λ (v : World). v.machine.phase) (sym (same_told e t ran)) ∙ over in
+              let runs : phases.Running ≡ phases.Over end = sym (after_runs c i movable) ∙ ap (λ (v : World). v.machine.phase) (sym (same_reported e t ran)) ∙ over in
               absurd (running_over end runs)

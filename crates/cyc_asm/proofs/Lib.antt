@@ -1,9 +1,9 @@
--- what the laws and the contract of `assemble` rest on
+-- the lemmas for the laws and for the contract of `assemble`
 pub mod Running
 pub mod Stretches
 pub mod Standing
 pub mod Arranging
--- what those lemmas rest on
+-- auxiliary lemmas on delay slots
 pub mod Fillings
 pub mod Moving
 pub mod Passed

@@ -1,5 +1,5 @@
--- An instruction that moves into the slot of a branch or jump does there what it does before it, and does not change what this
--- does: it leaves the registers that it does not set, and does not see those that it does not read.
+-- An instruction has the same effect in the delay slot of a branch or jump as before it, and leaves the effect of the branch unchanged. An
+-- instruction does not change registers that it does not write, and does not depend on those that it does not read.
 use Rattle.std.proofs.Common.{◌≡◌, ◌≢◌, ℕ, ◌+◌, ◌-◌, ◌%◌, ◌^◌, Bool, true, false, not, ◌==◌, ◌||◌, ◌&&◌, List, [], ◌∷◌, length, Option, None, Some, refl, sym, ap, subst, ◌∙◌}
 use Rattle.std.specs.Prelude.{if◌then◌else◌, slice_index, slice_set}
 use Rattle.std.proofs.lemmas.Bool.{not-true}
@@ -15,31 +15,31 @@ use Rattle.cyc_isa.specs.declared.instr.Instr.TheVariants.{Immediate, LoadUpper,
 use Rattle.cyc_isa.specs.declared.instr.MemoryOp.TheVariants.{LoadWord, StoreWord, LoadByte, StoreByte}
 use Rattle.cyc_isa.specs.declared.instr.MoveFromOp.TheVariants.{High, Low}
 use Rattle.cyc_isa.specs.declared.instr.MultiplyDivideOp.TheVariants.{Multiply, Divide}
-use Rattle.cyc_machine.specs.declared.event.Cause.{Cause}
-use Rattle.cyc_machine.specs.declared.event.Cause.TheVariants as causes
-use Rattle.cyc_machine.specs.declared.event.End.TheVariants.{Trap}
-use Rattle.cyc_machine.specs.declared.event.Event.{Event}
-use Rattle.cyc_machine.specs.declared.event.Event.TheVariants.{Ran, Ended}
-use Rattle.cyc_machine.specs.declared.phase.Phase.TheVariants as phases
-use Rattle.cyc_machine.specs.State as machines
-use Rattle.cyc_machine.specs.State.{Core, Place, register, with_register, place_of, is_dead, loaded, stored}
-use Rattle.cyc_machine.specs.Step.{Action, Acts, Does, after, performs, refuses_or_performs, cause_of, first_of, is_aligned, is_nowhere, is_text}
-use Rattle.cyc_machine.specs.Run.{told}
-use Rattle.cyc_machine.proofs.MemoryLaws.{length-stack-stored}
-use Rattle.cyc_machine.proofs.StepLaws.{executes-performs}
+use Rattle.cyc_machine_model.specs.declared.event.Cause.{Cause}
+use Rattle.cyc_machine_model.specs.declared.event.Cause.TheVariants as causes
+use Rattle.cyc_machine_model.specs.declared.event.End.TheVariants.{Trap}
+use Rattle.cyc_machine_model.specs.declared.event.Event.{Event}
+use Rattle.cyc_machine_model.specs.declared.event.Event.TheVariants.{Ran, Ended}
+use Rattle.cyc_machine_model.specs.declared.phase.Phase.TheVariants as phases
+use Rattle.cyc_machine_model.specs.State as machines
+use Rattle.cyc_machine_model.specs.State.{Core, Place, register, with_register, place_of, is_dead, loaded, stored}
+use Rattle.cyc_machine_model.specs.Step.{Action, Acts, Does, after, performs, refuses_or_performs, cause_of, first_of, is_aligned, is_nowhere, is_text}
+use Rattle.cyc_machine_model.specs.Run.{reported}
+use Rattle.cyc_machine_model.proofs.MemoryLaws.{length-stack-stored}
+use Rattle.cyc_machine_model.proofs.StepLaws.{executes-performs}
 use Rattle.cyc_select.specs.declared.code.Condition.{Condition}
 use Rattle.cyc_select.specs.declared.code.Condition.TheVariants as conditions
 use Rattle.cyc_select.specs.inside.Labelled.{is_ordinary}
 use Rattle.cyc_select.specs.inside.Machine.{Configuration, State, Running, Stopped, Performs, settled, core_of, memory_of, machine_of, world_of, from_world, word_in, holds_of}
 use Rattle.cyc_asm.specs.inside.Slots.{is_movable, leaves}
 
--- ---- what it does
+-- ---- the effect of the instruction
 
--- the configuration behind an instruction that calls no service
+-- The configuration after an instruction that calls no service.
 abbrev pub did : Configuration → Instr → Configuration
-did c i = from_world (told (world_of c) Ran (after (machine_of c) i)) (c.line + 1)
+did c i = from_world (reported (world_of c) Ran (after (machine_of c) i)) (c.line + 1)
 
--- a register is set from outside, as a call sets that of return addresses
+-- The configuration with a register set, as a call sets that of the return address.
 abbrev pub with_word : Configuration → (number word : ℕ) → Configuration
 with_word c number word = record c { registers = (with_register (core_of c) number word).registers }
 
@@ -95,16 +95,16 @@ after_runs c (MoveFrom Low d) movable = refl
 after_runs c (MultiplyDivide op l r) movable = refl
 after_runs c (Arithmetic op d l r) movable = refl
 
--- the labelled machine does it, where it is not refused
+-- The labelled machine performs the instruction if nothing forbids it.
 pub performs_did : (c : Configuration) (i : Instr) → is_movable i ≡ true → cause_of (machine_of c) i ≡ None → Performs c i (Running (did c i))
 performs_did c i movable allowed = (
   Ran,
   after (machine_of c) i,
   subst (λ (a : Action). Acts a (machine_of c) Ran (after (machine_of c) i)) (sym (executes-performs (machine_of c) i allowed ∙ movable_does (machine_of c) i movable)) (refl, refl),
-  sym (ap (settled (told (world_of c) Ran (after (machine_of c) i)) (c.line + 1)) (after_runs c i movable)),
+  sym (ap (settled (reported (world_of c) Ran (after (machine_of c) i)) (c.line + 1)) (after_runs c i movable)),
 )
 
--- where it is refused, it is stopped
+-- A forbidden instruction stops the labelled machine.
 pub performs_refused : (c : Configuration) (i : Instr) (cause : Cause) → cause_of (machine_of c) i ≡ Some cause → Performs c i (Stopped c.output c.input)
 performs_refused c i cause is = (
   Ended (Trap cause),
@@ -113,17 +113,17 @@ performs_refused c i cause is = (
   refl,
 )
 
--- and where it is not, it does nothing else
+-- An allowed instruction has no other effect.
 pub only_did : (c : Configuration) (i : Instr) → is_movable i ≡ true → cause_of (machine_of c) i ≡ None → (next : State) → Performs c i next → next ≡ Running (did c i)
 only_did c i movable allowed next (event, left, acts, is) =
     let ran : (event ≡ Ran) × (left ≡ after (machine_of c) i) =
     subst (λ (a : Action). Acts a (machine_of c) event left) (executes-performs (machine_of c) i allowed ∙ movable_does (machine_of c) i movable) acts in
     is
-    ∙ ap (λ (e : Event). settled (told (world_of c) e left) (c.line + 1) (told (world_of c) e left).machine.phase) ran.0
-    ∙ ap (λ (s : machines.State). settled (told (world_of c) Ran s) (c.line + 1) s.phase) ran.1
-    ∙ ap (settled (told (world_of c) Ran (after (machine_of c) i)) (c.line + 1)) (after_runs c i movable)
+    ∙ ap (λ (e : Event). settled (reported (world_of c) e left) (c.line + 1) (reported (world_of c) e left).machine.phase) ran.0
+    ∙ ap (λ (s : machines.State). settled (reported (world_of c) Ran s) (c.line + 1) s.phase) ran.1
+    ∙ ap (settled (reported (world_of c) Ran (after (machine_of c) i)) (c.line + 1)) (after_runs c i movable)
 
--- it keeps the stack's length
+-- The instruction keeps the length of the stack.
 pub same_stack : (c : Configuration) (i : Instr) → is_movable i ≡ true → length (did c i).stack ≡ length c.stack
 same_stack c (Immediate op t b h) movable = refl
 same_stack c (LoadUpper t h) movable = refl
@@ -167,14 +167,14 @@ registers-either true false xs i j v w differ = refl
 registers-either false true xs i j v w differ = refl
 registers-either false false xs i j v w differ = set_comm xs j i w v (λ same. differ (sym same))
 
--- registers after two are set, the first of them to one of two equal words
+-- The registers after two writes, where the first word is one of two equal words.
 both_set : (core : Core) (target number word value value' : ℕ) → value' ≡ value → target ≢ number
     → (with_register (with_register core number word) target value').registers ≡ (with_register (with_register core target value) number word).registers
 both_set core target number word value value' same differ =
     ap (λ (v : ℕ). (with_register (with_register core number word) target v).registers) same
     ∙ registers-either (target == 0) (number == 0) core.registers target number value word differ
 
--- ---- it leaves what it does not set
+-- ---- registers that the instruction does not write
 
 sets-stays : (c : Configuration) (i : Instr) (n : ℕ) → is_movable i ≡ true → names_result i n ≡ false → word_in (did c i) n ≡ word_in c n
 sets-stays c (Immediate op t b h) n movable none = register-other (core_of c) t.number _ n (other_from_eqb t.number n none)
@@ -205,7 +205,7 @@ unwritten_stays c i n movable none = go (n == 0) refl
         ∙ sym (ap (λ (x : Bool). if x then 0 else slice_index c.registers n) zero)
     go false some = sets-stays c i n movable (sym (ap (λ (x : Bool). not x && names_result i n) some) ∙ none)
 
--- so a branch is taken behind it where it is taken before it
+-- A branch is taken after the instruction exactly if it is taken before it.
 pub holds_stays : (c : Configuration) (i : Instr) (condition : Condition) → is_movable i ≡ true → leaves i condition ≡ true → holds_of (word_in (did c i)) condition ≡ holds_of (word_in c) condition
 holds_stays c i (conditions.Registers op left right) movable free =
     ap (λ (x : ℕ). branch_taken op x (word_in (did c i) right.number)) (unwritten_stays c i left.number movable (not-true (writes i left.number) (and_left _ _ free)))
@@ -213,12 +213,12 @@ holds_stays c i (conditions.Registers op left right) movable free =
 holds_stays c i (conditions.Sign op source) movable free =
     ap (branch_zero_taken op) (unwritten_stays c i source.number movable (not-true (writes i source.number) free))
 
--- ---- it does not see what it does not read
+-- ---- registers that the instruction does not read
 
 unread_register : (c : Configuration) (number word other : ℕ) → (other == number) ≡ false → word_in (with_word c number word) other ≡ word_in c other
 unread_register c number word other none = register-other (core_of c) number word other (λ same. other_from_eqb other number none (sym same))
 
--- memory is left the same where neither register of a store is the one that is set
+-- A store leaves the same memory as before the exchange if neither of its registers is the one that the other instruction sets.
 store_commutes : (c : Configuration) (t b : Register) (n w : ℕ) (left : (base word : ℕ) → machines.Memory) → (t.number == n || b.number == n) ≡ false
     → (let m : machines.Memory = left (word_in (with_word c n w) b.number) (word_in (with_word c n w) t.number) in let d : Configuration = record (with_word c n w) { globals = m.globals; stack = m.stack; store = m.store; line = c.line + 1 } in d)
     ≡ (let m : machines.Memory = left (word_in c b.number) (word_in c t.number) in let d : Configuration = record (with_word c n w) { globals = m.globals; stack = m.stack; store = m.store; line = c.line + 1 } in d)
@@ -227,7 +227,8 @@ store_commutes c t b n w left free =
     (ap (λ (x : ℕ). left x (word_in (with_word c n w) t.number)) (unread_register c n w b.number (or_right_false (t.number == n) (b.number == n) free))
     ∙ ap (left (word_in c b.number)) (unread_register c n w t.number (or_left_false (t.number == n) (b.number == n) free)))
 
--- a register set before it that it neither reads nor sets could as well be set behind it: so a call may link first
+-- Setting a register that the instruction neither reads nor writes commutes with it. A call may store its return address before such a
+-- commuting instruction.
 pub commutes : (c : Configuration) (i : Instr) (n w : ℕ) → is_movable i ≡ true → reads i n ≡ false → names_result i n ≡ false → did (with_word c n w) i ≡ with_word (did c i) n w
 commutes c (Immediate op t b h) n w movable free none =
     ap (λ (rs : List ℕ). record (did c (Immediate op t b h)) { registers = rs })
@@ -276,7 +277,7 @@ commutes c (Arithmetic op d l r) n w movable free none =
     (ap (λ (x : ℕ). arithmetic_result op x (word_in (with_word c n w) r.number)) (unread_register c n w l.number (or_left_false (l.number == n) (r.number == n) free))
     ∙ ap (arithmetic_result op (word_in c l.number)) (unread_register c n w r.number (or_right_false (l.number == n) (r.number == n) free))) (other_from_eqb d.number n none))
 
--- why a load, a store or a division may be refused, from the words of its registers
+-- The reason for which a load, a store or a division may be forbidden, from the words of its registers.
 abbrev memory_cause : Configuration → (stores : Bool) → (address : ℕ) → Option Cause
 memory_cause c stores address = let place = place_of (memory_of c) address in first_of (
     (false, causes.Unpredictable)
@@ -299,7 +300,7 @@ division_cause left right = first_of (
     ∷ (false, causes.BadService)
     ∷ [])
 
--- and it is refused there exactly where it is refused here
+-- The instruction is forbidden after the register is set exactly if it is forbidden before.
 pub same_refusal : (c : Configuration) (i : Instr) (n w : ℕ) → is_movable i ≡ true → reads i n ≡ false → cause_of (machine_of (with_word c n w)) i ≡ cause_of (machine_of c) i
 same_refusal c (Memory LoadWord t b h) n w movable free = ap (λ (x : ℕ). memory_cause c false (memory_address x h)) (unread_register c n w b.number free)
 same_refusal c (Memory StoreWord t b h) n w movable free =

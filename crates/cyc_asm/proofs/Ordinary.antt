@@ -1,4 +1,4 @@
--- An ordinary instruction does the same in the labelled machine and in the machine with text.
+-- An ordinary instruction has the same effect in the labelled machine and in the machine with text.
 use Rattle.std.proofs.Common.{◌≡◌, ℕ, ◌+◌, ◌*◌, ◌%◌, ◌≤◌, List, [], ◌∷◌, length, Bool, true, false, ◌||◌, cond, nat_le, Option, None, Some, refl, sym, ap, ◌∙◌, arith, inl, inr}
 use Rattle.std.specs.Prelude.{◌⊎◌, not, is_some, slice_index_or, if◌then◌else◌}
 use Rattle.std.proofs.lemmas.Bool.{or_cases}
@@ -15,17 +15,17 @@ use Rattle.cyc_isa.specs.declared.instr.MoveFromOp.TheVariants.{High, Low}
 use Rattle.cyc_isa.specs.declared.instr.MultiplyDivideOp.TheVariants.{Multiply, Divide}
 use Rattle.cyc_store.specs.State.{StoreState}
 use Rattle.cyc_store.specs.Services.{Answer, Refused, Done, Opened, OpenedLexical, Allocated}
-use Rattle.cyc_machine.specs.declared.event.Cause.{Cause}
-use Rattle.cyc_machine.specs.declared.event.Cause.TheVariants as causes
-use Rattle.cyc_machine.specs.declared.event.End.{End}
-use Rattle.cyc_machine.specs.declared.event.Event.{Event}
-use Rattle.cyc_machine.specs.declared.event.Event.TheVariants.{Ran, WantsByte, Puts, Ended}
-use Rattle.cyc_machine.specs.declared.phase.Phase.TheVariants as phases
-use Rattle.cyc_machine.specs.State as machines
-use Rattle.cyc_machine.specs.State.{text_base, text_end, data_base, stack_base, store_base, words_per_page, text_at, place_of, is_within, Place, InText, InGlobals, InStack, InStore, Nowhere, is_dead, word_number, register}
-use Rattle.cyc_machine.specs.Step.{Action, Does, Acts, Service, GetByte, PutByte, EndReturned, EndUncaught, Asks, EndFull, refused_by, told_by, answered, with_store, cause_of, first_of, loads, stores, after, performs, calls, asked, address_of, is_aligned, is_nowhere, is_text}
-use Rattle.cyc_machine.specs.Run.{World, told}
-use Rattle.cyc_machine.specs.WorldMachine.{seen_of}
+use Rattle.cyc_machine_model.specs.declared.event.Cause.{Cause}
+use Rattle.cyc_machine_model.specs.declared.event.Cause.TheVariants as causes
+use Rattle.cyc_machine_model.specs.declared.event.End.{End}
+use Rattle.cyc_machine_model.specs.declared.event.Event.{Event}
+use Rattle.cyc_machine_model.specs.declared.event.Event.TheVariants.{Ran, WantsByte, Puts, Ended}
+use Rattle.cyc_machine_model.specs.declared.phase.Phase.TheVariants as phases
+use Rattle.cyc_machine_model.specs.State as machines
+use Rattle.cyc_machine_model.specs.State.{text_base, text_end, data_base, stack_base, store_base, words_per_page, text_at, place_of, is_within, Place, InText, InGlobals, InStack, InStore, Nowhere, is_dead, word_number, register}
+use Rattle.cyc_machine_model.specs.Step.{Action, Does, Acts, Service, GetByte, PutByte, EndReturned, EndUncaught, Asks, EndFull, refused_by, reported_by, answered, with_store, cause_of, first_of, loads, stores, after, performs, calls, asked, address_of, is_aligned, is_nowhere, is_text}
+use Rattle.cyc_machine_model.specs.Run.{World, reported}
+use Rattle.cyc_machine_model.specs.WorldMachine.{seen_of}
 use Rattle.cyc_select.specs.inside.Labelled.{is_ordinary}
 use Rattle.cyc_select.specs.inside.Machine.{Configuration, machine_of, memory_of, world_of, from_world}
 use Rattle.cyc_asm.specs.inside.Text.{text_of}
@@ -34,17 +34,17 @@ use Rattle.cyc_asm.proofs.Fetching.{world_at, no_text_past_end}
 -- ---- loads and stores
 
 module _ (words : List ℕ) (inside : text_base + 4 * length words ≤ text_end) (c : Configuration) (small : length c.stack ≤ 1048576) where
-  -- the memory with the text
+  -- The memory of the labelled machine together with the assembled text.
   abbrev memory_with : machines.Memory
   memory_with = record { text = text_of words; globals = c.globals; stack = c.stack; store = c.store }
 
-  -- a place that the labelled machine knows is the same with the text
+  -- A place that the labelled machine knows is the same in the machine with text.
   data Known (address : ℕ) : Type 0 where
     globals : (n : ℕ) → place_of (memory_of c) address ≡ InGlobals n → place_of memory_with address ≡ InGlobals n → Known address
     stack : (n : ℕ) → place_of (memory_of c) address ≡ InStack n → place_of memory_with address ≡ InStack n → Known address
     cells : (n : ℕ) → place_of (memory_of c) address ≡ InStore n → place_of memory_with address ≡ InStore n → Known address
 
-  -- the rule, from what is found in the text and which range the address is in
+  -- The rule for places, from the word found in the text and the range of the address.
   abbrev place_by : Option ℕ → (in_globals in_stack in_store : Bool) → (address : ℕ) → Place
   place_by found in_globals in_stack in_store address =
       cond (is_some found) (InText (word_number text_base address))
@@ -54,10 +54,10 @@ module _ (words : List ℕ) (inside : text_base + 4 * length words ≤ text_end)
   none_found : (address : ℕ) → text_at [] address ≡ None
   none_found address = elim (nat_le text_base address) as (λ b. cond b (slice_index_or (memory_of c).text (word_number text_base address) None) None ≡ None) [ true ↦ refl | false ↦ refl ]
 
-  behind : (base count address : ℕ) → text_end ≤ base → is_within base count address ≡ true → text_end ≤ address
-  behind base count address above within = grind (arith, above, within)
+  following : (base count address : ℕ) → text_end ≤ base → is_within base count address ≡ true → text_end ≤ address
+  following base count address above within = grind (arith, above, within)
 
-  -- an address of a range above the text has the same place without the text and with it
+  -- An address in a range above the text has the same place with and without the text.
   range_known : (found : Option ℕ) (in_globals in_stack in_store : Bool) (address : ℕ)
       → place_of (memory_of c) address ≡ place_by None in_globals in_stack in_store address → place_of memory_with address ≡ place_by found in_globals in_stack in_store address
       → ((in_globals || (in_stack || in_store)) ≡ true → found ≡ None) → is_nowhere (place_of (memory_of c) address) ≡ false → Known address
@@ -81,10 +81,10 @@ module _ (words : List ℕ) (inside : text_base + 4 * length words ≤ text_end)
 
   above : (address : ℕ) → (in_globals address || (in_stack address || in_store address)) ≡ true → text_end ≤ address
   above address within = elim (or_cases (in_globals address) (in_stack address || in_store address) within) [
-    | inl within_data ↦ behind data_base (length c.globals) address (omega arith) within_data
+    | inl within_data ↦ following data_base (length c.globals) address (omega arith) within_data
     | inr others ↦ elim (or_cases (in_stack address) (in_store address) others) [
-      | inl low ↦ behind (stack_base c.stack) (length c.stack) address (omega (arith, small)) low
-      | inr pages ↦ behind store_base (words_per_page * c.store.pages) address (omega arith) pages
+      | inl low ↦ following (stack_base c.stack) (length c.stack) address (omega (arith, small)) low
+      | inr pages ↦ following store_base (words_per_page * c.store.pages) address (omega arith) pages
     ]
   ]
 
@@ -94,9 +94,9 @@ module _ (words : List ℕ) (inside : text_base + 4 * length words ≤ text_end)
       (ap (λ (found : Option ℕ). place_by found (in_globals address) (in_stack address) (in_store address) address) (none_found address)) refl
       (λ within. no_text_past_end words address inside (above address within)) there
 
-  -- ---- refusals
+  -- ---- forbidden instructions
 
-  -- why a load or a store may be refused, from its place
+  -- The reason for which a load or a store may be forbidden, from its place.
   abbrev cause_for : machines.Memory → (misaligned stores : Bool) → Place → Option Cause
   cause_for memory misaligned stores place = first_of (
       (false, causes.Unpredictable)
@@ -113,7 +113,7 @@ module _ (words : List ℕ) (inside : text_base + 4 * length words ≤ text_end)
   third false true rules none = cc
   third false false rules none = refl
 
-  -- where a load or a store goes
+  -- The address of a load or a store.
   abbrev address : Register → ℕ → ℕ
   address base offset = address_of (machine_of c).core base.number offset
 
@@ -143,7 +143,7 @@ module _ (words : List ℕ) (inside : text_base + 4 * length words ≤ text_end)
   memory_cause at next in_slot LoadByte target base offset none known_there = cause_there (misaligned LoadByte base offset) false (place_address LoadByte (address base offset)) none known_there
   memory_cause at next in_slot StoreByte target base offset none known_there = cause_there (misaligned StoreByte base offset) true (place_address StoreByte (address base offset)) none known_there
 
-  -- what is not refused without the text is not refused with it
+  -- An instruction allowed without the text is allowed with it.
   pub same_cause : (at next : ℕ) (in_slot : Bool) (i : Instr) → is_ordinary i ≡ true → cause_of (machine_of c) i ≡ None → cause_of (world_at words c at next in_slot).machine i ≡ None
   same_cause at next in_slot (Memory op t b h) ordinary none = memory_cause at next in_slot op t b h none (there op t b h none)
   same_cause at next in_slot (Immediate op t b h) ordinary none = none
@@ -164,61 +164,61 @@ module _ (words : List ℕ) (inside : text_base + 4 * length words ≤ text_end)
 
   -- ---- effects
 
-  -- the worlds after it: under way, with this address next, or over
+  -- The worlds after an instruction: running at this next address, or over.
   abbrev pub Shown : (next : ℕ) → World → World → Type 0
   Shown next above below =
       ((above.machine.phase ≡ phases.Running) × (below ≡ world_at words (from_world above 0) next (add_of next 4) false))
       ⊎ ((end : End) × (above.machine.phase ≡ phases.Over end) × (below.machine.phase ≡ phases.Over end) × (seen_of below ≡ seen_of above))
 
-  -- the action above tells an event too, and leaves a world that the one below shows
+  -- The labelled machine's action also emits an event, and leads to a world that matches.
   abbrev pub Matched : (at next : ℕ) (in_slot : Bool) → Action → (event : Event) → machines.State → Type 0
   Matched at next in_slot above event s =
       (e : Event) × (t : machines.State) × Acts above (machine_of c) e t
-      × Shown next (told (world_of c) e t) (told (world_at words c at next in_slot) event s)
+      × Shown next (reported (world_of c) e t) (reported (world_at words c at next in_slot) event s)
 
   abbrev world_here : (at next : ℕ) (in_slot : Bool) → World
   world_here at next in_slot = world_at words c at next in_slot
 
-  told_same : (at next : ℕ) (in_slot : Bool) (event told_event : Event) (s left : machines.State) → event ≡ told_event → s ≡ left → told (world_here at next in_slot) event s ≡ told (world_here at next in_slot) told_event left
-  told_same at next in_slot event told_event s left same_event same_state = ap (λ e. told (world_here at next in_slot) e s) same_event ∙ ap (λ x. told (world_here at next in_slot) told_event x) same_state
+  reported_same : (at next : ℕ) (in_slot : Bool) (event reported_event : Event) (s left : machines.State) → event ≡ reported_event → s ≡ left → reported (world_here at next in_slot) event s ≡ reported (world_here at next in_slot) reported_event left
+  reported_same at next in_slot event reported_event s left same_event same_state = ap (λ e. reported (world_here at next in_slot) e s) same_event ∙ ap (λ x. reported (world_here at next in_slot) reported_event x) same_state
 
   did : (at next : ℕ) (in_slot : Bool) (above left : machines.State) (event : Event) (s : machines.State) → above.phase ≡ phases.Running
-      → told (world_here at next in_slot) Ran left ≡ world_at words (from_world (told (world_of c) Ran above) 0) next (add_of next 4) false
+      → reported (world_here at next in_slot) Ran left ≡ world_at words (from_world (reported (world_of c) Ran above) 0) next (add_of next 4) false
       → Acts (Does Ran left) (world_here at next in_slot).machine event s → Matched at next in_slot (Does Ran above) event s
   did at next in_slot above left event s running is acts =
-      (Ran, above, (refl, refl), inl (running, told_same at next in_slot event Ran s left acts.0 acts.1 ∙ is))
+      (Ran, above, (refl, refl), inl (running, reported_same at next in_slot event Ran s left acts.0 acts.1 ∙ is))
 
   load_did : (at next : ℕ) (in_slot : Bool) (target : ℕ) (value : ℕ → ℕ) (address : ℕ) (event : Event) (s : machines.State) → Known address
       → Acts (Does Ran (loads (world_here at next in_slot).machine target (place_of memory_with address) value)) (world_here at next in_slot).machine event s
       → Matched at next in_slot (Does Ran (loads (machine_of c) target (place_of (memory_of c) address) value)) event s
   load_did at next in_slot target value address event s (globals n without with) acts =
       did at next in_slot _ _ event s refl (
-      ap (λ place. told (world_here at next in_slot) Ran (loads (world_here at next in_slot).machine target place value)) with
-      ∙ sym (ap (λ place. world_at words (from_world (told (world_of c) Ran (loads (machine_of c) target place value)) 0) next (add_of next 4) false) without)) acts
+      ap (λ place. reported (world_here at next in_slot) Ran (loads (world_here at next in_slot).machine target place value)) with
+      ∙ sym (ap (λ place. world_at words (from_world (reported (world_of c) Ran (loads (machine_of c) target place value)) 0) next (add_of next 4) false) without)) acts
   load_did at next in_slot target value address event s (stack n without with) acts =
       did at next in_slot _ _ event s refl (
-      ap (λ place. told (world_here at next in_slot) Ran (loads (world_here at next in_slot).machine target place value)) with
-      ∙ sym (ap (λ place. world_at words (from_world (told (world_of c) Ran (loads (machine_of c) target place value)) 0) next (add_of next 4) false) without)) acts
+      ap (λ place. reported (world_here at next in_slot) Ran (loads (world_here at next in_slot).machine target place value)) with
+      ∙ sym (ap (λ place. world_at words (from_world (reported (world_of c) Ran (loads (machine_of c) target place value)) 0) next (add_of next 4) false) without)) acts
   load_did at next in_slot target value address event s (cells n without with) acts =
       did at next in_slot _ _ event s refl (
-      ap (λ place. told (world_here at next in_slot) Ran (loads (world_here at next in_slot).machine target place value)) with
-      ∙ sym (ap (λ place. world_at words (from_world (told (world_of c) Ran (loads (machine_of c) target place value)) 0) next (add_of next 4) false) without)) acts
+      ap (λ place. reported (world_here at next in_slot) Ran (loads (world_here at next in_slot).machine target place value)) with
+      ∙ sym (ap (λ place. world_at words (from_world (reported (world_of c) Ran (loads (machine_of c) target place value)) 0) next (add_of next 4) false) without)) acts
 
   store_did : (at next : ℕ) (in_slot : Bool) (value : ℕ → ℕ) (address : ℕ) (event : Event) (s : machines.State) → Known address
       → Acts (Does Ran (stores (world_here at next in_slot).machine (place_of memory_with address) value)) (world_here at next in_slot).machine event s
       → Matched at next in_slot (Does Ran (stores (machine_of c) (place_of (memory_of c) address) value)) event s
   store_did at next in_slot value address event s (globals n without with) acts =
       did at next in_slot _ _ event s refl (
-      ap (λ place. told (world_here at next in_slot) Ran (stores (world_here at next in_slot).machine place value)) with
-      ∙ sym (ap (λ place. world_at words (from_world (told (world_of c) Ran (stores (machine_of c) place value)) 0) next (add_of next 4) false) without)) acts
+      ap (λ place. reported (world_here at next in_slot) Ran (stores (world_here at next in_slot).machine place value)) with
+      ∙ sym (ap (λ place. world_at words (from_world (reported (world_of c) Ran (stores (machine_of c) place value)) 0) next (add_of next 4) false) without)) acts
   store_did at next in_slot value address event s (stack n without with) acts =
       did at next in_slot _ _ event s refl (
-      ap (λ place. told (world_here at next in_slot) Ran (stores (world_here at next in_slot).machine place value)) with
-      ∙ sym (ap (λ place. world_at words (from_world (told (world_of c) Ran (stores (machine_of c) place value)) 0) next (add_of next 4) false) without)) acts
+      ap (λ place. reported (world_here at next in_slot) Ran (stores (world_here at next in_slot).machine place value)) with
+      ∙ sym (ap (λ place. world_at words (from_world (reported (world_of c) Ran (stores (machine_of c) place value)) 0) next (add_of next 4) false) without)) acts
   store_did at next in_slot value address event s (cells n without with) acts =
       did at next in_slot _ _ event s refl (
-      ap (λ place. told (world_here at next in_slot) Ran (stores (world_here at next in_slot).machine place value)) with
-      ∙ sym (ap (λ place. world_at words (from_world (told (world_of c) Ran (stores (machine_of c) place value)) 0) next (add_of next 4) false) without)) acts
+      ap (λ place. reported (world_here at next in_slot) Ran (stores (world_here at next in_slot).machine place value)) with
+      ∙ sym (ap (λ place. world_at words (from_world (reported (world_of c) Ran (stores (machine_of c) place value)) 0) next (add_of next 4) false) without)) acts
 
   memory_did : (at next : ℕ) (in_slot : Bool) (op : MemoryOp) (t b : Register) (h : ℕ) (event : Event) (s : machines.State) → Known (place_address op (address b h))
       → Acts (Does Ran (after (world_here at next in_slot).machine (Memory op t b h))) (world_here at next in_slot).machine event s → Matched at next in_slot (Does Ran (after (machine_of c) (Memory op t b h))) event s
@@ -230,29 +230,29 @@ module _ (words : List ℕ) (inside : text_base + 4 * length words ≤ text_end)
       store_did at next in_slot (λ old. with_byte old (address b h % 4) (register (machine_of c).core t.number % 256)) (place_address StoreByte (address b h)) event s known_there acts
 
   ended : (at next : ℕ) (in_slot : Bool) (end : End) (event : Event) (s : machines.State) → (event ≡ Ended end) × (s ≡ machines.over (world_here at next in_slot).machine end)
-      → Shown next (told (world_of c) (Ended end) (machines.over (machine_of c) end)) (told (world_here at next in_slot) event s)
+      → Shown next (reported (world_of c) (Ended end) (machines.over (machine_of c) end)) (reported (world_here at next in_slot) event s)
   ended at next in_slot end event s acts =
-      let same = told_same at next in_slot event (Ended end) s (machines.over (world_here at next in_slot).machine end) acts.0 acts.1 in
+      let same = reported_same at next in_slot event (Ended end) s (machines.over (world_here at next in_slot).machine end) acts.0 acts.1 in
       inr (end, refl, ap (λ (w : World). w.machine.phase) same, ap seen_of same)
 
-  -- with the store's answer
-  gone_on : (at next : ℕ) (in_slot : Bool) (answer : Answer) (store : StoreState) (event : Event) (s : machines.State) → event ≡ told_by answer → s ≡ answered (with_store (world_here at next in_slot).machine store) answer
-      → Shown next (told (world_of c) (told_by answer) (answered (with_store (machine_of c) store) answer)) (told (world_here at next in_slot) event s)
+  -- The matching worlds after the store's result.
+  gone_on : (at next : ℕ) (in_slot : Bool) (answer : Answer) (store : StoreState) (event : Event) (s : machines.State) → event ≡ reported_by answer → s ≡ answered (with_store (world_here at next in_slot).machine store) answer
+      → Shown next (reported (world_of c) (reported_by answer) (answered (with_store (machine_of c) store) answer)) (reported (world_here at next in_slot) event s)
   gone_on at next in_slot (Refused why) store event s same_event same_state =
-      let same = told_same at next in_slot event (Ended (refused_by why)) s _ same_event same_state in
+      let same = reported_same at next in_slot event (Ended (refused_by why)) s _ same_event same_state in
       inr (refused_by why, refl, ap (λ (w : World). w.machine.phase) same, ap seen_of same)
-  gone_on at next in_slot Done store event s same_event same_state = inl (refl, told_same at next in_slot event Ran s _ same_event same_state)
-  gone_on at next in_slot (Opened handle) store event s same_event same_state = inl (refl, told_same at next in_slot event Ran s _ same_event same_state)
-  gone_on at next in_slot (OpenedLexical handle mark) store event s same_event same_state = inl (refl, told_same at next in_slot event Ran s _ same_event same_state)
-  gone_on at next in_slot (Allocated block) store event s same_event same_state = inl (refl, told_same at next in_slot event Ran s _ same_event same_state)
+  gone_on at next in_slot Done store event s same_event same_state = inl (refl, reported_same at next in_slot event Ran s _ same_event same_state)
+  gone_on at next in_slot (Opened handle) store event s same_event same_state = inl (refl, reported_same at next in_slot event Ran s _ same_event same_state)
+  gone_on at next in_slot (OpenedLexical handle mark) store event s same_event same_state = inl (refl, reported_same at next in_slot event Ran s _ same_event same_state)
+  gone_on at next in_slot (Allocated block) store event s same_event same_state = inl (refl, reported_same at next in_slot event Ran s _ same_event same_state)
 
   served : (at next : ℕ) (in_slot : Bool) (service : Option Service) (event : Event) (s : machines.State) → Acts (calls service (world_here at next in_slot).machine) (world_here at next in_slot).machine event s → Matched at next in_slot (calls service (machine_of c)) event s
-  served at next in_slot (Some GetByte) event s acts = (WantsByte, _, (refl, refl), inl (refl, told_same at next in_slot event WantsByte s _ acts.0 acts.1))
-  served at next in_slot (Some PutByte) event s acts = (Puts _, _, (refl, refl), inl (refl, told_same at next in_slot event (Puts _) s _ acts.0 acts.1))
+  served at next in_slot (Some GetByte) event s acts = (WantsByte, _, (refl, refl), inl (refl, reported_same at next in_slot event WantsByte s _ acts.0 acts.1))
+  served at next in_slot (Some PutByte) event s acts = (Puts _, _, (refl, refl), inl (refl, reported_same at next in_slot event (Puts _) s _ acts.0 acts.1))
   served at next in_slot (Some EndReturned) event s acts = (Ended _, _, (refl, refl), ended at next in_slot _ event s acts)
   served at next in_slot (Some EndUncaught) event s acts = (Ended _, _, (refl, refl), ended at next in_slot _ event s acts)
   served at next in_slot (Some (Asks call)) event s (answer, store, serves, same_event, same_state) =
-      (told_by answer, answered (with_store (machine_of c) store) answer, (answer, store, serves, refl, refl), gone_on at next in_slot answer store event s same_event same_state)
+      (reported_by answer, answered (with_store (machine_of c) store) answer, (answer, store, serves, refl, refl), gone_on at next in_slot answer store event s same_event same_state)
   served at next in_slot (Some EndFull) event s acts = (Ended _, _, (refl, refl), ended at next in_slot _ event s acts)
   served at next in_slot None event s acts = (Ended _, _, (refl, refl), ended at next in_slot _ event s acts)
 

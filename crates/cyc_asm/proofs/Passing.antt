@@ -1,4 +1,4 @@
--- An instruction that passes another does the same behind it as before it, and so does the other.
+-- Two instructions that may be exchanged have the same effects in either order.
 use Rattle.std.proofs.Common.{◌≡◌, ℕ, ◌+◌, Bool, true, false, not, ◌==◌, ◌&&◌, None, refl, sym, ap, ◌∙◌}
 use Rattle.std.specs.Prelude.{if◌then◌else◌, slice_set}
 use Rattle.std.proofs.lemmas.Bool.{not-true}
@@ -8,13 +8,13 @@ use Rattle.cyc_isa.specs.Uses.{reads, names_result, writes}
 use Rattle.cyc_isa.specs.declared.operand.Register.{Register}
 use Rattle.cyc_isa.specs.declared.instr.Instr.{Instr}
 use Rattle.cyc_isa.specs.declared.instr.Instr.TheVariants.{Immediate, LoadUpper, Memory, Branch, BranchZero, Jump, Shift, ShiftVariable, JumpRegister, JumpRegisterLink, Exception, MoveFrom, MultiplyDivide, Arithmetic}
-use Rattle.cyc_machine.specs.Step.{cause_of}
+use Rattle.cyc_machine_model.specs.Step.{cause_of}
 use Rattle.cyc_select.specs.inside.Machine.{Configuration, machine_of, word_in}
 use Rattle.cyc_asm.specs.inside.Slots.{is_movable}
 use Rattle.cyc_asm.specs.inside.Order.{is_apart, passes}
 use Rattle.cyc_asm.proofs.Moving.{did, with_word, unwritten_stays, commutes, same_refusal}
 
--- what is passed may move itself, and is never refused
+-- An instruction that others may be moved past may itself be moved, and is never forbidden.
 pub passed_movable : (i j : Instr) → passes i j ≡ true → is_movable j ≡ true
 passed_movable i (Immediate op t b h) may = refl
 passed_movable i (LoadUpper t h) may = refl
@@ -47,7 +47,7 @@ passed_allowed c i (Exception op x) may = cc
 passed_allowed c i (MoveFrom op d) may = cc
 passed_allowed c i (MultiplyDivide op l r) may = cc
 
--- ---- a register that the other sets
+-- ---- the register that the second instruction writes
 
 apart_reads : (i : Instr) (r : Register) → is_apart i r ≡ true → reads i r.number ≡ false
 apart_reads i r apart = not-true (reads i r.number) (and_left (not (reads i r.number)) (not (writes i r.number)) apart)
@@ -55,7 +55,7 @@ apart_reads i r apart = not-true (reads i r.number) (and_left (not (reads i r.nu
 apart_writes : (i : Instr) (r : Register) → is_apart i r ≡ true → writes i r.number ≡ false
 apart_writes i r apart = not-true (writes i r.number) (and_right (not (reads i r.number)) (not (writes i r.number)) apart)
 
--- register 0 stays as it is
+-- A write to register 0 changes nothing.
 unset : (c : Configuration) (n w : ℕ) → (n == 0) ≡ true → with_word c n w ≡ c
 unset c n w zero = ap (λ (x : Bool). record c { registers = if x then c.registers else slice_set c.registers n w }) zero
 
@@ -68,19 +68,19 @@ apart_commutes c i r w movable apart = go (r.number == 0) refl
         commutes c i r.number w movable (apart_reads i r apart)
         (sym (ap (λ (x : Bool). not x && names_result i r.number) some) ∙ apart_writes i r apart)
 
--- a register is set, and the line behind is next
+-- A register is set, and the next line follows.
 abbrev set_next : Configuration → (number word : ℕ) → Configuration
 set_next c number word = record (with_word c number word) { line = c.line + 1 }
 
--- it may be set before, to one of two equal words
+-- The register may be set first, with one of two equal words.
 set_before : (c : Configuration) (i : Instr) (r : Register) (w w' : ℕ) → is_movable i ≡ true → is_apart i r ≡ true → w' ≡ w → set_next (did c i) r.number w' ≡ did (set_next c r.number w) i
 set_before c i r w w' movable apart same =
     ap (set_next (did c i) r.number) same
     ∙ sym (ap (λ (d : Configuration). let next : Configuration = record d { line = d.line + 1 } in next) (apart_commutes c i r w movable apart))
 
--- ---- both orders
+-- ---- both orders of the two instructions
 
--- a register that the instruction does not set has its word in both
+-- A register that the instruction does not write holds the same word in both orders.
 same_word : (c : Configuration) (i : Instr) (r : Register) → is_movable i ≡ true → not (writes i r.number) ≡ true → word_in (did c i) r.number ≡ word_in c r.number
 same_word c i r movable free = unwritten_stays c i r.number movable (not-true (writes i r.number) free)
 
@@ -112,7 +112,7 @@ either_order c i (Exception op x) movable may = cc
 either_order c i (MoveFrom op d) movable may = cc
 either_order c i (MultiplyDivide op l r) movable may = cc
 
--- and it is refused behind the other exactly where it is refused before it
+-- The machine refuses an instruction after the other exactly if it refuses it before the other.
 pub passing_refusal : (c : Configuration) (i j : Instr) → is_movable i ≡ true → passes i j ≡ true → cause_of (machine_of (did c j)) i ≡ cause_of (machine_of c) i
 passing_refusal c i (Immediate op t b h) movable may =
     same_refusal c i t.number _ movable (apart_reads i t (and_left (is_apart i t) (not (writes i b.number)) may))

@@ -3,14 +3,14 @@ use Rattle.std.proofs.Common.{◌≡◌, ℕ, ◌*◌, List, [], replicate, refl
 use Rattle.std.specs.Prelude.{slice_set}
 use Rattle.std.proofs.lemmas.List.{length-replicate}
 use Rattle.cyc_store.specs.State.{StoreState}
-use Rattle.cyc_machine.specs.declared.constants.TheConstants.{ARGUMENT, STACK_POINTER}
+use Rattle.cyc_machine_model.specs.declared.constants.TheConstants.{ARGUMENT, STACK_POINTER}
 use Rattle.cyc_words.specs.Ending.{Ending}
 use Rattle.cyc_words.specs.Word.{add_of}
-use Rattle.cyc_machine.specs.declared.event.End.{End}
-use Rattle.cyc_machine.specs.declared.phase.Phase.{Phase}
-use Rattle.cyc_machine.specs.declared.phase.Phase.TheVariants as phases
-use Rattle.cyc_machine.specs.State.{words_per_call, stack_end}
-use Rattle.cyc_machine.proofs.RunLaws.{Goes-over, Goes-rests, Goes-output, Goes-input}
+use Rattle.cyc_machine_model.specs.declared.event.End.{End}
+use Rattle.cyc_machine_model.specs.declared.phase.Phase.{Phase}
+use Rattle.cyc_machine_model.specs.declared.phase.Phase.TheVariants as phases
+use Rattle.cyc_machine_model.specs.State.{words_per_call, stack_end}
+use Rattle.cyc_machine_model.proofs.RunLaws.{Goes-over, Goes-rests, Goes-output, Goes-input}
 use Rattle.cyc_words.specs.Simulation.{Ended}
 use Rattle.cyc_words.specs.inside.Following.{IsLawful}
 use Rattle.cyc_words.proofs.Simulation.{simulates, running_ended}
@@ -19,7 +19,7 @@ use Rattle.cyc_select.specs.inside.Machine as labelled
 use Rattle.cyc_select.specs.inside.Machine.{Configuration}
 use Rattle.cyc_asm.specs.inside.Text.{IsTextInOrder}
 use Rattle.cyc_asm.specs.inside.Machine.{Runs, start}
-use Rattle.cyc_machine.specs.WorldMachine.{world_machine, status_in}
+use Rattle.cyc_machine_model.specs.WorldMachine.{world_machine, status_in}
 use Rattle.cyc_asm.proofs.Fetching.{world_at}
 use Rattle.cyc_asm.proofs.Leading.{above, matching}
 use Rattle.cyc_asm.proofs.Steps.{matched}
@@ -29,7 +29,7 @@ over_of phases.Running ending ended = absurd (running_ended ending ended)
 over_of phases.Waiting ending ended = absurd (running_ended ending ended)
 over_of (phases.Over end) ending ended = (end, refl)
 
--- what was printed stays printed, and a run that is over stays as it is
+-- The output only grows, and a run that has ended stays as it is.
 pub world_is_lawful : IsLawful world_machine
 world_is_lawful = record {
   grows = λ old new goes. (Goes-output old new goes, Goes-input old new goes);
@@ -37,7 +37,7 @@ world_is_lawful = record {
   rests = λ w ending ended. let (end, over) = over_of w.machine.phase ending ended in Goes-rests w end over;
 }
 
--- the configuration in which the labelled machine starts
+-- The initial configuration of the labelled machine.
 abbrev started : Labelled → StoreState → (calls : ℕ) → (input : List ℕ) → Configuration
 started code store calls input = record {
   registers = slice_set (slice_set (replicate 32 0) ARGUMENT calls) STACK_POINTER stack_end;

@@ -1,4 +1,4 @@
--- The words of labelled code mean it.
+-- The assembled words represent the labelled code.
 use Rattle.std.proofs.Common.{◌≡◌, ℕ, zero, suc, ◌+◌, ◌-◌, ◌*◌, ◌^◌, ◌≤◌, ◌<◌, List, [], ◌∷◌, ◌++◌, length, Bool, true, false, cond, nat_lt, Option, None, Some, refl, sym, ap, subst, ◌∙◌, arith, inl, inr, append_assoc, append-nil}
 use Rattle.std.specs.Prelude.{slice_get, slice_index_or}
 use Rattle.std.proofs.lemmas.Bool.{le-leb, ltb-true, ltb-false, cases_lt}
@@ -13,8 +13,8 @@ use Rattle.cyc_isa.specs.declared.instr.Instr.{Instr}
 use Rattle.cyc_isa.specs.declared.instr.Instr.TheVariants.{Jump}
 use Rattle.cyc_isa.specs.declared.instr.JumpOp.{JumpOp}
 use Rattle.cyc_isa.specs.declared.instr.JumpOp.TheVariants.{Plain, AndLink}
-use Rattle.cyc_machine.specs.declared.constants.TheConstants.{TEXT_WORDS}
-use Rattle.cyc_machine.specs.State.{text_base, text_end, text_at, word_number}
+use Rattle.cyc_machine_model.specs.declared.constants.TheConstants.{TEXT_WORDS}
+use Rattle.cyc_machine_model.specs.State.{text_base, text_end, text_at, word_number}
 use Rattle.cyc_select.specs.declared.code.Condition.{Condition}
 use Rattle.cyc_select.specs.declared.code.Condition.TheVariants as conditions
 use Rattle.cyc_select.specs.declared.code.Line.{Line}
@@ -28,7 +28,7 @@ use Rattle.cyc_asm.specs.inside.Words.{offset_of, IsHeadPosition, head_of_branch
 use Rattle.cyc_asm.proofs.Fillings.{is_jump, filled, filling_reached}
 use Rattle.cyc_asm.proofs.Layouts.{position-suc, position-unreached, position-most, between_lines, addresses_fit, near_below, near_above, own_words}
 
--- ---- how many words there are
+-- ---- numbers of words
 
 branch_encodable : (condition : Condition) (offset : ℕ) → offset < 2 ^ 16 → IsEncodable (branch_of condition offset)
 branch_encodable (conditions.Registers op left right) offset fits = fits
@@ -78,9 +78,9 @@ length-words_before code (suc number) =
     let last = length-words_at code number in
     omega (arith, both, last, length-words_before code number)
 
--- ---- where they stand
+-- ---- positions of words
 
--- the words of the first lines begin those of more
+-- The words of the first lines are a prefix of those of more lines.
 begins : (code : List Line) (from more to : ℕ) → from + more ≡ to → (rest : List ℕ) × (words_before code to ≡ words_before code from ++ rest)
 begins code from zero to is = ([], ap (words_before code) (let e : to ≡ from = omega (arith, is) in e) ∙ sym (append-nil (words_before code from)))
 begins code from (suc more) to is =
@@ -91,21 +91,21 @@ begins code from (suc more) to is =
           ∙ append_assoc (words_before code from) rest (words_at code (from + more)),
     )
 
--- a word of a list, found in the text
+-- A word of the list is found in the text.
 found_in : (ws rest : List ℕ) (j w : ℕ) → slice_get ws j ≡ Some w → slice_index_or (text_of (ws ++ rest)) j None ≡ Some w
 found_in [] rest j w at = cc
 found_in (x ∷ ws) rest zero w at = at
 found_in (x ∷ ws) rest (suc j) w at = found_in ws rest j w at
 
-found_behind_words : (front ws rest : List ℕ) (j w : ℕ) → slice_get ws j ≡ Some w → slice_index_or (text_of ((front ++ ws) ++ rest)) (length front + j) None ≡ Some w
-found_behind_words [] ws rest j w at = ap (λ (n : ℕ). slice_index_or (text_of (ws ++ rest)) n None) (let e : zero + j ≡ j = omega arith in e) ∙ found_in ws rest j w at
-found_behind_words (x ∷ front) ws rest j w at =
+found_after_words : (front ws rest : List ℕ) (j w : ℕ) → slice_get ws j ≡ Some w → slice_index_or (text_of ((front ++ ws) ++ rest)) (length front + j) None ≡ Some w
+found_after_words [] ws rest j w at = ap (λ (n : ℕ). slice_index_or (text_of (ws ++ rest)) n None) (let e : zero + j ≡ j = omega arith in e) ∙ found_in ws rest j w at
+found_after_words (x ∷ front) ws rest j w at =
     ap (λ (n : ℕ). slice_index_or (text_of (((x ∷ front) ++ ws) ++ rest)) n None) (let e : suc (length front) + j ≡ suc (length front + j) = omega arith in e)
-    ∙ found_behind_words front ws rest j w at
+    ∙ found_after_words front ws rest j w at
 
 -- ---- targets
 
--- the offset of a branch is from its slot to its target
+-- The offset of a branch leads from its slot to its target.
 target_below : (from to offset : ℕ) → from < to → to ≤ from + 32767 → to ≤ TEXT_WORDS → offset ≡ to - (from + 1) → branch_target (text_base + 4 * from) offset ≡ text_base + 4 * to
 target_below from to offset less near inside is =
     let small : offset < 2 ^ 15 = omega (arith, is, less, near) in
@@ -119,14 +119,14 @@ target_above from to offset least near inside is =
     let extended = sign_extended_high offset large half in
     ap (λ (e : ℕ). add_of (add_of (text_base + 4 * from) 4) (mul_of 4 e)) extended ∙ (let e : add_of (add_of (text_base + 4 * from) 4) (mul_of 4 (offset + (2 ^ 32 - 2 ^ 16))) ≡ text_base + 4 * to = omega (arith, is, least, near, inside) in e)
 
--- two positions, each in reach of the other
+-- Two positions within reach of each other.
 pub record AreNear (from to : ℕ) : Type 0 where
   pub below : from ≤ to → to ≤ from + 32767
   pub above : to ≤ from → from ≤ to + 32767
   pub low_from : from ≤ TEXT_WORDS
   pub low_to : to ≤ TEXT_WORDS
 
--- a branch that is near, from where its word stands, and its label
+-- A near branch, at the position of its word, and its label.
 pub are_near_at : (code : List Line) (number label from : ℕ) (condition : Condition) → Fits code → slice_get code number ≡ Some (lines.Branch condition label) → label < length code → is_near code number label ≡ true
     → IsHeadPosition code number from → AreNear from (position code label)
 are_near_at code number label from condition fits found is_label near (least, most) =
@@ -138,9 +138,9 @@ are_near_at code number label from condition fits found is_label near (least, mo
           let up = (between_lines code number label (omega (arith, before)) (omega (arith, is_label))).up in
           let reach = near_below code number label condition near found is_label before in
           record { below = λ forward. omega (arith, reach, most); above = λ backward. omega (arith, up, least); low_from = low_from; low_to = low_to }
-      | inr behind ↦
-          let up = (between_lines code label number behind (omega (arith, below))).up in
-          let reach = near_above code number label near below is_label behind in
+      | inr following ↦
+          let up = (between_lines code label number following (omega (arith, below))).up in
+          let reach = near_above code number label near below is_label following in
           record { below = λ forward. omega (arith, up, most); above = λ backward. omega (arith, reach, least); low_from = low_from; low_to = low_to }
     ]
 
@@ -184,11 +184,11 @@ module _ (code : Labelled) (formed : IsFormed code) (fits : Fits code.lines) whe
     next : is_unreached code.lines number ≡ false → at (suc number) ≡ at number + 4 * width_of code.lines number line
     next reached = let more = position-suc code.lines number line found reached in omega (arith, more)
 
-    -- its words are in their place
+    -- The words of a reachable line are at its position.
     words_there : is_unreached code.lines number ≡ false → words_at code.lines number ≡ words_of_line code.lines number line
     words_there reached = ap (λ b. cond b [] (words_in code.lines number (slice_get code.lines number))) reached ∙ ap (words_in code.lines number) found
 
-    -- a word of the line stands in the text
+    -- A word of the line is in the text.
     word_there : is_unreached code.lines number ≡ false → (j w address : ℕ) → address ≡ at number + 4 * j → slice_get (words_of_line code.lines number line) j ≡ Some w → text_at (text_of words) address ≡ Some w
     word_there reached j w address is has =
         let (rest, whole) = begins code.lines (suc number) (length code.lines - suc number) (length code.lines) (let inside = below in omega arith) in
@@ -200,9 +200,9 @@ module _ (code : Labelled) (formed : IsFormed code) (fits : Fits code.lines) whe
         ap (λ b. cond b (slice_index_or (text_of words) (word_number text_base address) None) None) (le-leb text_base address above)
         ∙ ap (λ (n : ℕ). slice_index_or (text_of words) n None) index
         ∙ ap (λ (ws : List ℕ). slice_index_or (text_of ws) (length (words_before code.lines number) + j) None) there
-        ∙ found_behind_words (words_before code.lines number) (words_of_line code.lines number line) rest j w has
+        ∙ found_after_words (words_before code.lines number) (words_of_line code.lines number line) rest j w has
 
-    -- a label's address is in the text range
+    -- The address of a label is in the text range.
     low : (label : ℕ) → label ≤ length code.lines → position code.lines label ≤ TEXT_WORDS
     low label within = let most = position-most code.lines label within in omega (arith, fits, most)
 
@@ -222,7 +222,7 @@ module _ (code : Labelled) (formed : IsFormed code) (fits : Fits code.lines) whe
         slot = record { encodable = encodable; word = second };
       }
 
-  -- A branch or jump whose word stands here, with these words behind it.
+  -- The text contains the word of a branch or jump at this address, and these words after it.
   module _ (number from : ℕ) (slotted : Instr) (encodable : IsEncodable slotted) (is_head : IsHeadPosition code.lines number from) where
     abbrev here : ℕ
     here = text_base + 4 * from
@@ -283,7 +283,7 @@ module _ (code : Labelled) (formed : IsFormed code) (fits : Fits code.lines) whe
       (omega (arith, next)),
     )
 
-  -- ---- the lines
+  -- ---- words of a line
 
   words_of_jump : (number : ℕ) (line : Line) → is_jump line ≡ true → words_of_line code.lines number line ≡ words_filled (filling code.lines number) code.lines number line
   words_of_jump number (lines.Ordinary i) jumps = absurd (let e : false ≡ true = jumps in cc)
@@ -315,14 +315,14 @@ module _ (code : Labelled) (formed : IsFormed code) (fits : Fits code.lines) whe
       let long = length-words_of_line code.lines number line in
       let wide = next number line found reached in
       let before_reached = filling_reached code.lines number i f reached in
-      let behind : at number ≡ at f.before + 4 = ap at f.is ∙ (let w = next f.before (lines.Ordinary i) f.from before_reached in omega (arith, w)) in
+      let following : at number ≡ at f.before + 4 = ap at f.is ∙ (let w = next f.before (lines.Ordinary i) f.from before_reached in omega (arith, w)) in
       let encodable : IsEncodable i = (line_formed f.before (lines.Ordinary i) f.from).1 in (
         at f.before,
-        behind,
-        from_here number (position code.lines f.before) i encodable ((omega (arith, behind)), (omega (arith, behind))) line found jumps
+        following,
+        from_here number (position code.lines f.before) i encodable ((omega (arith, following)), (omega (arith, following))) line found jumps
             (word_there f.before (lines.Ordinary i) f.from before_reached 0 _ (at f.before) (omega arith) (ap (λ (ws : List ℕ). slice_get ws 0) its))
-            (λ j w address is has. word_there number line found reached j w address (omega (arith, is, behind)) (ap (λ (ws : List ℕ). slice_get ws j) mine ∙ has))
-            (omega (arith, wide, long, ap length mine, behind)),
+            (λ j w address is has. word_there number line found reached j w address (omega (arith, is, following)) (ap (λ (ws : List ℕ). slice_get ws j) mine ∙ has))
+            (omega (arith, wide, long, ap length mine, following)),
       )
 
   ordinary_there : (number : ℕ) (i : Instr) → slice_get code.lines number ≡ Some (lines.Ordinary i) → is_unreached code.lines number ≡ false → (o : Option Instr) → filling code.lines (suc number) ≡ o

@@ -13,18 +13,18 @@ use Rattle.cyc_isa.specs.Effect.{branch_target, jump_target, return_address}
 use Rattle.cyc_isa.specs.declared.instr.Instr.{Instr}
 use Rattle.cyc_isa.specs.declared.instr.Instr.TheVariants.{Jump, JumpRegister}
 use Rattle.cyc_isa.specs.declared.instr.JumpOp.TheVariants.{Plain, AndLink}
-use Rattle.cyc_machine.specs.declared.constants.TheConstants.{RETURN_ADDRESS}
-use Rattle.cyc_machine.specs.declared.event.Cause.{Cause}
-use Rattle.cyc_machine.specs.declared.event.End.{End}
-use Rattle.cyc_machine.specs.declared.event.Event.TheVariants as events
-use Rattle.cyc_machine.specs.declared.phase.Phase.{Phase}
-use Rattle.cyc_machine.specs.declared.phase.Phase.TheVariants as phases
-use Rattle.cyc_machine.specs.State.{text_end, with_register}
-use Rattle.cyc_machine.specs.Step.{Action, Acts, Does, cause_of, executes, performs}
-use Rattle.cyc_machine.specs.Run.{World, told, Goes, ending_of}
-use Rattle.cyc_machine.specs.WorldMachine.{world_machine, status_in, status_at, seen_of}
-use Rattle.cyc_machine.proofs.StepLaws.{executes-performs, Step-action}
-use Rattle.cyc_machine.proofs.ShapeLaws.{Goes-shape}
+use Rattle.cyc_machine_model.specs.declared.constants.TheConstants.{RETURN_ADDRESS}
+use Rattle.cyc_machine_model.specs.declared.event.Cause.{Cause}
+use Rattle.cyc_machine_model.specs.declared.event.End.{End}
+use Rattle.cyc_machine_model.specs.declared.event.Event.TheVariants as events
+use Rattle.cyc_machine_model.specs.declared.phase.Phase.{Phase}
+use Rattle.cyc_machine_model.specs.declared.phase.Phase.TheVariants as phases
+use Rattle.cyc_machine_model.specs.State.{text_end, with_register}
+use Rattle.cyc_machine_model.specs.Step.{Action, Acts, Does, cause_of, executes, performs}
+use Rattle.cyc_machine_model.specs.Run.{World, reported, Goes, ending_of}
+use Rattle.cyc_machine_model.specs.WorldMachine.{world_machine, status_in, status_at, seen_of}
+use Rattle.cyc_machine_model.proofs.StepLaws.{executes-performs, Step-action}
+use Rattle.cyc_machine_model.proofs.ShapeLaws.{Goes-shape}
 use Rattle.cyc_select.specs.declared.code.Condition.{Condition}
 use Rattle.cyc_select.specs.declared.code.Line.{Line}
 use Rattle.cyc_select.specs.declared.code.Line.TheVariants as lines
@@ -37,7 +37,7 @@ use Rattle.cyc_asm.specs.inside.Text.{IsAt, IsJumpAt, IsTextInOrder, Stands, Sta
 use Rattle.cyc_asm.proofs.Fetching.{world_at, fetches, through}
 use Rattle.cyc_asm.proofs.Moving.{did, performs_did, performs_refused, same_stack}
 use Rattle.cyc_asm.proofs.Ordinary.{Shown, same_cause, performed}
-use Rattle.cyc_asm.proofs.Fillings.{IsFilled, filled, filled_moves, ordinary_empty, reached_behind, IsMet, named_met, behind_met, point_met}
+use Rattle.cyc_asm.proofs.Fillings.{IsFilled, filled, filled_moves, ordinary_empty, reached_after, IsMet, named_met, after_met, point_met}
 use Rattle.cyc_asm.proofs.Stretches.{in_own}
 use Rattle.cyc_asm.proofs.Leading.{find, branches_to, holds-inverse, above, placed, headed, leads, taken_to, Between, MatchesAs, Matches, at_empty, same_seen, matching, jump_stands, head_goes, headed_moves, headed_allowed, leads_moves, line_stands, slot_goes}
 
@@ -55,7 +55,7 @@ module _ (code : Labelled) (addresses : ℕ → ℕ) (words : List ℕ) (text : 
     abbrev Goal : List ℕ → World → Type 0
     Goal places w = IsMatchedStep (above code addresses) world_machine (matching code addresses words) (labelled.Running c) places w
 
-    -- the line here may do this
+    -- The labelled machine may reach this state by executing the line.
     abbrev May : Line → labelled.State → Type 0
     May line next = labelled.Executes code addresses c line next
 
@@ -69,13 +69,13 @@ module _ (code : Labelled) (addresses : ℕ → ℕ) (words : List ℕ) (text : 
       low : here < text_end
       low = text.places.below c.line (slice_get_within code.lines c.line line found)
 
-      behind : add_of here 4 ≡ here + 4
-      behind = let inside = low in omega arith
+      following : add_of here 4 ≡ here + 4
+      following = let inside = low in omega arith
 
       on_the_way : (w : World) → seen_of w ≡ labelled.seen_of (labelled.Running c) → status_in w.machine.phase ≡ Running → Way w
       on_the_way w seen running = way_before (above code addresses) world_machine (matching code addresses words) (labelled.Running c) w running seen
 
-      -- the step is made, and the world is where it leads code addresses
+      -- The step is made, and the world is at its target.
       arrived : (places : List ℕ) (c' : Configuration) (target : ℕ) → May line (labelled.Running c') → length c'.stack ≤ 1048576 → IsMet code.lines c'.line → target ≡ addresses c'.line
           → 0 < length places → Goal places (world_at words c' target (add_of target 4) false)
       arrived places c' target may few met is some = record {
@@ -85,13 +85,13 @@ module _ (code : Labelled) (addresses : ℕ → ℕ) (words : List ℕ) (text : 
         lighter = λ none. absurd (omega (arith, some, none));
       }
 
-      -- by an instruction and its delay slot
+      -- The step is made by an instruction and its delay slot.
       by_jump : (count : ℕ) (c' : Configuration) (target : ℕ) (i : Instr) → IsAt words here i → IsAt words (here + 4) nothing
           → addresses (suc c.line) ≡ here + 4 * count → 2 ≤ count → c'.output ≡ c.output → c'.input ≡ c.input → length c'.stack ≤ 1048576
           → executes (world_at words c here (here + 4) false).machine i ≡ Does events.Ran (world_at words c' (here + 4) target true).machine
           → May line (labelled.Running c') → IsMet code.lines c'.line → target ≡ addresses c'.line → Stepped (placed code addresses words c)
       by_jump count c' target i at slot next many output input few does may met is =
-          subst (λ (n : ℕ). Stepped (world_at words c here n false)) (sym behind) (record {
+          subst (λ (n : ℕ). Stepped (world_at words c here n false)) (sym following) (record {
             places = here ∷ (here + 4) ∷ [];
             distinct = (((λ e. omega arith), tt), (tt, tt));
             inside = (
@@ -103,12 +103,12 @@ module _ (code : Labelled) (addresses : ℕ → ℕ) (words : List ℕ) (text : 
                 (arrived (here ∷ (here + 4) ∷ []) c' target may few met is (omega arith));
           })
 
-      -- a branch or a jump that goes somewhere
+      -- A branch continues at its label if it is taken, and at the next line otherwise.
       lands : (b : Bool) (taken label next at : ℕ) → taken ≡ addresses label → next ≡ addresses at → cond b taken next ≡ addresses (cond b label at)
       lands true taken label next at first second = first
       lands false taken label next at first second = second
 
-      -- what two instructions have behind them
+      -- The address after a branch and its delay slot is that of the next line.
       over_slot : addresses (suc c.line) ≡ here + 8 → add_of (here + 4) 4 ≡ addresses (c.line + 1)
       over_slot next =
           let inside = low in
@@ -116,11 +116,11 @@ module _ (code : Labelled) (addresses : ℕ → ℕ) (words : List ℕ) (text : 
           let sum : add_of (here + 4) 4 ≡ here + 8 = omega arith in
           sum ∙ sym next ∙ ap addresses (sym same)
 
-    -- a branch or jump whose slot is empty stands at its line's address
+    -- A branch or jump with an empty slot is at its line's address.
     stands_empty : (line : Line) → filling code.lines c.line ≡ None → StandsFilled (filling code.lines c.line) code words addresses c.line line → StandsFrom code words addresses c.line line nothing here
     stands_empty line empty stands = subst (λ o. StandsFilled o code words addresses c.line line) empty stands
 
-    -- the instruction that fills the slot behind a line is that line's
+    -- The instruction that fills the slot after a line is that line's own.
     its_own : (i slotted : Instr) → slice_get code.lines c.line ≡ Some (lines.Ordinary i) → filling code.lines (suc c.line) ≡ Some slotted
         → (filling code.lines (suc c.line) ≡ Some i) × IsFilled code.lines (suc c.line) i
     its_own i slotted found some =
@@ -131,10 +131,10 @@ module _ (code : Labelled) (addresses : ℕ → ℕ) (words : List ℕ) (text : 
         let mine : filling code.lines (suc c.line) ≡ Some i = some ∙ ap (λ (x : Instr). Some x) one in
         (mine, filled code.lines (suc c.line) i mine)
 
-    -- the line behind a branch, and where one goes
+    -- The line after a branch, and its target, satisfy `IsMet`.
     next_met : (condition : Condition) (label : ℕ) → slice_get code.lines c.line ≡ Some (lines.Branch condition label) → IsMet code.lines (c.line + 1)
     next_met condition label found =
-        subst (IsMet code.lines) (let e : suc c.line ≡ c.line + 1 = omega arith in e) (behind_met code.lines c.line (lines.Branch condition label) found refl refl reached)
+        subst (IsMet code.lines) (let e : suc c.line ≡ c.line + 1 = omega arith in e) (after_met code.lines c.line (lines.Branch condition label) found refl refl reached)
 
     goes_met : (b : Bool) (condition : Condition) (label : ℕ) → slice_get code.lines c.line ≡ Some (lines.Branch condition label) → IsMet code.lines (cond b label (c.line + 1))
     goes_met true condition label found = named_met code.lines c.line label (lines.Branch condition label) found refl
@@ -192,11 +192,11 @@ module _ (code : Labelled) (addresses : ℕ → ℕ) (words : List ℕ) (text : 
           | true ↦ λ is_taken.
               let c' : Configuration = record c { line = label } in
               let places : List ℕ = here ∷ (here + 4) ∷ (here + 8) ∷ (here + 8 + 4) ∷ [] in
-              let first_behind : add_of (here + 4) 4 ≡ here + 8 = omega arith in
-              let second_behind : add_of (here + 8) 4 ≡ here + 8 + 4 = omega arith in
+              let first_after : add_of (here + 4) 4 ≡ here + 8 = omega arith in
+              let second_after : add_of (here + 8) 4 ≡ here + 8 + 4 = omega arith in
               let aligned = multiple line found fine in
               let may : May line (labelled.Running c') = ap (λ b. labelled.Running (record c { line = cond b label (c.line + 1) })) (sym is_taken) in
-              subst (λ (n : ℕ). Stepped (world_at words c here n false)) (sym (behind line found fine)) (record {
+              subst (λ (n : ℕ). Stepped (world_at words c here n false)) (sym (following line found fine)) (record {
                 places = places;
                 distinct = (((λ e. omega arith), ((λ e. omega arith), ((λ e. omega arith), tt))), (((λ e. omega arith), ((λ e. omega arith), tt)), (((λ e. omega arith), tt), (tt, tt))));
                 inside = (
@@ -211,10 +211,10 @@ module _ (code : Labelled) (addresses : ℕ → ℕ) (words : List ℕ) (text : 
                 );
                 comes = through words c c here (here + 8) round branches.branch branches.slot aligned refl refl
                     (branches_to words c here (inverse_of condition) branches.offset ∙ ap (λ b. Does events.Ran (world_at words c (here + 4) (cond b (branch_target here branches.offset) (add_of (here + 4) 4)) true).machine) (inverse ∙ ap not is_taken)
-                    ∙ ap (λ (n : ℕ). Does events.Ran (world_at words c (here + 4) n true).machine) first_behind)
+                    ∙ ap (λ (n : ℕ). Does events.Ran (world_at words c (here + 4) n true).machine) first_after)
                     Way (Goal places) ((here + 8) ∷ (here + 8 + 4) ∷ [])
                     (on_the_way line found fine _ refl refl) (on_the_way line found fine _ refl refl)
-                    (subst (λ (n : ℕ). Comes world_machine Way (Goal places) ((here + 8) ∷ (here + 8 + 4) ∷ []) (world_at words c (here + 8) n false)) (sym second_behind) (
+                    (subst (λ (n : ℕ). Comes world_machine Way (Goal places) ((here + 8) ∷ (here + 8 + 4) ∷ []) (world_at words c (here + 8) n false)) (sym second_after) (
                     through words c c' (here + 8) (jump_target (here + 8) jumps.index.index) (Jump Plain jumps.index) jumps.jump jumps.slot (omega (arith, aligned)) refl refl refl
                     Way (Goal places) [] (on_the_way line found fine _ refl refl) (on_the_way line found fine _ refl refl)
                     (arrived line found fine places c' (jump_target (here + 8) jumps.index.index) may small (named_met code.lines c.line label line found refl) jumps.target (omega arith))));
@@ -241,12 +241,12 @@ module _ (code : Labelled) (addresses : ℕ → ℕ) (words : List ℕ) (text : 
       one_more = omega arith
 
       next_reached : is_unreached code.lines (c.line + 1) ≡ false
-      next_reached = ap (is_unreached code.lines) one_more ∙ reached_behind code.lines c.line (lines.Ordinary i) found refl reached
+      next_reached = ap (is_unreached code.lines) one_more ∙ reached_after code.lines c.line (lines.Ordinary i) found refl reached
 
       shown_next : add_of here 4 ≡ addresses (c.line + 1)
       shown_next =
           let same : c.line + 1 ≡ suc c.line = omega arith in
-          behind (lines.Ordinary i) found fine ∙ sym next_line ∙ ap addresses (sym same)
+          following (lines.Ordinary i) found fine ∙ sym next_line ∙ ap addresses (sym same)
 
       ending_or_trap : (above_world u : World) (end : End) (o : Option Ending) → ending_of end ≡ o → u.machine.phase ≡ phases.Over end → seen_of u ≡ seen_of above_world
           → labelled.Performs c i (labelled.closed above_world (ending_of end)) → Result (lines.Ordinary i) u
@@ -262,7 +262,7 @@ module _ (code : Labelled) (addresses : ℕ → ℕ) (words : List ℕ) (text : 
 
       shown : filling code.lines (suc c.line) ≡ None → (u above_world : World) → Goes (placed code addresses words c) u → labelled.Performs c i (labelled.settled above_world (c.line + 1) above_world.machine.phase)
           → Shown words text.inside c small (add_of here 4) above_world u → Result (lines.Ordinary i) u
-      shown behind_it u above_world goes performs (inl (running, is)) = (
+      shown after_it u above_world goes performs (inl (running, is)) = (
         labelled.Running (from_world above_world (c.line + 1)),
         step_of (lines.Ordinary i) found fine _ (may_perform _ (subst (λ (p : Phase). labelled.Performs c i (labelled.settled above_world (c.line + 1) p)) running performs)),
         (
@@ -270,55 +270,55 @@ module _ (code : Labelled) (addresses : ℕ → ℕ) (words : List ℕ) (text : 
               let kept = ap (λ (w : World). length w.machine.memory.stack) is in
               omega (arith, same, kept, small)),
           next_reached,
-          at_empty code addresses words (from_world above_world (c.line + 1)) u (ap (filling code.lines) one_more ∙ behind_it)
+          at_empty code addresses words (from_world above_world (c.line + 1)) u (ap (filling code.lines) one_more ∙ after_it)
               (is ∙ ap (λ (a : ℕ). world_at words (from_world above_world (c.line + 1)) a (add_of a 4) false) shown_next),
         ),
       )
-      shown behind_it u above_world goes performs (inr (end, over, over_below, seen)) =
+      shown after_it u above_world goes performs (inr (end, over, over_below, seen)) =
           ending_or_trap above_world u end (ending_of end) refl over_below seen
           (subst (λ (p : Phase). labelled.Performs c i (labelled.settled above_world (c.line + 1) p)) over performs)
 
       goes_as : filling code.lines (suc c.line) ≡ None → IsAt words here i → cause_of (machine_of c) i ≡ None → (u : World) → Goes (placed code addresses words c) u → Result (lines.Ordinary i) u
-      goes_as behind_it at none u (event, s, step, is) =
+      goes_as after_it at none u (event, s, step, is) =
           let w : World = placed code addresses words c in
           let does = fetches words c here (add_of here 4) false i at (multiple (lines.Ordinary i) found fine)
           ∙ executes-performs w.machine i (same_cause words text.inside c small here (add_of here 4) false i is_one none) in
           let acts : Acts (performs w.machine i) w.machine event s = Step-action w.machine (performs w.machine i) event s refl does step in
           let (e, t, does_above, shows) = performed words text.inside c small here (add_of here 4) false i is_one none event s acts in
-          shown behind_it u (told (world_of c) e t) (event, s, step, is)
+          shown after_it u (reported (world_of c) e t) (event, s, step, is)
           (e, t, subst (λ (a : Action). Acts a (machine_of c) e t) (sym (executes-performs (machine_of c) i none)) does_above, refl)
-          (subst (λ (v : World). Shown words text.inside c small (add_of here 4) (told (world_of c) e t) v) (sym is) shows)
+          (subst (λ (v : World). Shown words text.inside c small (add_of here 4) (reported (world_of c) e t) v) (sym is) shows)
 
       performs_it : filling code.lines (suc c.line) ≡ None → IsAt words here i → (cause : Option Cause) → cause_of (machine_of c) i ≡ cause → Stepped (placed code addresses words c)
-      performs_it behind_it at (Some cause) is = absurd (fine _ (may_perform _ (performs_refused c i cause is)) refl)
-      performs_it behind_it at None is =
+      performs_it after_it at (Some cause) is = absurd (fine _ (may_perform _ (performs_refused c i cause is)) refl)
+      performs_it after_it at None is =
           by_one (above code addresses) world_machine (matching code addresses words) (labelled.Running c) (placed code addresses words c) (small, reached, at_empty code addresses words c _ empty refl) refl (in_own addresses c.line 1 0 here (omega (arith, next_line)) (omega arith) (omega arith))
-          (goes_as behind_it at is)
+          (goes_as after_it at is)
 
-      -- Before a filled slot: the branch or jump is executed below, and the instruction above.
-      module _ (filled_behind : IsFilled code.lines (suc c.line) i) (some : filling code.lines (suc c.line) ≡ Some i) where
+      -- Before a filled slot, the machine executes the branch or jump while the labelled machine executes the instruction.
+      module _ (filled_after : IsFilled code.lines (suc c.line) i) (some : filling code.lines (suc c.line) ≡ Some i) where
         may_move : is_movable i ≡ true
-        may_move = (filled_moves i filled_behind.line filled_behind.moves).0
+        may_move = (filled_moves i filled_after.line filled_after.moves).0
 
-        stands_here : StandsFrom code words addresses (suc c.line) filled_behind.line i here
+        stands_here : StandsFrom code words addresses (suc c.line) filled_after.line i here
         stands_here =
-            let whole = jump_stands code addresses words (suc c.line) filled_behind.line (filled_moves i filled_behind.line filled_behind.moves).1
-            (line_stands code addresses words text (suc c.line) filled_behind.line filled_behind.at (reached_behind code.lines c.line (lines.Ordinary i) found refl reached)) in
-            let (from, is, stands) = subst (λ o. StandsFilled o code words addresses (suc c.line) filled_behind.line) some whole in
-            subst (StandsFrom code words addresses (suc c.line) filled_behind.line i) (let e : from ≡ here = omega (arith, is, next_line) in e) stands
+            let whole = jump_stands code addresses words (suc c.line) filled_after.line (filled_moves i filled_after.line filled_after.moves).1
+            (line_stands code addresses words text (suc c.line) filled_after.line filled_after.at (reached_after code.lines c.line (lines.Ordinary i) found refl reached)) in
+            let (from, is, stands) = subst (λ o. StandsFilled o code words addresses (suc c.line) filled_after.line) some whole in
+            subst (StandsFrom code words addresses (suc c.line) filled_after.line i) (let e : from ≡ here = omega (arith, is, next_line) in e) stands
 
-        between : cause_of (machine_of c) i ≡ None → (u : World) → Goes (placed code addresses words c) u → Between code addresses words (did c i) i filled_behind.line u
+        between : cause_of (machine_of c) i ≡ None → (u : World) → Goes (placed code addresses words c) u → Between code addresses words (did c i) i filled_after.line u
         between allowed u goes =
-            let goes_here = subst (λ (n : ℕ). Goes (world_at words c here n false) u) (behind (lines.Ordinary i) found fine) goes in
-            let is = head_goes code addresses words (suc c.line) filled_behind.line i here c stands_here next_line (multiple (lines.Ordinary i) found fine) (low (lines.Ordinary i) found fine) u goes_here in
+            let goes_here = subst (λ (n : ℕ). Goes (world_at words c here n false) u) (following (lines.Ordinary i) found fine) goes in
+            let is = head_goes code addresses words (suc c.line) filled_after.line i here c stands_here next_line (multiple (lines.Ordinary i) found fine) (low (lines.Ordinary i) found fine) u goes_here in
             record {
               before = c;
-              found = ap (slice_get code.lines) one_more ∙ filled_behind.at;
-              moves = filled_behind.moves;
+              found = ap (slice_get code.lines) one_more ∙ filled_after.at;
+              moves = filled_after.moves;
               allowed = allowed;
               did = refl;
-              is = is ∙ ap (λ (a : ℕ). world_at words (headed code addresses (suc c.line) filled_behind.line c) a (leads code addresses (suc c.line) filled_behind.line c) true) (sym next_line)
-                  ∙ ap (λ (n : ℕ). world_at words (headed code addresses n filled_behind.line c) (addresses n) (leads code addresses n filled_behind.line c) true) (sym one_more);
+              is = is ∙ ap (λ (a : ℕ). world_at words (headed code addresses (suc c.line) filled_after.line c) a (leads code addresses (suc c.line) filled_after.line c) true) (sym next_line)
+                  ∙ ap (λ (n : ℕ). world_at words (headed code addresses n filled_after.line c) (addresses n) (leads code addresses n filled_after.line c) true) (sym one_more);
             }
 
         moves_on : (cause : Option Cause) → cause_of (machine_of c) i ≡ cause → Stepped (placed code addresses words c)
@@ -331,7 +331,7 @@ module _ (code : Labelled) (addresses : ℕ → ℕ) (words : List ℕ) (text : 
               (
                 (let long = same_stack c i may_move in omega (arith, long, small)),
                 next_reached,
-                subst (λ (o : Option Instr). MatchesAs code addresses words o (did c i) u) (sym (ap (filling code.lines) one_more ∙ some)) (filled_behind.line, between is u goes),
+                subst (λ (o : Option Instr). MatchesAs code addresses words o (did c i) u) (sym (ap (filling code.lines) one_more ∙ some)) (filled_after.line, between is u goes),
               ),
             ))
 
@@ -367,7 +367,7 @@ module _ (code : Labelled) (addresses : ℕ → ℕ) (words : List ℕ) (text : 
     at_line empty (Some line) is fine = by_line line empty is fine (line_stands code addresses words text c.line line is reached)
     at_line empty None is fine = absurd (fine (labelled.Stopped c.output c.input) refl refl)
 
-    -- ---- in a filled slot
+    -- ---- the instruction in a filled slot
 
     module _ (i : Instr) (some : filling code.lines c.line ≡ Some i) (w : World) (line : Line) (mid : Between code addresses words c i line w) (never : (next : labelled.State) → labelled.Step code addresses (labelled.Running c) next → labelled.status_of next ≡ Failed → ⊥) where
       fine_here : (next : labelled.State) → May line next → labelled.status_of next ≡ Failed → ⊥
@@ -392,7 +392,7 @@ module _ (code : Labelled) (addresses : ℕ → ℕ) (words : List ℕ) (text : 
         aligned : here % 4 ≡ 0
         aligned = multiple line mid.found fine_here
 
-        -- where the slot's instruction leads code addresses
+        -- The address to which the instruction in the slot leads.
         after_slot : (u : World) → Goes w u → u ≡ world_at words (headed code addresses c.line line c) (leads code addresses c.line line c) (add_of (leads code addresses c.line line c) 4) false
         after_slot u goes =
             slot_goes code addresses words text (headed code addresses c.line line mid.before) few_before i may_move_here (headed_allowed code addresses c.line line mid.before i mid.moves mid.allowed) here (leads code addresses c.line line mid.before) slot_here aligned u
@@ -411,7 +411,7 @@ module _ (code : Labelled) (addresses : ℕ → ℕ) (words : List ℕ) (text : 
               (few, met.reached, at_empty code addresses words c' u met.empty (after_slot u goes ∙ same (leads code addresses c.line line c) ∙ ap (λ (n : ℕ). world_at words c' n (add_of n 4) false) is)),
             ))
 
-        -- a branch that is not near and is taken: the jump that it goes round is executed too
+        -- A far branch that is taken: the jump that it otherwise skips is executed too.
         round_slot : (condition : Condition) (label : ℕ) → line ≡ lines.Branch condition label → addresses (suc c.line) ≡ here + 12 → IsJumpAt words Plain nothing (from + 8) (addresses label)
             → headed code addresses c.line line c ≡ c → leads code addresses c.line line c ≡ here + 4 → May line (labelled.Running (record c { line = label })) → Stepped w
         round_slot condition label is_branch next jumps same goes_round may =
@@ -458,7 +458,7 @@ module _ (code : Labelled) (addresses : ℕ → ℕ) (words : List ℕ) (text : 
         (ap (λ b. labelled.Running (record c { line = cond b label (c.line + 1) })) (sym untaken)) small (goes_met false condition label mid.found)
         (ap (λ b. cond b (taken_to code addresses (is_near code.lines c.line label) c.line label) (addresses (suc c.line))) untaken ∙ ap addresses (sym same)) (λ n. refl)
 
-    -- a branch behind its slot, by whether it is near and whether it is taken
+    -- A branch after its slot, by whether it is near and whether it is taken.
     branch_slotted : (near taken : Bool) (condition : Condition) (label : ℕ) → is_near code.lines c.line label ≡ near → holds_of (word_in c) condition ≡ taken
         → (i : Instr) (some : filling code.lines c.line ≡ Some i) (w : World) (mid : Between code addresses words c i (lines.Branch condition label) w)
         (never : (next : labelled.State) → labelled.Step code addresses (labelled.Running c) next → labelled.status_of next ≡ Failed → ⊥)

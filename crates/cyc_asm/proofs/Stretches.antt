@@ -1,4 +1,4 @@
--- Stretches of addresses.
+-- Ranges of consecutive word addresses.
 use Rattle.std.proofs.Common.{◌≡◌, ℕ, zero, suc, ◌+◌, ◌-◌, ◌*◌, ◌/◌, ◌≤◌, ◌<◌, List, ◌∷◌, ◌++◌, length, get_or, Bool, true, false, Option, Some, None, refl, sym, ap, subst, ◌∙◌, arith}
 use Rattle.std.specs.Prelude.{Contains}
 use Rattle.std.specs.List.{range_with_len, flat_map}
@@ -6,7 +6,7 @@ use Rattle.std.proofs.lemmas.Grind.{flat_map-append}
 use Rattle.std.proofs.lemmas.List.{length-append}
 use Rattle.std.proofs.lemmas.Option.{slice_get-get_or}
 use Rattle.cyc_isa.specs.declared.instr.Instr.{Instr}
-use Rattle.cyc_machine.specs.State.{text_base}
+use Rattle.cyc_machine_model.specs.State.{text_base}
 use Rattle.cyc_select.specs.declared.code.Condition.{Condition}
 use Rattle.cyc_select.specs.declared.code.Line.{Line}
 use Rattle.cyc_select.specs.declared.code.Line.TheVariants as lines
@@ -21,14 +21,14 @@ pub length-stretch : (from count : ℕ) → length (stretch from count) ≡ coun
 length-stretch from zero = refl
 length-stretch from (suc count) = ap suc (length-stretch (from + 4) count)
 
--- the addresses of a stretch
+-- The addresses of a range.
 pub in_stretch : (from count k address : ℕ) → k < count → address ≡ from + 4 * k → Contains (stretch from count) address
 in_stretch from zero k address below is = absurd (omega arith)
 in_stretch from (suc count) zero address below is = (0, (omega arith), (omega arith))
 in_stretch from (suc count) (suc k) address below is =
     let (i, inside, at) = in_stretch (from + 4) count k address (omega arith) (omega arith) in (suc i, (omega (arith, inside)), at)
 
--- a line with so many words has that stretch
+-- A line with this many words owns this range.
 pub own-stretch : (addresses : ℕ → ℕ) (number count : ℕ) → addresses (suc number) ≡ addresses number + 4 * count → own addresses number ≡ stretch (addresses number) count
 own-stretch addresses number count next = ap (stretch (addresses number)) (let e : (addresses (suc number) - addresses number) / 4 ≡ count = omega arith in e)
 
@@ -36,7 +36,7 @@ pub in_own : (addresses : ℕ → ℕ) (number count k address : ℕ) → addres
 in_own addresses number count k address next below is =
     subst (λ (places : List ℕ). Contains places address) (sym (own-stretch addresses number count next)) (in_stretch (addresses number) count k address below is)
 
--- two stretches in a row
+-- Two adjacent ranges.
 pub stretch-append : (from m n : ℕ) → stretch from (m + n) ≡ stretch from m ++ stretch (from + 4 * m) n
 stretch-append from zero n = ap (λ (k : ℕ). stretch from k) (let e : zero + n ≡ n = omega arith in e) ∙ ap (λ (a : ℕ). stretch a n) (let e : from ≡ from + 4 * zero = omega arith in e)
 stretch-append from (suc m) n =
@@ -44,7 +44,7 @@ stretch-append from (suc m) n =
     ∙ ap (λ (rest : List ℕ). from ∷ rest) (stretch-append (from + 4) m n)
     ∙ ap (λ (a : ℕ). from ∷ (stretch (from + 4) m ++ stretch a n)) (let e : from + 4 + 4 * m ≡ from + 4 * suc m = omega arith in e)
 
--- however the lines are shared out, their own words are all words of the text together
+-- However the lines are partitioned, their own words together are all words of the text.
 pub own-parts : (code : Labelled) (addresses : ℕ → ℕ) (words : List ℕ) → IsTextOf code addresses words → (some others : List ℕ)
     → some ++ others ≡ range_with_len 0 (length code.lines)
     → length (flat_map (own addresses) some) + length (flat_map (own addresses) others) ≡ length words
@@ -53,7 +53,7 @@ own-parts code addresses words text some others parts =
     let sum = length-append (flat_map (own addresses) some) (flat_map (own addresses) others) in
     omega (arith, both, sum, length-stretch text_base (length words))
 
--- ---- where there is a line, there is a word
+-- ---- each line of reachable code has a word
 
 branch_wide : (near : Bool) (words : List ℕ) (addresses : ℕ → ℕ) (number : ℕ) (condition : Condition) (label : ℕ) (slotted : Instr) (from : ℕ)
     → StandsBranch near words addresses number condition label slotted from → from + 4 ≤ addresses (suc number)

@@ -1,4 +1,4 @@
--- What the tables of the layout hold.
+-- The tables of the layout contain the values of their definitions.
 use Rattle.std.proofs.Common.{◌≡◌, ℕ, suc, ◌+◌, ◌≤◌, ◌<◌, List, [], ◌∷◌, ◌++◌, length, get_or, map, Bool, true, false, cond, ◌==◌, eq-eqb, ne_eqb, nat_le, None, Some, refl, sym, ap, subst, ◌∙◌, arith, inl, inr}
 use Rattle.std.specs.Prelude.{◌&&◌, All, slice_get}
 use Rattle.std.specs.List.{range_with_len}
@@ -10,7 +10,7 @@ use Rattle.cyc_isa.specs.Decoding.{jump_index_of}
 use Rattle.cyc_isa.specs.declared.instr.Instr.{Instr}
 use Rattle.cyc_isa.specs.declared.instr.Instr.TheVariants.{Jump}
 use Rattle.cyc_isa.specs.declared.instr.JumpOp.{JumpOp}
-use Rattle.cyc_machine.specs.declared.constants.TheConstants.{TEXT_WORDS}
+use Rattle.cyc_machine_model.specs.declared.constants.TheConstants.{TEXT_WORDS}
 use Rattle.cyc_select.specs.declared.code.Condition.{Condition}
 use Rattle.cyc_select.specs.declared.code.Line.{Line}
 use Rattle.cyc_select.specs.declared.code.Line.TheVariants as lines
@@ -41,7 +41,7 @@ position_up_to code positions number is within =
 pub position_at : (code : List Line) (positions : List ℕ) (number : ℕ) → positions ≡ position_of_each code → number < length code → get_or positions number 0 ≡ position code number
 position_at code positions number is below = position_up_to code positions number is (omega (arith, below))
 
--- all numbers are small
+-- All numbers in the tables fit the text range.
 
 pub most_before-low : (code : List Line) (number : ℕ) → Fits code → number ≤ length code → most_before code number ≤ TEXT_WORDS
 most_before-low code number fits within =
@@ -59,7 +59,7 @@ pub position_low : (code : List Line) (positions : List ℕ) (number : ℕ) → 
 position_low code positions number fits is below =
     let at = position_at code positions number is below in omega (arith, at, position-low code number fits (omega (arith, below)))
 
--- the line at a number
+-- A lookup with a default value finds the line at an existing number.
 pub line_here : (code : List Line) (number : ℕ) (d line : Line) → number < length code → get_or code number d ≡ line → slice_get code number ≡ Some line
 line_here code number d line below here = slice_get-get_or code number d below ∙ ap Some here
 
@@ -72,7 +72,7 @@ width_here code number d line below here = ap (width_in code number) (line_here 
 pub words_here : (code : List Line) (number : ℕ) (d line : Line) → number < length code → get_or code number d ≡ line → words_in code number (slice_get code number) ≡ words_of_line code number line
 words_here code number d line below here = ap (words_in code number) (line_here code number d line below here)
 
--- one more line
+-- The table of maximum word counts, extended by one more line.
 pub most_of_more : (code : List Line) (number : ℕ) (most : List ℕ) (before words : ℕ) (d : Line) → number < length code
     → most ≡ map (most_before code) (range_with_len 0 number) → before ≡ most_before code number → words ≡ words_of (get_or code number d)
     → (most ++ before ∷ [] ≡ map (most_before code) (range_with_len 0 (number + 1))) × (before + words ≡ most_before code (number + 1))
@@ -98,7 +98,7 @@ positions_of_more code number positions before width so_far now is =
       next,
     )
 
--- ---- a line that takes no word is one that no run comes to
+-- ---- only unreachable lines take no word
 
 width_some : (code : List Line) (number : ℕ) (line : Line) → 0 < width_of code number line
 width_some code number (lines.Ordinary i) = omega arith
@@ -114,7 +114,7 @@ width_some code number lines.Return = omega arith
 width_by : (code : List Line) (number : ℕ) (b : Bool) → is_unreached code number ≡ b → width_at code number ≡ cond b 0 (width_in code number (slice_get code number))
 width_by code number b is = ap (λ (x : Bool). cond x 0 (width_in code number (slice_get code number))) is
 
--- the words before the next line
+-- The number of words before the next line.
 position_by : (code : List Line) (number : ℕ) (b : Bool) → is_unreached code number ≡ b
     → position code (number + 1) ≡ position code number + cond b 0 (width_in code number (slice_get code number))
 position_by code number b is =
@@ -141,7 +141,7 @@ position_left_out code positions number is below = go (is_unreached code number)
         (λ same. omega (arith, same, here, next, position_by code number false reached, some))
         ∙ sym reached
 
--- whether a branch is near, from the table
+-- The table tells correctly whether a branch is near.
 pub near_here : (code : List Line) (most : List ℕ) (number label : ℕ) (near b : Bool) → most ≡ most_of_each code → number < length code → label < length code
     → near ≡ (nat_le (get_or most label 0) (get_or most number 0 + MAX_REACH) && nat_le (get_or most number 0) (get_or most label 0 + MAX_REACH)) → near ≡ b
     → is_near code number label ≡ b
@@ -157,7 +157,7 @@ pub width_of_branch : (code : List Line) (number : ℕ) (d : Line) (condition : 
 width_of_branch code number d condition label b below here near =
     width_here code number d (lines.Branch condition label) below here ∙ ap (λ b. head_width (filling code number) + tail_width b) near
 
--- the branch or jump of a line, and the words behind it
+-- The text contains the word of a line's branch or jump, and the words after it, at the position in the table.
 
 pub head_here : (code : List Line) (from number : ℕ) (d line : Line) → number < length code → get_or code number d ≡ line → head_in code from number (slice_get code number) ≡ head_of code from number line
 head_here code from number d line below here = ap (head_in code from number) (line_here code number d line below here)
@@ -177,7 +177,7 @@ pub tail_of_branch_here : (code : List Line) (number : ℕ) (d : Line) (conditio
 tail_of_branch_here code number d condition label b slot below here near =
     tail_here code number d (lines.Branch condition label) slot below here ∙ ap (λ b. slot ∷ round_words b code label) near
 
--- a near branch and its label, from the table
+-- The text contains a near branch at the position in the table, and its label is within reach.
 pub reach_here : (code : List Line) (positions : List ℕ) (number label from : ℕ) (d : Line) (condition : Condition) → Fits code → positions ≡ position_of_each code → number < length code → label < length code
     → get_or code number d ≡ lines.Branch condition label → is_near code number label ≡ true → IsHeadPosition code number from
     → (from ≤ get_or positions label 0 + MAX_REACH) × (get_or positions label 0 ≤ from + MAX_REACH)
@@ -189,7 +189,7 @@ reach_here code positions number label from d condition fits is below is_label h
       | inr down ↦ let r = reach.above down in (omega (arith, there, r), omega (arith, there, down))
     ]
 
--- a near branch, from the table
+-- The text contains a near branch at the position in the table.
 pub near_branch_here : (code : List Line) (positions : List ℕ) (number from : ℕ) (d : Line) (condition : Condition) (label offset : ℕ) → positions ≡ position_of_each code
     → number < length code → label < length code → get_or code number d ≡ lines.Branch condition label → is_near code number label ≡ true
     → offset ≡ offset_of from (get_or positions label 0)
@@ -198,12 +198,12 @@ near_branch_here code positions number from d condition label offset is below is
     ap (branch_of condition) (by_table ∙ ap (offset_of from) (position_at code positions label is is_label))
     ∙ sym (head_of_branch_here code from number d condition label true below here near)
 
--- a jump, from the table
+-- The text contains a jump at the position in the table.
 pub jump_here : (code : List Line) (positions : List ℕ) (op : JumpOp) (label : ℕ) → positions ≡ position_of_each code → label < length code
     → word_of (Jump op (jump_index_of (FIRST_INDEX + get_or positions label 0))) ≡ word_of (Jump op (jump_index_of (FIRST_INDEX + position code label)))
 jump_here code positions op label is is_label = ap (λ (n : ℕ). word_of (Jump op (jump_index_of (FIRST_INDEX + n)))) (position_at code positions label is is_label)
 
--- where the branch or jump of a line stands
+-- The table contains the position of each line's branch or jump.
 
 pub head_at_line : (code : List Line) (positions : List ℕ) (number : ℕ) → positions ≡ position_of_each code → number < length code → IsHeadPosition code number (get_or positions number 0)
 head_at_line code positions number is below = let at = position_at code positions number is below in (omega (arith, at), omega (arith, at))
@@ -217,9 +217,9 @@ head_before_line code positions number d i is below here =
     let next = ap (position code) one in
     (omega (arith, at, up, next), omega (arith, at, wide, next))
 
--- words one behind the other
+-- The words that a line is translated to are consecutive in the text.
 
--- the words of an ordinary instruction's line, from what fills the slot behind it
+-- The words of an ordinary instruction's line, given the content of the slot after it.
 
 pub words_alone : (code : List Line) (number : ℕ) (i : Instr) → filling code (number + 1) ≡ None → word_of i ∷ [] ≡ words_ordinary (filling code (number + 1)) code number i
 words_alone code number i none = sym (ap (λ o. words_ordinary o code number i) none)
@@ -236,11 +236,11 @@ words_moved code number word from i slotted some place is =
 pub within_moved : (code : List Line) (number : ℕ) (slotted : Instr) → filling code (number + 1) ≡ Some slotted → number + 1 < length code
 within_moved code number slotted some = let f = filled code (number + 1) slotted some in slice_get_within code (number + 1) f.line f.at
 
--- those of a branch or jump, from what fills its slot
+-- The words of a branch or jump, given the content of its slot.
 
-pub words_behind : (code : List Line) (number : ℕ) (d line : Line) (slotted : Instr) → number < length code → get_or code number d ≡ line → filling code number ≡ Some slotted
+pub words_after : (code : List Line) (number : ℕ) (d line : Line) (slotted : Instr) → number < length code → get_or code number d ≡ line → filling code number ≡ Some slotted
     → tail_in code number (slice_get code number) (word_of slotted) ≡ filled_in code number (slice_get code number)
-words_behind code number d line slotted below here some =
+words_after code number d line slotted below here some =
     tail_here code number d line (word_of slotted) below here
     ∙ sym (ap (filled_in code number) (line_here code number d line below here) ∙ ap (λ o. words_filled o code number line) some)
 

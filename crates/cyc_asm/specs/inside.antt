@@ -1,8 +1,8 @@
--- what the contract of `assemble` rests on
+-- the results that the contract of `assemble` rests on
 pub mod Text
 pub mod Machine
 pub mod Slots
 pub mod Order
 pub mod Layout
--- what the functions inside the crate promise each other
+-- the contracts between the functions inside the crate
 pub mod Words

@@ -1,4 +1,4 @@
-//! From labelled code to words.
+//! Assembles labelled code into words.
 
 ghost use Rattle.std.specs.Prelude.{◌≡◌, length, All, IfOk, IfErr};
 ghost use Rattle.cyc_words.specs.Fault.{memory_fault};
@@ -15,7 +15,7 @@ use cyc_select::{Code, Line};
 use cyc_words::Fault;
 use std::alloc::{AllocError, Global};
 
-/// The words of lines that stand in this order.
+/// Returns the words of lines in this order.
 fn words_in_order(alloc: Global, lines: &[Line], named: &[bool]) -> Result<Vec<u32>, AllocError>
     requires formed { All (IsFormedLine (length lines.now)) lines.now }
     requires fits { Fits lines.now }
@@ -37,15 +37,14 @@ fn words_of(alloc: Global, lines: &[Line]) -> Result<Vec<u32>, AllocError>
     words_in_order(alloc, &arranged, &named)
 }
 
-/// The words of labelled code, as they stand from the beginning of the machine's text range on.
+/// Returns the words of labelled code, from the start of the machine's text range on.
 ///
-/// Only want of memory is refused.
+/// The only error is lack of memory.
 pub fn assemble(alloc: Global, code: &Code) -> Result<Vec<u32>, Fault>
-    // The words mean the code: the instruction of each line that a run may come to stands once, each label is its line's
-    // address, each delay slot has the instruction just before its branch or jump, or one before that, where that may move,
-    // or is empty, and there is nothing else.
+    // The words represent the code. The instruction of each reachable line occurs once, and each label is its line's address. Each delay
+    // slot contains one of the three instructions before its branch or jump, or is empty, and there is nothing else.
     ensures means { IfOk result (λ words. IsTextOf code.now (addresses_of code.now) words.items) }
-    // And the machine that runs them does what the labelled machine does.
+    // The machine that runs these words behaves as the labelled machine.
     ensures runs { IfOk result (λ words. Runs code.now (addresses_of code.now) words.items) }
     ensures refused { IfErr result (λ e. e ≡ memory_fault) }
 {

@@ -1,12 +1,12 @@
-//! The numbers of the assembler.
+//! The constants of the assembler.
 
-use cyc_machine::constants::TEXT_BASE;
+use cyc_machine_model::constants::TEXT_BASE;
 
-/// A branch is near where it is at most so many words from its label.
+/// A branch is near if its label is at most this many words away.
 pub const MAX_REACH: u32 = 32_767;
 
-/// The offset round a jump: from the branch's delay slot over the jump and its own slot.
+/// The offset of a branch over a jump: from the branch's delay slot past the jump and its slot.
 pub const ROUND_OFFSET: u16 = 3;
 
-/// The words of memory before the text range, from which a jump counts.
+/// The number of words of memory before the text range. Jump targets count words from the beginning of memory.
 pub const FIRST_INDEX: u32 = TEXT_BASE / 4;

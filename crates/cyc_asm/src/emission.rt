@@ -1,4 +1,4 @@
-//! The words of each line.
+//! Emits the words of each line.
 
 ghost use Rattle.std.specs.Prelude.{◌≡◌, ◌++◌, ◌+◌, ◌<◌, ◌≤◌, length, Some, slice_get, All, OnOk, IfOk};
 ghost use Rattle.cyc_isa.specs.Encoding.{word_of};
@@ -15,14 +15,14 @@ use crate::constants::{FIRST_INDEX, MAX_REACH, ROUND_OFFSET};
 use crate::layout::is_near;
 use crate::slots::filling;
 use cyc_isa::{BranchOp, BranchZeroOp, Instr, JumpIndex, JumpOp, Register, encode};
-use cyc_machine::constants::{RETURN_ADDRESS, TEXT_WORDS};
+use cyc_machine_model::constants::{RETURN_ADDRESS, TEXT_WORDS};
 use cyc_select::{Condition, Line};
 use std::alloc::{AllocError, Global};
 
-/// The word of an empty delay slot, which does nothing.
+/// The word of an empty delay slot: an instruction without effect.
 const EMPTY_SLOT: u32 = 0;
 
-/// The condition that holds where this one does not.
+/// Returns the negation of a condition.
 fn inverse(condition: Condition) -> Condition
     ensures { result ≡ inverse_of condition }
 {
@@ -47,7 +47,7 @@ fn inverse(condition: Condition) -> Condition
     }
 }
 
-/// The branch on a condition.
+/// Returns the branch on a condition.
 fn branch(condition: Condition, offset: u16) -> Instr
     ensures { result ≡ branch_of condition offset }
 {
@@ -62,7 +62,7 @@ fn branch(condition: Condition, offset: u16) -> Instr
     }
 }
 
-/// The offset of a near branch with `from` words before it to a line with `to`, in two's complement.
+/// Returns the offset of a near branch with `from` words before it to a line with `to` words before it, as 16-bit two's complement.
 fn offset(from: u32, to: u32) -> u16
     requires { (from ≤ to + MAX_REACH) × (to ≤ from + MAX_REACH) }
     ensures { result ≡ offset_of from to }
@@ -74,7 +74,7 @@ fn offset(from: u32, to: u32) -> u16
     }
 }
 
-/// The jump to the line with `to` words before it.
+/// Returns the jump to the line with `to` words before it.
 fn jump(op: JumpOp, to: u32) -> Instr
     requires { to ≤ TEXT_WORDS }
     ensures { word_of result ≡ word_of (Jump op (jump_index_of (FIRST_INDEX + to))) }
@@ -85,7 +85,7 @@ fn jump(op: JumpOp, to: u32) -> Instr
     Instr::Jump { op, index }
 }
 
-/// The branch or jump of the line of this number, from its place with `from` words before it.
+/// Returns the branch or jump of line `number`, with `from` words before it.
 fn head(lines: &[Line], most: &[u32], positions: &[u32], from: u32, number: usize) -> Instr
     requires within { number < length lines.now }
     requires formed { All (IsFormedLine (length lines.now)) lines.now }
@@ -117,7 +117,7 @@ fn head(lines: &[Line], most: &[u32], positions: &[u32], from: u32, number: usiz
     }
 }
 
-/// The words behind the branch or jump of the line of this number: its slot's, and where it goes round a jump that one's.
+/// Appends the words after the branch or jump of line `number`: its delay slot, and for a far branch the jump that it skips, with its slot.
 fn push_tail(
     words: &mut Vec<u32>,
     lines: &[Line],
@@ -148,7 +148,7 @@ fn push_tail(
     }
 }
 
-/// The word of an ordinary instruction, or of the branch or jump behind it, into whose slot it moves.
+/// Appends the word of an ordinary instruction, or of the branch or jump after it if the instruction fills its slot.
 fn push_ordinary(
     words: &mut Vec<u32>,
     lines: &[Line],
@@ -168,8 +168,8 @@ fn push_ordinary(
 {
     match filling(lines, named, number + 1) {
         Some(_) => {
-            let behind = head(lines, most, positions, positions[number], number + 1);
-            words.push(encode(behind))?;
+            let following = head(lines, most, positions, positions[number], number + 1);
+            words.push(encode(following))?;
             Ok(())
         }
         None => {
@@ -179,7 +179,7 @@ fn push_ordinary(
     }
 }
 
-/// The words of the branch or jump of the line of this number, with what fills its slot.
+/// Appends the words of the branch or jump of line `number` with the instruction in its slot.
 fn push_jump(
     words: &mut Vec<u32>,
     lines: &[Line],
@@ -206,7 +206,7 @@ fn push_jump(
     }
 }
 
-/// The words of the line of this number where a run may come to it.
+/// Appends the words of line `number`, which is reachable.
 fn push_reached(
     words: &mut Vec<u32>,
     lines: &[Line],
@@ -233,7 +233,7 @@ fn push_reached(
     }
 }
 
-/// The words of the line of this number, to which a run may come or none does.
+/// Appends the words of line `number`, if it is reachable.
 fn push_line(
     words: &mut Vec<u32>,
     lines: &[Line],
@@ -258,7 +258,7 @@ fn push_line(
     push_reached(words, lines, named, most, positions, number)
 }
 
-/// Whether no run comes to the line of this number: then it takes no word, and each other takes one or more.
+/// Returns true if line `number` is unreachable: then it takes no word. Every other line takes at least one.
 fn is_left_out(lines: &[Line], positions: &[u32], number: usize) -> bool
     requires within { number < length lines.now }
     requires positions { positions.now ≡ position_of_each lines.now }
@@ -267,7 +267,7 @@ fn is_left_out(lines: &[Line], positions: &[u32], number: usize) -> bool
     positions[number] == positions[number + 1]
 }
 
-/// The words of all lines.
+/// Returns the words of all lines.
 pub(crate) fn words_of_all(
     alloc: Global,
     lines: &[Line],

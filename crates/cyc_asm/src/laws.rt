@@ -1,5 +1,5 @@
-//! Laws of the definitions in `specs/`. Each function does nothing: its contract is the law, and so it is proved with
-//! the crate. The lemmas behind them stand in `proofs/` for other proofs to cite.
+//! Laws of the definitions in `specs/`. Each function of this file is empty, and its contract states one law, which is proved with the
+//! crate. The lemmas that other proofs cite are in `proofs/`.
 
 ghost use Rattle.std.specs.Prelude.{◌≡◌, ℕ, ◌+◌, List, ◌++◌, length};
 ghost use Rattle.std.specs.List.{range_with_len, flat_map};
@@ -11,31 +11,31 @@ ghost use Rattle.cyc_select.specs.declared.code.Line.{Line};
 ghost use Rattle.cyc_asm.specs.inside.Order.{arranged};
 ghost use Rattle.cyc_asm.specs.inside.Text.{IsTextOf, nothing, own};
 ghost use Rattle.cyc_asm.specs.inside.Machine.{Runs};
-ghost use Rattle.cyc_machine.specs.WorldMachine.{world_machine};
+ghost use Rattle.cyc_machine_model.specs.WorldMachine.{world_machine};
 
 /// The word of an empty delay slot is 0.
 pub fn slots_are_empty()
     ensures { word_of nothing ≡ 0 }
 {}
 
-/// The order in which the lines of code stand has each of them once.
+/// The order of the lines contains each line of the code once.
 pub fn orders_have_each_line()
     ensures { (code : List Line) → IsPermutation code (arranged code) }
 {}
 
-/// However the lines of code are shared out, each word of its text is one line's own.
+/// However the lines of code are partitioned, each word of the text belongs to exactly one line.
 pub fn words_are_shared_out()
     ensures { (code : Labelled) (addresses : ℕ → ℕ) (words : List ℕ) → IsTextOf code addresses words
         → (some others : List ℕ) → some ++ others ≡ range_with_len 0 (length code.lines)
         → length (flat_map (own addresses) some) + length (flat_map (own addresses) others) ≡ length words }
 {}
 
-/// The machine that runs words never takes back what it printed, and rests at its end.
+/// The output of the machine that runs words only grows, and a run that has ended stays as it is.
 pub fn worlds_are_lawful()
     ensures { IsLawful world_machine }
 {}
 
-/// Words that mean labelled code run as it does, wherever its lines lie.
+/// Words that represent labelled code behave as the code, at any addresses of the code's lines.
 pub fn texts_run()
     ensures { (code : Labelled) (addresses : ℕ → ℕ) (words : List ℕ) → IsTextOf code addresses words → Runs code addresses words }
 {}

@@ -1,4 +1,4 @@
-//! Where lines lie: how many words stand before each.
+//! The positions of lines: the number of words before each.
 
 ghost use Rattle.std.specs.Prelude.{◌≡◌, ◌+◌, ◌<◌, ◌≤◌, ◌&&◌, nat_le, length, slice_get, All, IfOk};
 ghost use Rattle.cyc_select.specs.inside.Labelled.{Fits, IsFormedLine, words_of};
@@ -7,11 +7,11 @@ ghost use Rattle.cyc_asm.specs.inside.Layout.{most_of_each, position_of_each, he
 
 use crate::constants::MAX_REACH;
 use crate::slots;
-use cyc_machine::constants::TEXT_WORDS;
+use cyc_machine_model::constants::TEXT_WORDS;
 use cyc_select::Line;
 use std::alloc::{AllocError, Global};
 
-/// How many words a line takes at most.
+/// Returns the most words that a line takes.
 fn max_width(line: &Line) -> u32
     ensures { result ≡ words_of line.now }
 {
@@ -22,7 +22,7 @@ fn max_width(line: &Line) -> u32
     }
 }
 
-/// How many words the lines before each take at most.
+/// Returns for each line the most words that the lines before it take.
 pub(crate) fn most_of_each(alloc: Global, lines: &[Line]) -> Result<Vec<u32>, AllocError>
     requires { Fits lines.now }
     ensures { IfOk result (λ most. most.items ≡ most_of_each lines.now) }
@@ -36,7 +36,7 @@ pub(crate) fn most_of_each(alloc: Global, lines: &[Line]) -> Result<Vec<u32>, Al
     Ok(most)
 }
 
-/// Whether a branch that has at most `from` words before it is near a label that has at most `to`.
+/// Returns true if a branch with at most `from` words before it is near a label with at most `to` words before it.
 pub(crate) fn is_near(from: u32, to: u32) -> bool
     requires { (from ≤ TEXT_WORDS) × (to ≤ TEXT_WORDS) }
     ensures { result ≡ (nat_le to (from + MAX_REACH) && nat_le from (to + MAX_REACH)) }
@@ -44,7 +44,7 @@ pub(crate) fn is_near(from: u32, to: u32) -> bool
     to <= from + MAX_REACH && from <= to + MAX_REACH
 }
 
-/// How many words of its own the branch or jump of a line has before its slot.
+/// Returns the number of words of a line's branch or jump before its delay slot.
 fn head_width(lines: &[Line], named: &[bool], number: usize) -> u32
     requires named { AreNamed lines.now (length lines.now) named.now }
     ensures { result ≡ head_width (filling lines.now number) }
@@ -55,7 +55,7 @@ fn head_width(lines: &[Line], named: &[bool], number: usize) -> u32
     }
 }
 
-/// How many words the line of this number takes where a run may come to it.
+/// Returns the number of words that line `number` takes if it is reachable.
 pub(crate) fn width_in(lines: &[Line], named: &[bool], most: &[u32], number: usize) -> u32
     requires within { number < length lines.now }
     requires formed { All (IsFormedLine (length lines.now)) lines.now }
@@ -79,7 +79,7 @@ pub(crate) fn width_in(lines: &[Line], named: &[bool], most: &[u32], number: usi
     }
 }
 
-/// How many words the line of this number takes, to which a run may come or none does.
+/// Returns the number of words that line `number` takes: none if it is unreachable.
 fn width_at(lines: &[Line], named: &[bool], most: &[u32], unreached: bool, number: usize) -> u32
     requires within { number < length lines.now }
     requires formed { All (IsFormedLine (length lines.now)) lines.now }
@@ -96,7 +96,7 @@ fn width_at(lines: &[Line], named: &[bool], most: &[u32], unreached: bool, numbe
     }
 }
 
-/// How many words stand before each line, and how many there are.
+/// Returns the number of words before each line, and of all words.
 pub(crate) fn position_of_each(
     alloc: Global,
     lines: &[Line],
@@ -114,7 +114,7 @@ pub(crate) fn position_of_each(
     let mut unreached = false;
     positions.push_reserved(before);
     for number in 0..lines.len() {
-        unreached = slots::is_unreached_behind(unreached, lines, named, number);
+        unreached = slots::is_unreached_after(unreached, lines, named, number);
         before += width_at(lines, named, most, unreached, number);
         positions.push_reserved(before);
     }

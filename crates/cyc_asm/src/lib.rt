@@ -1,7 +1,8 @@
-//! The assembler: labelled code as words of text.
+//! The assembler: translates labelled code to words of text.
 //!
-//! The delay slot of a branch or jump has one of the three instructions before it where that changes nothing, else it is
-//! empty. A branch whose label may be out of reach goes round a jump. Nothing else is added.
+//! The delay slot of a branch or jump contains one of the three instructions before it if the move changes no behaviour; otherwise the slot
+//! is empty. A branch whose label may be out of reach is replaced by an inverse branch over a jump. The assembler adds no other
+//! instruction.
 #![tactic(auto)]
 
 mod assembler;

@@ -1,4 +1,4 @@
-//! In which order instructions stand.
+//! The order of instructions.
 
 ghost use Rattle.std.specs.Prelude.{◌≡◌, ◌+◌, ◌<◌, length, Some, IfOk};
 ghost use Rattle.std.specs.Option.{is_some};
@@ -10,14 +10,14 @@ use cyc_isa::{Instr, Register, reads, writes};
 use cyc_select::Line;
 use std::alloc::{AllocError, Global};
 
-/// Whether an instruction has nothing to do with a register.
+/// Returns true if an instruction neither reads nor writes a register.
 fn is_apart(instruction: Instr, register: Register) -> bool
     ensures { result ≡ is_apart instruction register }
 {
     !reads(instruction, register.number) && !writes(instruction, register.number)
 }
 
-/// Whether an instruction may as well be executed behind the other as before it.
+/// Returns true if the first instruction may be moved past the second.
 fn passes(instruction: Instr, other: Instr) -> bool
     ensures { result ≡ passes instruction other }
 {
@@ -63,12 +63,12 @@ fn passes(instruction: Instr, other: Instr) -> bool
     }
 }
 
-/// Whether the instruction of one line may as well be executed behind that of another.
-fn passes_line(line: &Line, behind: &Line) -> bool
-    ensures { result ≡ passes_line (Some line.now) (Some behind.now) }
+/// Returns true if the instruction of one line may be moved past that of the next.
+fn passes_line(line: &Line, following: &Line) -> bool
+    ensures { result ≡ passes_line (Some line.now) (Some following.now) }
 {
     match line {
-        Line::Ordinary { instruction } => match behind {
+        Line::Ordinary { instruction } => match following {
             Line::Ordinary { instruction: other } => passes(*instruction, *other),
             Line::Branch { .. } | Line::Jump { .. } | Line::Call { .. } | Line::Return => false,
         },
@@ -76,7 +76,7 @@ fn passes_line(line: &Line, behind: &Line) -> bool
     }
 }
 
-/// Whether the instruction of this line may as well be executed behind that of another, to which nothing goes.
+/// Returns true if the instruction of line `from` may be moved past that of line `number`, at which no label stands.
 fn passes_at(lines: &[Line], named: &[bool], from: usize, number: usize) -> bool
     requires within { (from < length lines.now) × (number < length lines.now) }
     requires named { AreNamed lines.now (length lines.now) named.now }
@@ -85,7 +85,7 @@ fn passes_at(lines: &[Line], named: &[bool], from: usize, number: usize) -> bool
     !named[number] && passes_line(&lines[from], &lines[number])
 }
 
-/// Whether it may as well be executed behind so many lines to which nothing goes.
+/// Returns true if the instruction may be moved past the next `count` lines, at which no label stands.
 fn passes_all(lines: &[Line], named: &[bool], from: usize, count: usize) -> bool
     requires within { from + count < length lines.now }
     requires named { AreNamed lines.now (length lines.now) named.now }
@@ -99,17 +99,17 @@ fn passes_all(lines: &[Line], named: &[bool], from: usize, count: usize) -> bool
     all
 }
 
-/// Whether a line has an instruction that may move behind another line.
-fn moves_behind(line: &Line, behind: &Line) -> bool
-    ensures { result ≡ is_some (moved (Some line.now) (Some behind.now)) }
+/// Returns true if the instruction of a line may fill the delay slot of another line.
+fn moves_after(line: &Line, following: &Line) -> bool
+    ensures { result ≡ is_some (moved (Some line.now) (Some following.now)) }
 {
     match line {
-        Line::Ordinary { instruction } => moves(*instruction, behind),
+        Line::Ordinary { instruction } => moves(*instruction, following),
         Line::Branch { .. } | Line::Jump { .. } | Line::Call { .. } | Line::Return => false,
     }
 }
 
-/// Whether it may as well be executed behind so many lines and the branch or jump behind those.
+/// Returns true if the instruction may be moved past the next `count` lines and fill the delay slot of the branch or jump after them.
 pub(crate) fn comes_down(lines: &[Line], named: &[bool], from: usize, count: usize) -> bool
     requires within { from + count + 1 < length lines.now }
     requires named { AreNamed lines.now (length lines.now) named.now }
@@ -118,10 +118,10 @@ pub(crate) fn comes_down(lines: &[Line], named: &[bool], from: usize, count: usi
     let number = from + (count + 1);
     passes_all(lines, named, from, count)
         && !named[number]
-        && moves_behind(&lines[from], &lines[number])
+        && moves_after(&lines[from], &lines[number])
 }
 
-/// Brings the instruction of this line behind so many others.
+/// Moves the instruction of this line past the next `count` lines.
 fn sink(lines: &mut [Line], from: usize, count: usize)
     requires within { from + count < length lines.old }
     ensures { lines.new ≡ sunk lines.old from count }
@@ -131,7 +131,7 @@ fn sink(lines: &mut [Line], from: usize, count: usize)
     }
 }
 
-/// Whether the slot of this line is filled.
+/// Returns true if the delay slot of this line is filled.
 fn is_filled(lines: &[Line], named: &[bool], number: usize) -> bool
     requires named { AreNamed lines.now (length lines.now) named.now }
     ensures { result ≡ is_some (filling lines.now number) }
@@ -139,8 +139,7 @@ fn is_filled(lines: &[Line], named: &[bool], number: usize) -> bool
     filling(lines, named, number).is_some()
 }
 
-/// Brings the instruction that has so many to pass down to the branch or jump of this number, where it fills the slot that
-/// would be empty.
+/// Moves the instruction `count` lines further up down to the branch or jump at `number`, if it then fills the otherwise empty delay slot.
 fn try_past(lines: &mut [Line], named: &[bool], number: usize, count: usize)
     requires within { number < length lines.old }
     requires named { AreNamed lines.old (length lines.old) named.now }
@@ -155,7 +154,7 @@ fn try_past(lines: &mut [Line], named: &[bool], number: usize, count: usize)
     }
 }
 
-/// Whether a line has no slot.
+/// Returns true if a line has no delay slot.
 pub(crate) fn is_ordinary(line: &Line) -> bool
     ensures { result ≡ is_ordinary line.now }
 {
@@ -165,9 +164,9 @@ pub(crate) fn is_ordinary(line: &Line) -> bool
     }
 }
 
-/// Brings the instruction that has one to pass, or else two, down to the branch or jump of this number, where it fills the slot
-/// that would be empty.
-/// Most lines have no slot, or one that is filled, and are passed over at once.
+/// Moves an instruction past one other, or else past two, down to the branch or jump at `number`, if it then fills the otherwise empty
+/// delay slot.
+/// Most lines have no slot or a filled one and are skipped at once.
 pub(crate) fn settle(lines: &mut [Line], named: &[bool], number: usize)
     requires within { number < length lines.old }
     requires named { AreNamed lines.old (length lines.old) named.now }
@@ -183,7 +182,7 @@ pub(crate) fn settle(lines: &mut [Line], named: &[bool], number: usize)
     try_past(lines, named, number, 2);
 }
 
-/// The lines in the order in which their instructions stand.
+/// Returns the lines in the order of their instructions in the text.
 pub(crate) fn arranged(
     alloc: Global,
     lines: &[Line],

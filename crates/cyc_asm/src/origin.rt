@@ -1,4 +1,4 @@
-//! From which line each word is made.
+//! The line from which each word is made.
 
 ghost use Rattle.std.specs.Prelude.{◌≡◌, ◌<◌, length, All};
 ghost use Rattle.cyc_select.specs.inside.Labelled.{Fits, IsFormedLine};
@@ -7,12 +7,12 @@ ghost use Rattle.cyc_asm.specs.inside.Slots.{AreNamed};
 
 use crate::layout::{most_of_each, width_in};
 use crate::order::{arranged, comes_down, is_ordinary, settle};
-use crate::slots::{filling, is_unreached_behind, named_of_each};
+use crate::slots::{filling, is_unreached_after, named_of_each};
 use cyc_select::{Code, Line};
 use cyc_words::Fault;
 use std::alloc::{AllocError, Global};
 
-/// How many instructions the one passes that comes down to the branch or jump of this number; 0 where none does.
+/// Returns the number of instructions past which one is moved to fill the delay slot of line `number`; 0 if none is.
 fn passed(lines: &[Line], named: &[bool], number: usize) -> usize
     requires within { number < length lines.now }
     requires named { AreNamed lines.now (length lines.now) named.now }
@@ -29,17 +29,17 @@ fn passed(lines: &[Line], named: &[bool], number: usize) -> usize
     0
 }
 
-/// The number of the line just before this one, if it has so many to pass, comes behind theirs.
+/// Moves the number of an instruction past the next `count` numbers, to just before line `number`.
 fn sink_number(numbers: &mut [usize], number: usize, count: usize) {
     for left in 0..count {
-        let behind = number.saturating_sub(count - left);
-        if behind > 0 && behind < numbers.len() {
-            numbers.swap(behind - 1, behind);
+        let following = number.saturating_sub(count - left);
+        if following > 0 && following < numbers.len() {
+            numbers.swap(following - 1, following);
         }
     }
 }
 
-/// Of each line, in the order in which their instructions stand, the number that it has in the code.
+/// Returns for each line, in the order of the instructions in the text, its number in the code.
 fn numbers_in_order(alloc: Global, lines: &[Line], named: &[bool]) -> Result<Vec<usize>, AllocError>
     requires { AreNamed lines.now (length lines.now) named.now }
 {
@@ -56,12 +56,12 @@ fn numbers_in_order(alloc: Global, lines: &[Line], named: &[bool]) -> Result<Vec
     Ok(numbers)
 }
 
-/// The number in the code of the line that is this one in order.
+/// Returns the number in the code of a line of the new order.
 fn number_at(numbers: &[usize], number: usize) -> usize {
     numbers.get(number).copied().unwrap_or(0)
 }
 
-/// The sources of the words of the line of this number, where lines stand in order and a run may come to it.
+/// Appends the source lines of the words of line `number` in the new order, which is reachable.
 fn push_sources(
     sources: &mut Vec<usize>,
     numbers: &[usize],
@@ -78,7 +78,7 @@ fn push_sources(
 {
     let own = number_at(numbers, number);
     if is_ordinary(&order[number]) {
-        // What fills a slot has the word behind that of its branch or jump.
+        // The instruction in a delay slot owns the word after that of its branch or jump.
         let first = match filling(order, named, number + 1) {
             Some(_) => number_at(numbers, number + 1),
             None => own,
@@ -97,7 +97,7 @@ fn push_sources(
     Ok(())
 }
 
-/// The sources of all words, where lines stand in order.
+/// Returns the source lines of all words, for lines in the new order.
 fn sources_in_order(
     alloc: Global,
     numbers: &[usize],
@@ -112,7 +112,7 @@ fn sources_in_order(
     let mut sources = Vec::new(alloc);
     let mut unreached = false;
     for number in 0..order.len() {
-        unreached = is_unreached_behind(unreached, order, named, number);
+        unreached = is_unreached_after(unreached, order, named, number);
         if !unreached {
             push_sources(&mut sources, numbers, order, named, &most, number)?;
         }
@@ -130,10 +130,10 @@ fn sources_of(alloc: Global, lines: &[Line]) -> Result<Vec<usize>, AllocError>
     sources_in_order(alloc, &numbers, &arranged, &named)
 }
 
-/// Of each word that `assemble` makes of labelled code, the number of the line that it is made from: that of an empty slot, and of a
-/// jump that a far branch goes round, from the line of the branch or jump.
+/// Returns for each word that `assemble` makes the number of the line that it comes from. An empty slot, and the jump skipped by a far
+/// branch, come from the line of the branch or jump.
 ///
-/// Only want of memory is refused.
+/// The only error is lack of memory.
 pub fn sources(alloc: Global, code: &Code) -> Result<Vec<usize>, Fault> {
     Ok(sources_of(alloc, code.lines())?)
 }

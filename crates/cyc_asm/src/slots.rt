@@ -1,15 +1,15 @@
-//! Which delay slots are filled, and with what, and to which lines no run comes.
+//! Selects the instructions that fill delay slots, and finds unreachable lines.
 
 ghost use Rattle.std.specs.Prelude.{◌≡◌, ◌<◌, length, Some, All, IfOk};
 ghost use Rattle.cyc_select.specs.inside.Labelled.{IsFormedLine};
-ghost use Rattle.cyc_asm.specs.inside.Slots.{is_movable, leaves, moves, label_of, goes_on, is_call, fills_behind, is_unreached_behind, filling, AreNamed};
+ghost use Rattle.cyc_asm.specs.inside.Slots.{is_movable, leaves, moves, label_of, goes_on, is_call, fills_after, is_unreached_after, filling, AreNamed};
 
 use cyc_isa::{Instr, reads, writes};
-use cyc_machine::constants::RETURN_ADDRESS;
+use cyc_machine_model::constants::RETURN_ADDRESS;
 use cyc_select::{Condition, Line};
 use std::alloc::{AllocError, Global};
 
-/// Whether an instruction may stand in a slot at all.
+/// Returns true if an instruction may stand in a delay slot.
 fn is_movable(instruction: Instr) -> bool
     ensures { result ≡ is_movable instruction }
 {
@@ -31,7 +31,7 @@ fn is_movable(instruction: Instr) -> bool
     }
 }
 
-/// Whether an instruction sets no register that a condition asks.
+/// Returns true if an instruction writes no register that the condition tests.
 fn leaves(instruction: Instr, condition: Condition) -> bool
     ensures { result ≡ leaves instruction condition }
 {
@@ -43,8 +43,8 @@ fn leaves(instruction: Instr, condition: Condition) -> bool
     }
 }
 
-/// Whether an instruction may as well be executed behind a line's branch or jump as before it. Most lines are neither, and are told
-/// at once.
+/// Returns true if an instruction may be executed after a line's branch or jump instead of before it. Most lines are neither branches nor
+/// jumps and are rejected at once.
 #[inline]
 pub(crate) fn moves(instruction: Instr, line: &Line) -> bool
     ensures { result ≡ moves instruction line.now }
@@ -75,7 +75,7 @@ fn moves_into_slot(instruction: Instr, line: &Line) -> bool
     }
 }
 
-/// Where a line goes, but for the line behind it.
+/// Returns the label that a line jumps to, if it has one.
 fn label_of(line: &Line) -> Option<usize>
     ensures { result ≡ label_of line.now }
 {
@@ -85,7 +85,7 @@ fn label_of(line: &Line) -> Option<usize>
     }
 }
 
-/// At which lines a label stands that is used.
+/// Returns for each line whether some line jumps to it.
 pub(crate) fn named_of_each(alloc: Global, lines: &[Line]) -> Result<Vec<bool>, AllocError>
     requires { All (IsFormedLine (length lines.now)) lines.now }
     ensures { IfOk result (λ named. AreNamed lines.now (length lines.now) named.items) }
@@ -108,17 +108,17 @@ fn is_call(line: &Line) -> bool
     }
 }
 
-/// Whether the line behind the one of this number is a call that may have its instruction in the slot.
-fn fills_behind(lines: &[Line], named: &[bool], number: usize) -> bool
+/// Returns true if the next line is a call whose delay slot this line may fill.
+fn fills_after(lines: &[Line], named: &[bool], number: usize) -> bool
     requires within { number < length lines.now }
     requires named { AreNamed lines.now (length lines.now) named.now }
-    ensures { result ≡ fills_behind lines.now number }
+    ensures { result ≡ fills_after lines.now number }
 {
-    let behind = number + 1;
-    behind < lines.len() && !named[behind] && is_call(&lines[behind])
+    let following = number + 1;
+    following < lines.len() && !named[following] && is_call(&lines[following])
 }
 
-/// Whether a line may be followed by the line behind it.
+/// Returns true if a line may be followed by the next one.
 fn goes_on(line: &Line) -> bool
     ensures { result ≡ goes_on (Some line.now) }
 {
@@ -128,9 +128,9 @@ fn goes_on(line: &Line) -> bool
     }
 }
 
-/// Whether no run comes to the line of this number, which is told whether none comes to the line before.
+/// Returns true if line `number` is unreachable, given whether the line before is.
 #[inline]
-pub(crate) fn is_unreached_behind(
+pub(crate) fn is_unreached_after(
     unreached: bool,
     lines: &[Line],
     named: &[bool],
@@ -138,19 +138,19 @@ pub(crate) fn is_unreached_behind(
 ) -> bool
     requires within { number < length lines.now }
     requires named { AreNamed lines.now (length lines.now) named.now }
-    ensures { result ≡ is_unreached_behind unreached lines.now number }
+    ensures { result ≡ is_unreached_after unreached lines.now number }
 {
     if number == 0 || named[number] || (!unreached && goes_on(&lines[number - 1])) {
         return false;
     }
     match lines[number] {
-        Line::Ordinary { .. } => !fills_behind(lines, named, number),
+        Line::Ordinary { .. } => !fills_after(lines, named, number),
         Line::Call { .. } => false,
         Line::Branch { .. } | Line::Jump { .. } | Line::Return => true,
     }
 }
 
-/// The instruction of the line before that fills the slot of the line of this number, if one does.
+/// Returns the instruction that fills the delay slot of line `number`, if one does.
 pub(crate) fn filling(lines: &[Line], named: &[bool], number: usize) -> Option<Instr>
     requires named { AreNamed lines.now (length lines.now) named.now }
     ensures { result ≡ filling lines.now number }

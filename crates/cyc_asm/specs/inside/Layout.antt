@@ -1,8 +1,8 @@
--- Where the lines of labelled code lie in the text: each behind the one before, with as many words as it needs. This
--- project's own choice.
+-- The positions of the lines of labelled code in the text: each follows the line before and takes as many words as its translation needs.
+-- This placement of lines is this project's own choice.
 use Rattle.std.specs.Prelude.{ℕ, zero, suc, ◌+◌, ◌*◌, Bool, ◌&&◌, nat_le, if◌then◌else◌, List, length, map, take, Option, Some, None, slice_get}
 use Rattle.std.specs.List.{range_with_len}
-use Rattle.cyc_machine.specs.State.{text_base}
+use Rattle.cyc_machine_model.specs.State.{text_base}
 use Rattle.cyc_select.specs.inside.Labelled.{Labelled, all_words}
 use Rattle.cyc_select.specs.declared.code.Line.{Line}
 use Rattle.cyc_select.specs.declared.code.Line.TheVariants as lines
@@ -11,7 +11,7 @@ use Rattle.cyc_asm.specs.declared.constants.TheConstants.{MAX_REACH}
 use Rattle.cyc_asm.specs.inside.Slots.{is_unreached, filling}
 use Rattle.cyc_asm.specs.inside.Order.{arranged}
 
--- how many words the lines before this one take at most
+-- The most words that the lines before this one take.
 abbrev pub most_before : List Line → ℕ → ℕ
 most_before code line = all_words (take line code)
 
@@ -20,16 +20,17 @@ is_near code from to =
     nat_le (most_before code to) (most_before code from + MAX_REACH)
     && nat_le (most_before code from) (most_before code to + MAX_REACH)
 
--- A branch or jump whose slot is filled has its word where the line before lies, and the slot's where it lies itself.
+-- The number of words of a branch or jump at its own position. If its delay slot is filled, the branch stands at the previous line's
+-- position, and its slot at its own.
 abbrev pub head_width : Option Instr → ℕ
 head_width (Some instruction) = 0
 head_width None = 1
 
--- the delay slot, and where a branch is not near the jump that it goes round, with its own
+-- The number of words after the branch or jump: its delay slot, and for a far branch the jump that it skips, with its slot.
 abbrev pub tail_width : (near : Bool) → ℕ
 tail_width near = if near then 1 else 3
 
--- how many words a line takes
+-- The number of words that a line takes, if it is reachable.
 abbrev pub width_of : List Line → (number : ℕ) → Line → ℕ
 width_of code number (lines.Ordinary instruction) = 1
 width_of code number (lines.Branch condition label) =
@@ -42,27 +43,27 @@ abbrev pub width_in : List Line → (number : ℕ) → Option Line → ℕ
 width_in code number (Some line) = width_of code number line
 width_in code number None = 0
 
--- a line that no run comes to takes none
+-- The number of words that a line takes; 0 if it is unreachable.
 abbrev pub width_at : List Line → ℕ → ℕ
 width_at code number = if is_unreached code number then 0 else width_in code number (slice_get code number)
 
--- the words before a line
+-- The number of words before a line.
 abbrev pub position : List Line → ℕ → ℕ
 position code zero = 0
 position code (suc number) = position code number + width_at code number
 
--- the same of each line, in order
+-- The maximum number of words before each line, in order.
 abbrev pub most_of_each : List Line → List ℕ
 most_of_each code = map (most_before code) (range_with_len 0 (length code))
 
--- and here also the words of all lines, behind the last one
+-- The number of words before each line, in order, and the number of all words.
 abbrev pub position_of_each : List Line → List ℕ
 position_of_each code = map (position code) (range_with_len 0 (length code + 1))
 
--- the address of a line among lines that lie in this order
+-- The address of a line among lines in this order.
 abbrev pub addresses_in : List Line → ℕ → ℕ
 addresses_in code number = text_base + 4 * position code number
 
--- the address of a line of code
+-- The address of a line of code.
 abbrev pub addresses_of : Labelled → ℕ → ℕ
 addresses_of code = addresses_in (arranged code.lines)

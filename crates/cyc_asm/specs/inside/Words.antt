@@ -1,4 +1,5 @@
--- The words of labelled code, as the assembler lays them out. That they mean the code is a theorem (the module `Text`).
+-- The words of labelled code as the assembler lays them out. A theorem shows that these words represent the labelled code (the module
+-- `Text`).
 use Rattle.std.specs.Prelude.{ℕ, zero, suc, ◌+◌, ◌-◌, ◌≤◌, List, [], ◌∷◌, ◌++◌, length, Bool, true, false, nat_lt, if◌then◌else◌, Option, Some, None, slice_get}
 use Rattle.cyc_isa.specs.Encoding.{word_of}
 use Rattle.cyc_isa.specs.Decoding.{jump_index_of}
@@ -16,20 +17,20 @@ use Rattle.cyc_asm.specs.inside.Slots.{is_unreached, filling}
 use Rattle.cyc_asm.specs.inside.Order.{arranged}
 use Rattle.cyc_asm.specs.inside.Text.{nothing, branch_of, inverse_of, return_register}
 
--- The offset of a branch: how many words the target is from the delay slot, in two's complement of 16 bits. From and to
--- are the words before the branch and before its target.
+-- The offset of a branch: the number of words from its delay slot to its target, as 16-bit two's complement. The arguments are the numbers
+-- of words before the branch and before its target.
 abbrev pub offset_of : (from to : ℕ) → ℕ
 offset_of from to = if nat_lt from to then to - (from + 1) else 65535 - (from - to)
 
--- the words of a jump with an empty delay slot
+-- The words of a jump with an empty delay slot.
 abbrev pub jump_words : JumpOp → (to : ℕ) → List ℕ
 jump_words op to = word_of (Jump op (jump_index_of (FIRST_INDEX + to))) ∷ 0 ∷ []
 
--- Where the branch or jump of a line may stand: where the line lies, or one word before it.
+-- The branch or jump of a line may be at the line's position or one word before it.
 abbrev pub IsHeadPosition : List Line → (number from : ℕ) → Type 0
 IsHeadPosition code number from = (from ≤ position code number) × (position code number ≤ from + 1)
 
--- the branch or jump of a line, from its place in the text, which has so many words before it
+-- The branch or jump of a line with `from` words before it.
 abbrev pub head_of_branch : Bool → List Line → (from : ℕ) → Condition → (label : ℕ) → Instr
 head_of_branch true code from condition label = branch_of condition (offset_of from (position code label))
 head_of_branch false code from condition label = branch_of (inverse_of condition) ROUND_OFFSET
@@ -46,7 +47,7 @@ abbrev pub head_in : List Line → (from number : ℕ) → Option Line → Instr
 head_in code from number (Some line) = head_of code from number line
 head_in code from number None = nothing
 
--- the words behind it: that of its delay slot, and where a branch is not near the jump that it goes round
+-- The words after it: its delay slot, and for a far branch the jump that it skips.
 abbrev pub round_words : Bool → List Line → (label : ℕ) → List ℕ
 round_words true code label = []
 round_words false code label = jump_words Plain (position code label)
@@ -59,7 +60,7 @@ abbrev pub tail_in : List Line → (number : ℕ) → Option Line → (slot : �
 tail_in code number (Some line) slot = tail_of code number line slot
 tail_in code number None slot = []
 
--- the words of a branch or jump, whose slot is filled with this
+-- The words of a branch or jump whose delay slot is filled by this instruction.
 abbrev pub words_filled : Option Instr → List Line → (number : ℕ) → Line → List ℕ
 words_filled None code number line = word_of (head_of code (position code number) number line) ∷ tail_of code number line 0
 words_filled (Some slotted) code number line = tail_of code number line (word_of slotted)
@@ -68,13 +69,13 @@ abbrev pub filled_in : List Line → (number : ℕ) → Option Line → List ℕ
 filled_in code number (Some line) = words_filled (filling code number) code number line
 filled_in code number None = []
 
--- the word of an ordinary instruction, or of the branch or jump behind it, into whose slot it moves
+-- The word of an ordinary instruction, or of the branch or jump after it if the instruction fills its slot.
 abbrev pub words_ordinary : Option Instr → List Line → (number : ℕ) → Instr → List ℕ
 words_ordinary None code number instruction = word_of instruction ∷ []
 words_ordinary (Some slotted) code number instruction =
     word_of (head_in code (position code number) (suc number) (slice_get code (suc number))) ∷ []
 
--- the words of a line
+-- The words that a line is translated to.
 abbrev pub words_of_line : List Line → (number : ℕ) → Line → List ℕ
 words_of_line code number (lines.Ordinary instruction) = words_ordinary (filling code (suc number)) code number instruction
 words_of_line code number line = words_filled (filling code number) code number line
@@ -83,11 +84,11 @@ abbrev pub words_in : List Line → (number : ℕ) → Option Line → List ℕ
 words_in code number (Some line) = words_of_line code number line
 words_in code number None = []
 
--- a line that no run comes to has none
+-- An unreachable line has no words.
 abbrev pub words_at : List Line → ℕ → List ℕ
 words_at code number = if is_unreached code number then [] else words_in code number (slice_get code number)
 
--- the words of the first so many lines, and of all
+-- The words of the first lines, and of all lines.
 abbrev pub words_before : List Line → ℕ → List ℕ
 words_before code zero = []
 words_before code (suc number) = words_before code number ++ words_at code number

@@ -2,7 +2,7 @@ use Rattle.std.proofs.Common.{◌≡◌, ℕ, List, [], ◌∷◌, ◌++◌, ◌
 use Rattle.std.specs.Prelude.{OnOk, slice_get}
 use Rattle.cyc_select.specs.declared.code.Line.TheVariants as lines
 use Rattle.cyc_asm.specs.inside.Words.{tail_in}
-use Rattle.cyc_asm.proofs.Tables.{length-position_of_each, position_at, head_at_line, words_behind, words_empty}
+use Rattle.cyc_asm.proofs.Tables.{length-position_of_each, position_at, head_at_line, words_after, words_empty}
 use Rattle.cyc_asm.proofs.emission.push_jump.Goals as goal
 
 pub bounds-positions-number : goal.bounds-positions-number
@@ -16,7 +16,7 @@ returns-in-Some c =
     let code = c.args.lines.now in
     subst (λ (ws : List ℕ). OnOk c.push_tail.result (c.push_tail.new.words.items ≡ c.args.words.now.items ++ ws))
     (ap (tail_in code c.args.number (slice_get code c.args.number)) c.encode.ensures.word
-    ∙ words_behind code c.args.number lines.Return (get_or code c.args.number lines.Return) _ c.requires.within refl (sym c.filling.ensures ∙ c.in-Some.is))
+    ∙ words_after code c.args.number lines.Return (get_or code c.args.number lines.Return) _ c.requires.within refl (sym c.filling.ensures ∙ c.in-Some.is))
     c.push_tail.ensures
 
 pub returns-in_ok-push-in-None : goal.returns-in_ok-push-in-None

@@ -10,11 +10,11 @@ bounds-positions-number c =
     let below = slice_get_within c.args.lines.now c.args.number (lines.Ordinary c.args.instruction) c.requires.here in
     omega (arith, long, below)
 
-pub head-behind-requires-clause-within : goal.head-behind-requires-clause-within
-head-behind-requires-clause-within c = within_moved c.args.lines.now c.args.number _ (sym c.filling.ensures ∙ c.in-Some.is)
+pub head-following-requires-clause-within : goal.head-following-requires-clause-within
+head-following-requires-clause-within c = within_moved c.args.lines.now c.args.number _ (sym c.filling.ensures ∙ c.in-Some.is)
 
-pub head-behind-requires-clause-from : goal.head-behind-requires-clause-from
-head-behind-requires-clause-from c =
+pub head-following-requires-clause-from : goal.head-following-requires-clause-from
+head-following-requires-clause-from c =
     head_before_line c.args.lines.now c.args.positions.now c.args.number lines.Return c.args.instruction c.requires.positions
     (slice_get_within c.args.lines.now c.args.number (lines.Ordinary c.args.instruction) c.requires.here)
     (get_or_from_slice_get c.args.lines.now c.args.number (lines.Ordinary c.args.instruction) lines.Return c.requires.here)
@@ -24,7 +24,7 @@ returns-in_ok-push-in-Some c =
     let below = slice_get_within c.args.lines.now c.args.number (lines.Ordinary c.args.instruction) c.requires.here in
     c.in_ok-push-in-Some.ensures.items ∙ ap (λ (w : ℕ). c.args.words.now.items ++ w ∷ []) c.encode.ensures.word
     ∙ ap (λ (ws : List ℕ). c.args.words.now.items ++ ws)
-    (words_moved c.args.lines.now c.args.number _ _ c.args.instruction _ (sym c.filling.ensures ∙ c.in-Some.is) (position_at c.args.lines.now c.args.positions.now c.args.number c.requires.positions below) c.head-behind.ensures)
+    (words_moved c.args.lines.now c.args.number _ _ c.args.instruction _ (sym c.filling.ensures ∙ c.in-Some.is) (position_at c.args.lines.now c.args.positions.now c.args.number c.requires.positions below) c.head-following.ensures)
 
 pub returns-in_ok-push-in-None : goal.returns-in_ok-push-in-None
 returns-in_ok-push-in-None c =

@@ -2,6 +2,6 @@ use Rattle.std.proofs.Common.{◌≡◌}
 use Rattle.cyc_asm.specs.inside.Words.{words_before}
 use Rattle.cyc_asm.proofs.emission.words_of_all.Given as goal
 
--- the lines so far have their words
+-- The words of the lines so far are emitted.
 abbrev pub invariant-loop-number : goal.invariant-loop-number
 invariant-loop-number l = l.words.items ≡ words_before l.lines l.number

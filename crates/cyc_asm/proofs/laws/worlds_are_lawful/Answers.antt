@@ -1,4 +1,4 @@
--- The law is a lemma.
+-- The law about worlds is proved by the imported lemma.
 use Rattle.cyc_asm.proofs.Running.{world_is_lawful}
 use Rattle.cyc_asm.proofs.laws.worlds_are_lawful.Goals as goal
 

@@ -4,7 +4,7 @@ use Rattle.std.specs.Vec.{vec_len, vec_capacity}
 use Rattle.cyc_asm.specs.inside.Layout.{most_before}
 use Rattle.cyc_asm.proofs.layout.most_of_each.Given as goal
 
--- the lines so far have theirs, and so has the next, and there is room for those of all
+-- The entries of the lines so far and of the next one are right, and the list has room for all.
 abbrev pub invariant-loop-line : goal.invariant-loop-line
 invariant-loop-line l =
     (l.most.items ≡ map (most_before l.lines) (range_with_len 0 l.line-index)) × (l.before ≡ most_before l.lines l.line-index)

@@ -6,7 +6,7 @@ use Rattle.cyc_asm.proofs.layout.position_of_each.Goals as goal
 
 pub width_at-before-requires-clause-unreached : goal.width_at-before-requires-clause-unreached
 width_at-before-requires-clause-unreached c =
-    c.is_unreached_behind-unreached.ensures ∙ unreached_in_turn c.args.lines.now c.loop-number.unreached c.loop-number.number c.loop-number.invariant.2
+    c.is_unreached_after-unreached.ensures ∙ unreached_in_turn c.args.lines.now c.loop-number.unreached c.loop-number.number c.loop-number.invariant.2
 
 pub overflow_add-before : goal.overflow_add-before
 overflow_add-before c =
@@ -20,7 +20,7 @@ loop-number-preserved c =
     let more = positions_of_more code c.loop-number.number c.loop-number.positions.items c.loop-number.before c.width_at-before.result c.loop-number.invariant.0 c.loop-number.invariant.1 c.width_at-before.ensures in (
       c.push_reserved-in-loop-number.ensures.items ∙ more.0,
       more.1,
-      c.is_unreached_behind-unreached.ensures
+      c.is_unreached_after-unreached.ensures
           ∙ unreached_in_turn code c.loop-number.unreached c.loop-number.number c.loop-number.invariant.2
           ∙ ap (is_unreached_before code) (let e : suc c.loop-number.number ≡ c.loop-number.number + 1 = omega arith in e),
       omega (arith, c.push_reserved-in-loop-number.ensures.len, c.loop-number.invariant.3),
