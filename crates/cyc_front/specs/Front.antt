@@ -1,0 +1,45 @@
+-- The accepted texts, and the faults of rejected texts. The front end of the compiler has four phases: the text has tokens, the tokens have
+-- a tree, the tree has a typed program, and the typed program satisfies the flow rules. Each phase defines separately what it accepts and
+-- rejects; this file combines the definitions. (That the first phase to reject a text determines the fault is this project's own choice.)
+use Rattle.std.specs.Prelude.{◌⊎◌, ℕ, List}
+use Rattle.cyc_words.specs.declared.fault.Fault.{Fault}
+use Rattle.cyc_syntax.specs.Names.{distinct_texts}
+use Rattle.cyc_syntax.specs.Tokens.{Token}
+use Rattle.cyc_syntax.specs.Symbols.{texts_in}
+use Rattle.cyc_syntax.specs.Trees.{Declaration}
+use Rattle.cyc_lex.specs.Refusals as lexer
+use Rattle.cyc_parse.specs.Acceptance as parser
+use Rattle.cyc_types.specs.TypedTrees.{Program}
+use Rattle.cyc_types.specs.typing.Programs.{IsTypedProgram, IsRefusedProgram}
+use Rattle.cyc_types.specs.flow.Programs.{IsAllowedProgram, IsStoppedProgram}
+
+-- The texts of the names among these tokens, in the order of their first occurrence.
+abbrev pub names_in : List Token → List (List ℕ)
+names_in tokens = distinct_texts (texts_in tokens)
+
+-- The text is accepted, with this typed program.
+pub record IsAcceptedText (text : List ℕ) (p : Program) : Type 0 where
+  pub tokens : List Token
+  pub tree : List Declaration
+  pub has_tokens : lexer.IsAccepted text tokens
+  pub has_tree : parser.IsAccepted tokens tree
+  pub typed : IsTypedProgram (names_in tokens) tree p
+  pub allowed : IsAllowedProgram p
+
+-- The first phase that rejects the text reports this fault: the lexer; the grammar, as defined by `OfGrammar`; the typing rules; or the
+-- flow rules.
+abbrev pub IsStoppedText : (OfGrammar : List ℕ → List Token → Fault → Type 0) → List ℕ → Fault → Type 0
+IsStoppedText OfGrammar text f =
+    lexer.IsRefused text f
+    ⊎ ((tokens : List Token) × lexer.IsAccepted text tokens × OfGrammar text tokens f)
+    ⊎ ((tokens : List Token) × (tree : List Declaration) × lexer.IsAccepted text tokens × parser.IsAccepted tokens tree × IsRefusedProgram (names_in tokens) tree f)
+    ⊎ ((tokens : List Token) × (tree : List Declaration) × (p : Program) × lexer.IsAccepted text tokens × parser.IsAccepted tokens tree × IsTypedProgram (names_in tokens) tree p × IsStoppedProgram p f)
+
+-- A fault reported for the text is true: the condition of its code holds at its place.
+abbrev pub IsRefusedText : List ℕ → Fault → Type 0
+IsRefusedText = IsStoppedText parser.IsRefused
+
+-- The text has this fault and is rejected with no other. If the tokens of a text have no tree, the definition only says that the text is
+-- rejected.
+abbrev pub HasFault : List ℕ → Fault → Type 0
+HasFault = IsStoppedText parser.IsFaulty

@@ -1,0 +1,28 @@
+//! Laws of the definitions in `specs/`. Each function of this file is empty, and its contract states one law, which is proved with the
+//! crate.
+
+ghost use Rattle.std.specs.Prelude.{◌≡◌, List, ℕ};
+ghost use Rattle.cyc_words.specs.declared.fault.Fault.{Fault};
+ghost use Rattle.cyc_types.specs.TypedTrees.{Program};
+ghost use Rattle.cyc_soundness.specs.Sound.{IsSound};
+ghost use Rattle.cyc_front.specs.Front.{IsAcceptedText, IsRefusedText};
+
+/// The front end is deterministic: a text is accepted with at most one typed program, and no fault of an accepted text is true.
+pub fn accepted_or_refused()
+    ensures one_program { (text : List ℕ) (p q : Program) → IsAcceptedText text p → IsAcceptedText text q → p ≡ q }
+    ensures not_both { (text : List ℕ) (p : Program) (f : Fault) → IsAcceptedText text p → IsRefusedText text f → ⊥ }
+{
+    cyc_lex::laws::one_answer();
+    cyc_parse::laws::one_tree();
+    cyc_parse::laws::refused_has_no_tree();
+    cyc_types::laws::one_typed_tree();
+    cyc_types::laws::typed_or_refused();
+    cyc_types::laws::allowed_or_stopped();
+}
+
+/// No dead access: no run of the program of an accepted text is dead or wrong after any number of steps, for every input.
+pub fn accepted_programs_are_sound()
+    ensures { (text : List ℕ) (p : Program) → IsAcceptedText text p → IsSound p }
+{
+    cyc_soundness::laws::typed_programs_are_sound();
+}
