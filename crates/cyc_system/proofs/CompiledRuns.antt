@@ -1,4 +1,4 @@
--- A run of a file that does what a program means, between a reader and a writer, against the program's limited run.
+-- A run of a file that does what a program means, between a reader and a writer, compared with the program's limited run.
 use Rattle.std.proofs.Common.{◌≡◌, ℕ, refl, suc, zero, ◌+◌, ◌-◌, ◌*◌, ◌≤◌, ◌<◌, List, [], Bool, false, Option, Some, None, Result, Ok, Err, sym, ap, subst, ◌∙◌, arith, inl, inr}
 use Rattle.std.specs.Prelude.{MatchBool}
 use Rattle.std.specs.List.{AllByRecursion}
@@ -6,65 +6,65 @@ use Rattle.cyc_words.proofs.DeviceLemmas.{Appends-nil, Keeps-some}
 use Rattle.cyc_elf.specs.declared.fault.ElfFault.{ElfFault}
 use Rattle.cyc_elf.specs.Image.{ImageContents}
 use Rattle.cyc_elf.specs.Reading.{reading}
-use Rattle.cyc_machine.specs.declared.event.End.{End}
+use Rattle.cyc_machine_model.specs.declared.event.End.{End}
 use Rattle.cyc_machine.specs.declared.fault.LoadFault.TheVariants as load
-use Rattle.cyc_machine.specs.Bounds.{Bounds, AreAllowed}
-use Rattle.cyc_machine.specs.Run.{World, Run, end_of}
-use Rattle.cyc_machine.specs.Start.{has_outside, start_world}
+use Rattle.cyc_machine_model.specs.Bounds.{Bounds, AreAllowed}
+use Rattle.cyc_machine_model.specs.Run.{World, Run, end_of}
+use Rattle.cyc_machine_model.specs.Start.{has_outside, start_world}
 use Rattle.cyc_store.specs.State.{StoreState}
-use Rattle.cyc_machine.proofs.RunLaws.{Goes-rests, run_after_run, over-end_of}
+use Rattle.cyc_machine_model.proofs.RunLaws.{Goes-rests, run_after_run, over-end_of}
 use Rattle.cyc_types.specs.TypedTrees.{Program}
-use Rattle.cyc_machine.specs.WorldMachine.{seen_of as seen_in}
-use Rattle.cyc_system.specs.declared.report.Report.{Report}
-use Rattle.cyc_system.specs.declared.report.RunFault.{RunFault}
-use Rattle.cyc_system.specs.declared.report.RunFault.TheVariants.{Elf, Load, Read, Write, Memory}
-use Rattle.cyc_system.specs.declared.report.Stop.{Stop}
-use Rattle.cyc_system.specs.declared.report.Stop.TheVariants as stops
-use Rattle.cyc_system.specs.Engine.{Devices, Rests, Tells, Leaves, Executes, Stops, Runs, Refuses, Starts, Answers, AnswersAnew}
-use Rattle.cyc_system.specs.FullPreservation.{text_words, limited, AreAlike, IsImageOf}
+use Rattle.cyc_machine_model.specs.WorldMachine.{seen_of as seen_in}
+use Rattle.cyc_emulator.specs.declared.report.Report.{Report}
+use Rattle.cyc_emulator.specs.declared.report.RunFault.{RunFault}
+use Rattle.cyc_emulator.specs.declared.report.RunFault.TheVariants.{Elf, Load, Read, Write, Memory}
+use Rattle.cyc_emulator.specs.declared.report.Stop.{Stop}
+use Rattle.cyc_emulator.specs.declared.report.Stop.TheVariants as stops
+use Rattle.cyc_emulator.specs.Engine.{Devices, Rests, Tells, Leaves, Executes, Stops, Runs, Refuses, Starts, Answers, AnswersAnew}
+use Rattle.cyc_compiler.specs.FullPreservation.{text_words, limited, AreAlike, IsImageOf}
 use Rattle.cyc_system.specs.CompiledRuns.{IsEndOf, IsAsFar, AnswersAs, RunsAs}
-use Rattle.cyc_system.proofs.Engines.{counted_run}
-use Rattle.cyc_system.proofs.Preservation.{are_alike, keeps_up}
+use Rattle.cyc_emulator.proofs.Engines.{counted_run}
+use Rattle.cyc_compiler.proofs.Preservation.{are_alike, keeps_up}
 
--- ---- the machine, whatever it runs
+-- ---- the machine with any image
 
--- an ended run can go on for any number of instructions
+-- An ended run can continue for any number of instructions.
 ended_rests : (count : ℕ) (w : World) (end : End) → end_of w ≡ Some end → Run count w w
 ended_rests zero w end ended = refl
 ended_rests (suc count) w end ended = (w, Goes-rests w end (over-end_of w end ended), ended_rests count w end ended)
 
--- a run that has stopped is one of the whole budget
+-- A stopped run extends to one of the whole budget.
 whole_run : (stop : Stop) (budget count : ℕ) (u w : World) → Run count u w → count ≤ budget → Stops stop budget count w → Run budget u w
 whole_run (stops.End end) budget count u w run few ended =
     subst (λ (k : ℕ). Run k u w) (let all : count + (budget - count) ≡ budget = omega (arith, few) in all)
     (run_after_run count (budget - count) u w w run (ended_rests (budget - count) w end ended))
 whole_run stops.Spent budget count u w run few (none, all) = subst (λ (k : ℕ). Run k u w) all run
 
--- where the world has an end, that is how the run has stopped
+-- If the world has an end, the run stopped with that end.
 stopped_at : (stop : Stop) (budget count : ℕ) (w : World) (end : End) → Stops stop budget count w → end_of w ≡ Some end → stop ≡ stops.End end
 stopped_at (stops.End e) budget count w end ended over = let same : Some e ≡ Some end = sym ended ∙ over in cc
 stopped_at stops.Spent budget count w end (none, all) over = absurd (let same : None ≡ Some end = sym none ∙ over in cc)
 
--- a reader that tells its bytes was given just these
-input_told : (told : Option (List ℕ)) (input bytes : List ℕ) → told ≡ Some input → Tells told bytes → bytes ≡ input
-input_told told input bytes is tells = sym (let same : input ≡ bytes = subst (λ (o : Option (List ℕ)). Tells o bytes) is tells in same)
+-- The known input bytes of a reader are the bytes that it supplied.
+input_reported : (reported : Option (List ℕ)) (input bytes : List ℕ) → reported ≡ Some input → Tells reported bytes → bytes ≡ input
+input_reported reported input bytes is tells = sym (let same : input ≡ bytes = subst (λ (o : Option (List ℕ)). Tells o bytes) is tells in same)
 
--- and has then just these left
-told_rest : (told new : Option (List ℕ)) (input rest : List ℕ) → told ≡ Some input → Leaves told new rest → new ≡ Some rest
-told_rest None new input rest is leaves = absurd (let e : None ≡ Some input = is in cc)
-told_rest (Some told) None input rest is leaves = absurd leaves
-told_rest (Some told) (Some left) input rest is leaves = ap (λ (l : List ℕ). Some l) leaves
+-- A reader with known bytes still has exactly these.
+reported_rest : (reported new : Option (List ℕ)) (input rest : List ℕ) → reported ≡ Some input → Leaves reported new rest → new ≡ Some rest
+reported_rest None new input rest is leaves = absurd (let e : None ≡ Some input = is in cc)
+reported_rest (Some reported) None input rest is leaves = absurd leaves
+reported_rest (Some reported) (Some left) input rest is leaves = ap (λ (l : List ℕ). Some l) leaves
 
--- ---- against the program
+-- ---- comparison with the program
 
 module _ (p : Program) (image : ImageContents) (limits : Bounds) (store : StoreState) (input : List ℕ) (alike : AreAlike p image limits store input) (grows : Bool) (budget : ℕ) (old new : Devices) where
   started : World
   started = start_world image limits store input
 
-  -- what is answered before anything is read or written
+  -- Without memory, the run fails before any byte is read or written.
   kept : old.remaining ≡ Some input → (result : Result Report RunFault) → result ≡ Err Memory → Rests old new → RunsAs p limits input (text_words image) budget old new result
   kept tells result is (unread, silent) =
-      let (steps, (seen, ends)) = alike.behind 0 (start_world image limits store input) refl in
+      let (steps, (seen, ends)) = alike.following 0 (start_world image limits store input) refl in
       subst (RunsAs p limits input (text_words image) budget old new) (sym is) (record {
         output = [];
         rest = input;
@@ -78,18 +78,18 @@ module _ (p : Program) (image : ImageContents) (limits : Bounds) (store : StoreS
   module _ (tells : old.remaining ≡ Some input) (count : ℕ) (w : World) (x : Executes (start_world image limits store) old new count w) where
     run : Run count started w
     unfolding started
-    run = subst (λ (bytes : List ℕ). Run count (start_world image limits store bytes) w) (input_told old.remaining input x.input tells x.told) (counted_run count (start_world image limits store x.input) w x.counted)
+    run = subst (λ (bytes : List ℕ). Run count (start_world image limits store bytes) w) (input_reported old.remaining input x.input tells x.reported) (counted_run count (start_world image limits store x.input) w x.counted)
 
-    -- what was written, whatever is answered
+    -- The output so far is the program's, whatever the result of the run.
     so_far : (result : Result Report RunFault) → AnswersAs p limits input (text_words image) budget (seen_in w) result → RunsAs p limits input (text_words image) budget old new result
     unfolding started
     so_far result answers =
-        let (steps, (seen, ends)) = alike.behind count w run in
+        let (steps, (seen, ends)) = alike.following count w run in
         record {
           output = w.output;
           rest = w.input;
           written = x.written;
-          left = told_rest old.remaining new.remaining input w.input tells x.unread;
+          left = reported_rest old.remaining new.remaining input w.input tells x.unread;
           steps = steps;
           seen = seen;
           answers = answers;
@@ -98,7 +98,7 @@ module _ (p : Program) (image : ImageContents) (limits : Bounds) (store : StoreS
     is_end : (stop : Stop) → Stops stop budget count w → IsEndOf p limits input (seen_in w) stop
     unfolding started
     is_end (stops.End end) ended =
-        let (steps, (seen, ends)) = alike.behind count w run in
+        let (steps, (seen, ends)) = alike.following count w run in
         let (ending, shown, has) = ends end ended in
         (steps, ending, shown, has, seen)
     is_end stops.Spent spent = tt

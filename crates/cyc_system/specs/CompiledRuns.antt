@@ -1,39 +1,38 @@
--- What `run` writes, reads and answers for a file that does what a program means: as the program's limited run says. So the two
--- calls together are told in the words of the source alone. This project's own choice.
+-- The output, the remaining input and the result of `run` for a file that does what a program means: those of the program's limited run.
+-- The results of compiling and running are described in terms of the source only. The form of these results is this project's own choice.
 use Rattle.std.specs.Prelude.{◌≡◌, ℕ, ◌+◌, ◌*◌, ◌≤◌, List, Some, Result, Ok, Err}
 use Rattle.std.specs.Io.KnownBytes.{Appends}
 use Rattle.cyc_words.specs.Ending.{Ending}
 use Rattle.cyc_words.specs.Seen.{Seen, showing, ComesTo}
-use Rattle.cyc_machine.specs.Bounds.{Bounds}
-use Rattle.cyc_machine.specs.Run.{ending_of}
-use Rattle.cyc_machine.specs.declared.event.End.{End}
+use Rattle.cyc_machine_model.specs.Bounds.{Bounds}
+use Rattle.cyc_machine_model.specs.Run.{ending_of}
+use Rattle.cyc_machine_model.specs.declared.event.End.{End}
 use Rattle.cyc_types.specs.TypedTrees.{Program}
 use Rattle.cyc_meaning.specs.State.{State, HasEnded, status_of}
 use Rattle.cyc_meaning.specs.SourceMachine.{seen_of}
-use Rattle.cyc_system.specs.Engine.{Devices}
-use Rattle.cyc_system.specs.FullPreservation.{limited}
-use Rattle.cyc_system.specs.declared.report.Report.{Report}
-use Rattle.cyc_system.specs.declared.report.RunFault.{RunFault}
-use Rattle.cyc_system.specs.declared.report.RunFault.TheVariants.{Elf, Load, Read, Write, Memory}
-use Rattle.cyc_system.specs.declared.report.Stop.{Stop}
-use Rattle.cyc_system.specs.declared.report.Stop.TheVariants as stops
+use Rattle.cyc_emulator.specs.Engine.{Devices}
+use Rattle.cyc_compiler.specs.FullPreservation.{limited}
+use Rattle.cyc_emulator.specs.declared.report.Report.{Report}
+use Rattle.cyc_emulator.specs.declared.report.RunFault.{RunFault}
+use Rattle.cyc_emulator.specs.declared.report.RunFault.TheVariants.{Elf, Load, Read, Write, Memory}
+use Rattle.cyc_emulator.specs.declared.report.Stop.{Stop}
+use Rattle.cyc_emulator.specs.declared.report.Stop.TheVariants as stops
 
--- The end that is answered is the program's: after some number of steps it has ended alike, has printed just this, and has just this left.
+-- The reported end is the program's: after some number of steps it has ended as reported, with exactly this output and remaining input.
 abbrev pub IsEndOf : Program → Bounds → (input : List ℕ) → Seen → Stop → Type 0
 IsEndOf p limits input seen (stops.End end) =
     (steps : ℕ) × (ending : Ending) × (ending_of end ≡ Some ending)
     × (status_of (limited p limits input steps) ≡ HasEnded ending) × (seen ≡ seen_of (limited p limits input steps))
 IsEndOf p limits input seen stops.Spent = Unit {0}
 
--- The run is as far as the program in this state: as much is written as the program has printed, as much is read as it has read, and where
--- the program has ended, that end is answered.
+-- The run is as far as the program in this state: as much is printed and read, and if the program has ended, that end is reported.
 abbrev pub IsAsFar : (program : State) → Seen → Stop → Type 0
 IsAsFar s seen stop =
     ComesTo (seen_of s) seen
     × ((ending : Ending) → status_of s ≡ HasEnded ending → (end : End) × (stop ≡ stops.End end) × (ending_of end ≡ Some ending))
 
--- What is answered, where this was written and this is left. With `each` instructions for each step of the program, and as many before the
--- first, a run is as far as the program. No answer says that the bytes are no image, or that the machine has no place for it.
+-- The result for this output and remaining input. With `each` instructions for each step of the program, and as many before the first, a
+-- run is as far as the program. No result says that the bytes are no image or that the machine has no place for it.
 abbrev pub AnswersAs : Program → Bounds → (input : List ℕ) → (each budget : ℕ) → Seen → Result Report RunFault → Type 0
 AnswersAs p limits input each budget seen (Ok report) =
     IsEndOf p limits input seen report.stop
@@ -44,8 +43,8 @@ AnswersAs p limits input each budget seen (Err Memory) = Unit {0}
 AnswersAs p limits input each budget seen (Err (Elf f)) = ⊥
 AnswersAs p limits input each budget seen (Err (Load f)) = ⊥
 
--- What is written, read and answered with this input is as the program's limited run says. Whatever the answer, what is written and what
--- the reader has left are, together, what the program has printed and has left after some number of its steps.
+-- The output, the remaining input and the result for this input are those of the program's limited run. Whatever the result, the written
+-- bytes and the rest of the reader together are the program's output and remaining input after some number of its steps.
 pub record RunsAs (p : Program) (limits : Bounds) (input : List ℕ) (each budget : ℕ) (old new : Devices) (result : Result Report RunFault) : Type 0 where
   pub output : List ℕ
   pub rest : List ℕ

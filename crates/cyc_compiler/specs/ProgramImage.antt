@@ -1,0 +1,66 @@
+-- The image of a compiled program. Text is readable (4) and executable (1), and data readable (4) and writable (2), as in the System V ABI,
+-- chapter 5, "Program Header". The choice of segments and of their addresses is this project's own.
+use Rattle.std.specs.Prelude.{◌≡◌, ℕ, zero, suc, ◌*◌, Option, List, [], ◌∷◌, length}
+use Rattle.std.specs.List.{flat_map}
+use Rattle.cyc_words.specs.Bytes.{bytes_of_word}
+use Rattle.cyc_elf.specs.Image.{SegmentContents, ImageContents}
+use Rattle.cyc_machine_model.specs.State.{text_base, data_base}
+use Rattle.cyc_machine_model.specs.declared.constants.TheConstants.{TEXT_BASE, DATA_BASE}
+use Rattle.cyc_compiler.specs.declared.image.TheConstants.{READ_AND_EXECUTE, READ_AND_WRITE}
+
+-- The bytes of words in memory, one word after another.
+abbrev pub bytes_of_words : List ℕ → List ℕ
+bytes_of_words words = flat_map bytes_of_word words
+
+abbrev pub segment_of : (vaddr flags : ℕ) → (words : List ℕ) → SegmentContents
+segment_of vaddr flags words = record {
+  vaddr = vaddr;
+  flags = flags;
+  bytes = bytes_of_words words;
+  size = length (bytes_of_words words);
+}
+
+abbrev pub text_segment : (words : List ℕ) → SegmentContents
+text_segment words = segment_of text_base READ_AND_EXECUTE words
+
+abbrev pub data_segment : (globals : List ℕ) → SegmentContents
+data_segment globals = segment_of data_base READ_AND_WRITE globals
+
+-- Without globals there is no data segment.
+abbrev pub data_segments : (globals : List ℕ) → List SegmentContents
+data_segments [] = []
+data_segments (word ∷ globals) = data_segment (word ∷ globals) ∷ []
+
+-- The image with these words of text, entered at the first, the initial values of the globals, and the limits.
+abbrev pub program_image : (words globals : List ℕ) (note : Option (ℕ × ℕ)) → ImageContents
+program_image words globals note = record {
+  entry = text_base;
+  segments = text_segment words ∷ data_segments globals;
+  note = note;
+}
+
+-- ---- the form of the image
+
+-- A segment of text begins at the start of the text range and is readable and executable. The file contains all bytes of the text segment.
+pub record IsText (s : SegmentContents) : Type 0 where
+  pub address : s.vaddr ≡ TEXT_BASE
+  pub flags : s.flags ≡ READ_AND_EXECUTE
+  pub stored : length s.bytes ≡ s.size
+
+-- A segment of data begins at the start of the data range, is readable and writable, and has this many words, those of the globals.
+pub record IsData (globals : ℕ) (s : SegmentContents) : Type 0 where
+  pub address : s.vaddr ≡ DATA_BASE
+  pub flags : s.flags ≡ READ_AND_WRITE
+  pub stored : length s.bytes ≡ s.size
+  pub size : s.size ≡ 4 * globals
+
+-- The segments of a program with this many words of globals: one of text, one of data if there are globals, and no others.
+abbrev pub AreOfProgram : (globals : ℕ) → List SegmentContents → Type 0
+AreOfProgram zero (text ∷ []) = IsText text
+AreOfProgram (suc globals) (text ∷ variables ∷ []) = IsText text × IsData (suc globals) variables
+AreOfProgram globals segments = ⊥
+
+-- The form of the image of a program with this many words of data: its entry is the start of its text.
+pub record HasForm (globals : ℕ) (image : ImageContents) : Type 0 where
+  pub entry : image.entry ≡ TEXT_BASE
+  pub segments : AreOfProgram globals image.segments

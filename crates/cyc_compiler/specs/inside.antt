@@ -1,0 +1,2 @@
+-- the contracts between the functions inside the crate
+pub mod Chain

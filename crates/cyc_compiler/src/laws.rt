@@ -1,0 +1,87 @@
+//! Laws of the definitions in `specs/`. Each function of this file is empty, and its contract states one law, which is proved with the
+//! crate.
+
+ghost use Rattle.std.specs.Prelude.{◌≡◌, ◌<◌, ◌≤◌, ◌+◌, ◌*◌, ◌++◌, length, List, [], ◌∷◌, ℕ, Some, Ok};
+ghost use Rattle.std.specs.List.{AllByRecursion};
+ghost use Rattle.cyc_elf.specs.Image.{ImageContents};
+ghost use Rattle.cyc_elf.specs.Reading.{reading};
+ghost use Rattle.cyc_store.specs.State.{StoreState, IsNew};
+ghost use Rattle.cyc_machine_model.specs.Bounds.{Bounds, AreAllowed};
+ghost use Rattle.cyc_machine_model.specs.Run.{World, Run, end_of, ending_of};
+ghost use Rattle.cyc_machine_model.specs.WorldMachine.{seen_of as seen_in};
+ghost use Rattle.cyc_machine_model.specs.declared.event.End.{End};
+ghost use Rattle.cyc_machine_model.specs.Start.{start_world};
+ghost use Rattle.cyc_words.specs.Seen.{showing};
+ghost use Rattle.cyc_types.specs.TypedTrees.{Program};
+ghost use Rattle.cyc_meaning.specs.Sizes.{size_per_weight, max_start_words};
+ghost use Rattle.cyc_types.specs.Texts.{IsOfTextProgram};
+ghost use Rattle.cyc_meaning.specs.SourceMachine.{seen_of};
+ghost use Rattle.cyc_front.specs.Front.{IsAcceptedText};
+ghost use Rattle.cyc_compiler.specs.FullPreservation.{limited, DoesTheSame, IsAhead, AreAlike, PrintAlike, IsLoadable, IsImageOf, text_words};
+ghost use Rattle.cyc_compiler.specs.Asking.{RunWithin, AsksAtTheEnd};
+
+/// The program of an accepted text has properties beyond the typing rules. In the program of an accepted text, structs have from 1 to 64
+/// fields, the numbers of exceptions are words, and each chain of pointer arithmetic is written separately.
+pub fn accepted_programs_are_of_texts()
+    ensures { (text : List ℕ) (p : Program) → IsAcceptedText text p → IsOfTextProgram p }
+{}
+
+/// The result of `compile` is read as an image, and the machine has a place for it.
+pub fn compiled_images_load()
+    ensures { (p : Program) (file : List ℕ) → IsImageOf p file → (image : ImageContents) × (reading file ≡ Ok image) × IsLoadable image }
+{}
+
+/// The text of a compiled image has at most 100 words for each token of the source text, plus 7 for the start.
+pub fn compiled_images_are_small()
+    ensures { (text : List ℕ) (p : Program) (file : List ℕ) → (a : IsAcceptedText text p) → (is : IsImageOf p file)
+        → text_words is.image ≤ max_start_words + size_per_weight * length a.tokens }
+{}
+
+/// A compiled image keeps pace with its program: if the source text has t tokens, n steps of the program take at most (n + 1) * (7 + 100 *
+/// t) instructions.
+pub fn compiled_images_keep_up()
+    ensures { (text : List ℕ) (p : Program) (file : List ℕ) → (a : IsAcceptedText text p) → (is : IsImageOf p file)
+        → (limits : Bounds) (store : StoreState) (input : List ℕ) → AreAllowed limits.pages limits.calls → IsNew limits.pages store
+        → AllByRecursion (λ b. b < 256) input
+        → (n count : ℕ) (w : World) → (n + 1) * (max_start_words + size_per_weight * length a.tokens) ≤ count
+        → Run count (start_world is.image limits store input) w → IsAhead (limited p limits input n) w }
+{}
+
+/// If an image does what a program means, each run of the machine is observed as the program's limited run. No run of the machine ends with
+/// a trap.
+pub fn images_run_alike()
+    ensures { (p : Program) (image : ImageContents) → DoesTheSame p image
+        → (limits : Bounds) (store : StoreState) (input : List ℕ) → AreAllowed limits.pages limits.calls → IsNew limits.pages store
+        → AllByRecursion (λ b. b < 256) input → AreAlike p image limits store input }
+{}
+
+/// Consequence for the output only: within (n + 1) * T instructions the machine has printed at least what the limited run prints in n
+/// steps. If the limited run has ended, the machine has ended in the same way, with equal output. The machine's output is always a prefix
+/// of the limited run's, and if the machine has ended, so has the limited run, in the same way.
+pub fn images_print_alike()
+    ensures { (p : Program) (image : ImageContents) → DoesTheSame p image
+        → (limits : Bounds) (store : StoreState) (input : List ℕ) → AreAllowed limits.pages limits.calls → IsNew limits.pages store
+        → AllByRecursion (λ b. b < 256) input → PrintAlike p image limits store input }
+{}
+
+/// An image that does what a program means has one result over every store that satisfies the laws. Suppose a run over one store has ended;
+/// then every run over another store ends in the same way within some number of instructions, with the same output and remaining input. The
+/// law does not bound that number by the first run's.
+pub fn images_end_alike_over_every_store()
+    ensures { (p : Program) (image : ImageContents) → DoesTheSame p image
+        → (limits : Bounds) (one other : StoreState) (input : List ℕ) → AreAllowed limits.pages limits.calls → IsNew limits.pages one → IsNew limits.pages other
+        → AllByRecursion (λ b. b < 256) input
+        → (m : ℕ) (v : World) (end : End) → Run m (start_world image limits one input) v → end_of v ≡ Some end
+        → (n : ℕ) × ((w : World) → Run n (start_world image limits other input) w
+        → ((last : End) × (end_of w ≡ Some last) × (ending_of last ≡ ending_of end)) × (seen_in w ≡ seen_in v)) }
+{}
+
+/// If an image requests a byte after the end of its input for the first time, so does its program. Given one more byte, whichever, the
+/// program reads it, and has printed exactly what the image has. Before it requests a byte, an image cannot know that its input has ended.
+pub fn asks_only_what_is_asked()
+    ensures { (p : Program) (image : ImageContents) → DoesTheSame p image
+        → (limits : Bounds) (store : StoreState) (input : List ℕ) (b : ℕ) → AreAllowed limits.pages limits.calls → IsNew limits.pages store
+        → AllByRecursion (λ b. b < 256) input → b < 256
+        → (count : ℕ) (w : World) → RunWithin count (start_world image limits store input) w → AsksAtTheEnd w
+        → (k : ℕ) × (seen_of (limited p limits (input ++ b ∷ []) k) ≡ showing w.output []) }
+{}

@@ -1,0 +1,3 @@
+-- running and listing
+pub mod Engines
+pub mod Listings

@@ -1,0 +1,148 @@
+-- The meaning of running an image between a reader and a writer. The meaning of such a run is this project's own choice.
+use Rattle.std.specs.Prelude.{◌≡◌, ℕ, zero, suc, ◌+◌, ◌-◌, ◌*◌, ◌/◌, ◌≤◌, ◌<◌, ◌==◌, max, length, IfSome, if◌then◌else◌, Bool, List, Option, None, Some, Result, Ok, Err, MatchBool, ◌⊎◌}
+use Rattle.std.specs.Io.KnownBytes.{Keeps, Appends}
+use Rattle.cyc_store.specs.State.{StoreState, demand, IsNew}
+use Rattle.cyc_elf.specs.declared.fault.ElfFault.{ElfFault}
+use Rattle.cyc_elf.specs.Image.{ImageContents}
+use Rattle.cyc_machine.specs.declared.fault.LoadFault.TheVariants as load
+use Rattle.cyc_machine_model.specs.declared.constants.TheConstants.{END_FULL, SERVICE, STACK_POINTER}
+use Rattle.cyc_machine_model.specs.declared.event.End.TheVariants as ends
+use Rattle.cyc_machine_model.specs.declared.event.Event.TheVariants.{WantsByte, Puts}
+use Rattle.cyc_machine_model.specs.Bounds.{Bounds}
+use Rattle.cyc_machine_model.specs.State.{Core, State, register, stack_end, words_per_call}
+use Rattle.cyc_machine_model.specs.Step.{Step, WantsMemory}
+use Rattle.cyc_machine_model.specs.Run.{World, Goes, Run, end_of}
+use Rattle.cyc_machine_model.specs.Start.{has_outside, start_world}
+use Rattle.cyc_emulator.specs.declared.report.Limit.{Limit}
+use Rattle.cyc_emulator.specs.declared.report.Limit.TheVariants.{Calls, Pages}
+use Rattle.cyc_emulator.specs.declared.report.Peaks.{Peaks}
+use Rattle.cyc_emulator.specs.declared.report.Report.{Report}
+use Rattle.cyc_emulator.specs.declared.report.Stop.{Stop}
+use Rattle.cyc_emulator.specs.declared.report.Stop.TheVariants as stops
+use Rattle.cyc_emulator.specs.declared.report.RunFault.{RunFault}
+use Rattle.cyc_emulator.specs.declared.report.RunFault.TheVariants.{Elf, Load, Read, Write, Memory}
+
+-- The observable state of the devices: the bytes still to be read, and the bytes written.
+pub record Devices : Type 0 where
+  pub remaining : Option (List ℕ)
+  pub written : Option (List ℕ)
+
+-- The run used neither the reader nor the writer.
+abbrev pub Rests : Devices → Devices → Type 0
+Rests old new = Keeps old.remaining new.remaining × Keeps old.written new.written
+
+-- A reader whose bytes are known has these bytes.
+abbrev pub Tells : Option (List ℕ) → List ℕ → Type 0
+Tells None bytes = Unit {0}
+Tells (Some reported) bytes = reported ≡ bytes
+
+-- A reader whose bytes were known still has these bytes.
+abbrev pub Leaves : Option (List ℕ) → Option (List ℕ) → List ℕ → Type 0
+Leaves None new rest = Unit {0}
+Leaves (Some reported) None rest = ⊥
+Leaves (Some reported) (Some left) rest = left ≡ rest
+
+-- `n` instructions lead from one world to another, and no instruction is executed after the end of the run.
+abbrev pub Counted : ℕ → World → World → Type 0
+Counted zero old new = new ≡ old
+Counted (suc count) old new = (mid : World) × Run count old mid × (end_of mid ≡ None) × Goes mid new
+
+-- The number of calls, for programs of this project's compiler. Each call has a frame of 256 words, the first just below the end of the
+-- stack. The stack pointer is the address of the last frame.
+abbrev pub calls_at : Core → ℕ
+calls_at core = (stack_end - register core STACK_POINTER) / (4 * words_per_call)
+
+-- The numbers of calls and of pages in use: those that the blocks of the store require.
+abbrev pub uses_at : State → Peaks
+uses_at s = record { calls = calls_at s.core; pages = demand s.memory.store }
+
+abbrev pub uses_in : World → Peaks
+uses_in w = uses_at w.machine
+
+-- The maximum of two peaks, number by number.
+abbrev pub higher : Peaks → Peaks → Peaks
+higher p q = record { calls = max p.calls q.calls; pages = max p.pages q.pages }
+
+-- `n` instructions lead from one world to another. `most` is the maximum of the calls and the pages in use over all worlds on the way, both
+-- ends included.
+abbrev pub HasPeaks : ℕ → World → World → (most : Peaks) → Type 0
+HasPeaks zero old new most = (new ≡ old) × (most ≡ uses_in old)
+HasPeaks (suc count) old new most =
+    (mid : World) × (before : Peaks) × HasPeaks count old mid before × (end_of mid ≡ None) × Goes mid new × (most ≡ higher before (uses_in new))
+
+-- `count` instructions were executed, on an input that begins with the reader's known bytes. The output of the executed instructions was
+-- written, and exactly the bytes that they requested were read.
+pub record Executes (start : List ℕ → World) (old new : Devices) (count : ℕ) (w : World) : Type 0 where
+  pub input : List ℕ
+  pub reported : Tells old.remaining input
+  pub counted : Counted count (start input) w
+  pub unread : Leaves old.remaining new.remaining w.input
+  pub written : Appends old.written new.written w.output
+
+-- The run stopped in this way: at its end, or because the budget was used up.
+abbrev pub Stops : Stop → (budget count : ℕ) → World → Type 0
+Stops (stops.End end) budget count w = end_of w ≡ Some end
+Stops stops.Spent budget count w = (end_of w ≡ None) × (count ≡ budget)
+
+-- The limit that a full run reached, by the last requested service. `EndFull` means that the program had no room for a call; any other
+-- service is one of the store, and means that the store had too few pages.
+abbrev pub limit_at : Stop → Core → Option Limit
+limit_at (stops.End ends.Full) core = if register core SERVICE == END_FULL then Some Calls else Some Pages
+limit_at stop core = None
+
+-- The report's description of the stopped run is right for this world.
+abbrev pub StandsAt : Report → World → Type 0
+StandsAt report w = (report.counter ≡ w.machine.core.counter) × (report.limit ≡ limit_at report.stop w.machine.core)
+
+-- The report is right for a run from this world. The report gives the number of instructions, within the budget, and how and where the run
+-- stopped. The report also gives the numbers of bytes read and printed, and the peaks of calls and pages if they were counted. All parts of
+-- the report describe one run.
+pub record IsReported (start : List ℕ → World) (budget : ℕ) (old new : Devices) (report : Report) : Type 0 where
+  pub world : World
+  pub executes : Executes start old new report.count world
+  pub few : report.count ≤ budget
+  pub stops : Stops report.stop budget report.count world
+  pub stands : StandsAt report world
+  pub read : report.read + length world.input ≡ length executes.input
+  pub printed : report.written ≡ length world.output
+  pub peaks : IfSome report.peaks (HasPeaks report.count (start executes.input) world)
+
+-- The next instruction requests a byte, or prints one.
+abbrev pub WantsByteNext : World → Type 0
+WantsByteNext w = (s : State) × Step w.machine WantsByte s
+
+abbrev pub PrintsNext : World → Type 0
+PrintsNext w = (byte : ℕ) × (s : State) × Step w.machine (Puts byte) s
+
+-- The result of a run from this world, over a store that grows or does not. If a device failed, or the store lacked memory, the instruction
+-- was not executed.
+abbrev pub Runs : (grows : Bool) (start : List ℕ → World) (budget : ℕ) (old new : Devices) → Result Report RunFault → Type 0
+Runs grows start budget old new (Ok report) = IsReported start budget old new report
+Runs grows start budget old new (Err Read) =
+    (count : ℕ) × (w : World) × Executes start old new count w × (count < budget) × (end_of w ≡ None) × WantsByteNext w
+Runs grows start budget old new (Err Write) =
+    (count : ℕ) × (w : World) × Executes start old new count w × (count < budget) × (end_of w ≡ None) × PrintsNext w
+Runs grows start budget old new (Err Memory) =
+    (count : ℕ) × (w : World) × Executes start old new count w × (count < budget) × (end_of w ≡ None) × WantsMemory grows w.machine
+Runs grows start budget old new (Err e) = ⊥
+
+-- A result before anything is read or written: a fault, or lack of memory.
+abbrev pub Refuses : RunFault → (old new : Devices) → Result Report RunFault → Type 0
+Refuses fault old new result = ((result ≡ Err fault) ⊎ (result ≡ Err Memory)) × Rests old new
+
+-- The result of running a loaded image.
+abbrev pub Starts : (grows : Bool) (start : List ℕ → World) (budget : ℕ) (old new : Devices) → Result Report RunFault → Type 0
+Starts grows start budget old new result = ((result ≡ Err Memory) × Rests old new) ⊎ Runs grows start budget old new result
+
+-- The result of a call with this store, where `read` is the meaning of the image's bytes. The result is the fault of reading, that of an
+-- image outside the machine's memory, or the result of running it.
+abbrev pub Answers : (grows : Bool) → StoreState → Result ImageContents ElfFault → Bounds → (budget : ℕ) (old new : Devices) → Result Report RunFault → Type 0
+Answers grows store (Err f) limits budget old new result = Refuses (Elf f) old new result
+Answers grows store (Ok image) limits budget old new result =
+    MatchBool (has_outside image)
+    (Refuses (Load load.Outside) old new result)
+    (Starts grows (start_world image limits store) budget old new result)
+
+-- The result of a call that makes its own new store, with the pages of the limits.
+abbrev pub AnswersAnew : (grows : Bool) → Result ImageContents ElfFault → Bounds → (budget : ℕ) (old new : Devices) → Result Report RunFault → Type 0
+AnswersAnew grows read limits budget old new result = (store : StoreState) × IsNew limits.pages store × Answers grows store read limits budget old new result

@@ -1,0 +1,3 @@
+-- the contracts between the functions inside the crate
+pub mod Loading
+pub mod Turn

@@ -1,0 +1,109 @@
+//! The results of running or listing an image.
+
+ghost use Rattle.std.specs.Prelude.{◌≡◌};
+
+use cyc_elf::ElfFault;
+use cyc_machine::{End, LoadFault};
+use std::alloc::AllocError;
+use thiserror::Error;
+
+/// The way in which a run stopped.
+#[derive(Clone, Copy, Debug, PartialEq, Eq)]
+pub enum Stop {
+    /// The run ended.
+    End(End),
+    /// The budget was used up before the run ended.
+    Spent,
+}
+
+/// The limit that a full run reached.
+#[derive(Clone, Copy, Debug, PartialEq, Eq)]
+pub enum Limit {
+    /// The limit of calls: the program found no room for one more call, and ended the run.
+    Calls,
+    /// The limit of pages: the store had too few pages for a request.
+    Pages,
+}
+
+/// The peaks of a run.
+#[derive(Clone, Copy, Debug, PartialEq, Eq)]
+pub struct Peaks {
+    /// The most calls at once.
+    pub calls: u32,
+    /// The most pages in use at once.
+    pub pages: u32,
+}
+
+/// The result of a run: how and where it stopped, the number of instructions, and the resources used.
+#[derive(Clone, Copy, Debug, PartialEq, Eq)]
+pub struct Report {
+    pub stop: Stop,
+    pub count: u64,
+    /// The address of the instruction that ended the run, or of the next one.
+    pub counter: u32,
+    /// The limit that was reached, if the run is full.
+    pub limit: Option<Limit>,
+    /// The number of bytes read from the input.
+    pub read: u64,
+    /// The number of bytes printed.
+    pub written: u64,
+    /// The peaks of calls and of pages in use, if they were counted.
+    pub peaks: Option<Peaks>,
+}
+
+/// The reason why an image was not run to a stop, or not listed. Lack of memory is `Memory`, wherever it occurs; a listing reports neither
+/// `Load` nor `Read`.
+#[derive(Clone, Copy, Debug, PartialEq, Eq, Error)]
+pub enum RunFault {
+    /// The bytes are no image.
+    #[error("{0}")]
+    Elf(ElfFault),
+    /// The image does not fit into the machine's memory.
+    #[error("{0}")]
+    Load(LoadFault),
+    /// The reader failed.
+    #[error("the input could not be read")]
+    Read,
+    /// The writer failed.
+    #[error("the output could not be written")]
+    Write,
+    /// Memory ran out.
+    #[error("out of memory")]
+    Memory,
+}
+
+impl From<AllocError> for RunFault {
+    ghost use Rattle.cyc_emulator.specs.declared.report.RunFault.TheVariants.{Memory};
+
+    ghost from_gives = { λ _ e. e ≡ Memory };
+
+    fn from(_e: AllocError) -> RunFault {
+        RunFault::Memory
+    }
+}
+
+impl From<ElfFault> for RunFault {
+    ghost use Rattle.cyc_emulator.specs.Faults.{of_elf};
+
+    ghost from_gives = { λ f e. e ≡ of_elf f };
+
+    fn from(fault: ElfFault) -> RunFault {
+        match fault {
+            ElfFault::Memory => RunFault::Memory,
+            fault => RunFault::Elf(fault),
+        }
+    }
+}
+
+impl From<LoadFault> for RunFault {
+    ghost use Rattle.cyc_emulator.specs.Faults.{of_load};
+
+    ghost from_gives = { λ f e. e ≡ of_load f };
+
+    fn from(fault: LoadFault) -> RunFault {
+        match fault {
+            LoadFault::Memory => RunFault::Memory,
+            LoadFault::Outside => RunFault::Load(LoadFault::Outside),
+        }
+    }
+}

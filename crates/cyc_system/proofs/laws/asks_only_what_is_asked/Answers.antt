@@ -1,5 +1,0 @@
-use Rattle.cyc_system.proofs.Asking.{asks_what_is_asked}
-use Rattle.cyc_system.proofs.laws.asks_only_what_is_asked.Goals as goal
-
-pub returns : goal.returns
-returns c = asks_what_is_asked

@@ -1,5 +1,0 @@
-use Rattle.cyc_system.proofs.KeepingUp.{keeps_up_by_tokens}
-use Rattle.cyc_system.proofs.laws.compiled_images_keep_up.Goals as goal
-
-pub returns : goal.returns
-returns c = keeps_up_by_tokens

@@ -1,5 +1,0 @@
-use Rattle.cyc_system.proofs.Preservation.{ends_alike}
-use Rattle.cyc_system.proofs.laws.images_end_alike_over_every_store.Goals as goal
-
-pub returns : goal.returns
-returns c = ends_alike

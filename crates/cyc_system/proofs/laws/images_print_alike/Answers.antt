@@ -1,5 +1,0 @@
-use Rattle.cyc_system.proofs.Preservation.{print_alike}
-use Rattle.cyc_system.proofs.laws.images_print_alike.Goals as goal
-
-pub returns : goal.returns
-returns c = print_alike

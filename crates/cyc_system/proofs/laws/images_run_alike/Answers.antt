@@ -1,5 +1,0 @@
-use Rattle.cyc_system.proofs.Preservation.{are_alike}
-use Rattle.cyc_system.proofs.laws.images_run_alike.Goals as goal
-
-pub returns : goal.returns
-returns c = are_alike
