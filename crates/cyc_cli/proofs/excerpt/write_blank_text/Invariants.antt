@@ -1,0 +1,11 @@
+-- The characters so far are written, and the remaining bytes are UTF-8.
+use Rattle.std.proofs.Common.{◌≡◌, ℕ, List, ◌++◌, IsUtf8, chars, flat_map}
+use Rattle.std.specs.Str.Iter.{chars_rest}
+use Rattle.std.specs.Fmt.{HasWritten, IsPlainFormatter}
+use Rattle.cyc_cli.specs.inside.Excerpt.{blank_char}
+use Rattle.cyc_cli.proofs.excerpt.write_blank_text.Given as goal
+
+abbrev pub invariant-loop-c : goal.invariant-loop-c
+invariant-loop-c g l = IsUtf8 (chars_rest l.c-iterator) × (IsPlainFormatter l.fn.f
+    → (done : List ℕ) × HasWritten g.W.Write.write_str_gives l.fn.f done l.f
+    × (done ++ flat_map blank_char (chars (chars_rest l.c-iterator)) ≡ flat_map blank_char (chars l.fn.text)))

@@ -1,0 +1,43 @@
+-- The limits that a command line gives, and their effect. The form of limits on a command line is this project's own choice.
+use Rattle.std.specs.Prelude.{ℕ, ◌≤◌, ◌&&◌, nat_le, min, max, if◌then◌else◌, Option, Some, None, IfSome, unwrap_or}
+use Rattle.cyc_machine_model.specs.Bounds.{Bounds}
+use Rattle.cyc_machine_model.specs.declared.constants.TheConstants.{MIN_PAGES, MAX_PAGES, MIN_CALLS, MAX_CALLS}
+use Rattle.cyc_cli.specs.declared.limits.TheConstants.{DEFAULT_PAGES, DEFAULT_CALLS}
+
+-- The limits given on a command line, each optional.
+pub record Given : Type 0 where
+  pub pages : Option ℕ
+  pub calls : Option ℕ
+
+-- Each given limit is in its range.
+pub record AreInRange (pages calls : Option ℕ) : Type 0 where
+  pub pages_fit : IfSome pages (λ n. (MIN_PAGES ≤ n) × (n ≤ MAX_PAGES))
+  pub calls_fit : IfSome calls (λ n. (MIN_CALLS ≤ n) × (n ≤ MAX_CALLS))
+
+-- The limits in an image that is compiled with these: none if neither is given, else both, with the default for a missing one.
+abbrev pub carried_by : (pages calls : Option ℕ) → Option (ℕ × ℕ)
+carried_by None None = None
+carried_by None (Some calls) = Some (DEFAULT_PAGES, calls)
+carried_by (Some pages) calls = Some (pages, unwrap_or calls DEFAULT_CALLS)
+
+-- The limits for a run that needs this many pages and calls. Each limit is the need or the least allowed limit, and none is returned if a
+-- need exceeds the greatest allowed limit.
+abbrev pub limits_for : (pages calls : ℕ) → Option Given
+limits_for pages calls =
+    if nat_le pages MAX_PAGES && nat_le calls MAX_CALLS
+    then Some (record { pages = Some (max MIN_PAGES pages); calls = Some (max MIN_CALLS calls) })
+    else None
+
+-- The limits of a run of an image with these limits, or with none: each is the given one, else the image's, else the default.
+abbrev pub limits_by : Given → (note : Option (ℕ × ℕ)) → Bounds
+limits_by given None = record { pages = unwrap_or given.pages DEFAULT_PAGES; calls = unwrap_or given.calls DEFAULT_CALLS }
+limits_by given (Some limits) = record { pages = unwrap_or given.pages limits.0; calls = unwrap_or given.calls limits.1 }
+
+-- A number, limited by an optional cap.
+abbrev pub capped : Option ℕ → ℕ → ℕ
+capped None n = n
+capped (Some most) n = min n most
+
+-- Limits, each limited by its cap.
+abbrev pub capped_by : Given → Bounds → Bounds
+capped_by caps limits = record { pages = capped caps.pages limits.pages; calls = capped caps.calls limits.calls }

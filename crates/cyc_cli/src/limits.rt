@@ -1,0 +1,87 @@
+//! The limits that a command line gives, and their effect.
+
+ghost use Rattle.std.specs.Prelude.{◌≡◌, IfSome};
+ghost use Rattle.cyc_machine_model.specs.Bounds.{AreAllowed};
+ghost use Rattle.cyc_cli.specs.inside.Limits.{capped, capped_by, carried_by, limits_by, limits_for};
+
+use cyc_machine::Limits;
+use cyc_machine::constants::{MAX_CALLS, MAX_PAGES, MIN_CALLS, MIN_PAGES};
+use std::marker::Model;
+
+/// The pages of a run without given limits.
+pub const DEFAULT_PAGES: u32 = 1024;
+
+/// The limit of calls for a run if no limits are given.
+pub const DEFAULT_CALLS: u32 = 4096;
+
+/// Pages and calls as a command line gives them: each in its range, or omitted.
+#[derive(Clone, Copy)]
+pub struct GivenLimits {
+    pub(crate) pages: Option<u32>,
+    pub(crate) calls: Option<u32>,
+}
+
+// Contracts refer to both limits.
+impl Model for GivenLimits {
+    ghost use Rattle.cyc_cli.specs.inside.Limits.{Given, AreInRange};
+
+    ghost Value = { Given };
+
+    ghost view = { λ g. record { pages = g.pages; calls = g.calls } };
+
+    ghost invariant = { λ g. AreInRange g.pages g.calls };
+
+    ghost inverse = { λ g. record { pages = g.pages; calls = g.calls } };
+}
+
+/// Returns a number, limited by an optional cap.
+fn capped(number: u32, cap: Option<u32>) -> u32
+    ensures { result ≡ capped cap number }
+{
+    match cap {
+        Some(most) => number.min(most),
+        None => number,
+    }
+}
+
+impl GivenLimits {
+    /// Returns both limits for a run that needs this many pages and calls: as many, or the least allowed limit. Returns `None` if the
+    /// program needs more than the greatest allowed limit.
+    pub fn for_needs(pages: u64, calls: u64) -> Option<GivenLimits>
+        ensures { result ≡ limits_for pages calls }
+    {
+        if pages <= u64::from(MAX_PAGES) && calls <= u64::from(MAX_CALLS) {
+            Some(GivenLimits {
+                pages: Some(MIN_PAGES.max(pages as u32)),
+                calls: Some(MIN_CALLS.max(calls as u32)),
+            })
+        } else {
+            None
+        }
+    }
+
+    /// Returns the limits in an image that is compiled with these: both limits, with the default for a missing one; none if neither is
+    /// given.
+    pub fn carried(self) -> Option<(u32, u32)>
+        ensures value { result ≡ carried_by self.pages self.calls }
+        ensures allowed { IfSome result (λ limits. AreAllowed limits.0 limits.1) }
+    {
+        if self.pages.is_none() && self.calls.is_none() {
+            return None;
+        }
+        let pages = self.pages.unwrap_or(DEFAULT_PAGES);
+        Some((pages, self.calls.unwrap_or(DEFAULT_CALLS)))
+    }
+
+    /// Returns the limits of a run of an image with the limits `note`: each is the one given here, else the image's, else the default, but
+    /// none is above that of `caps`.
+    pub fn of_run(self, caps: GivenLimits, note: Option<(u32, u32)>) -> Limits
+        requires { IfSome note (λ limits. AreAllowed limits.0 limits.1) }
+        ensures { result ≡ capped_by caps (limits_by self note) }
+    {
+        let (pages, calls) = note.unwrap_or((DEFAULT_PAGES, DEFAULT_CALLS));
+        let pages = capped(self.pages.unwrap_or(pages), caps.pages);
+        let calls = capped(self.calls.unwrap_or(calls), caps.calls);
+        Limits::new(pages, calls).unwrap()
+    }
+}
