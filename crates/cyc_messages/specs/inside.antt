@@ -1,2 +1,2 @@
--- which refusals are explained by names, types or regions, and the tree that they are of
+-- the faults that have an explanation of names, types or regions
 pub mod Refusal

@@ -1,18 +1,15 @@
-//! What a person reads of a refusal by names, types or regions, beside what its code says.
-ghost use Rattle.std.specs.Prelude.{◌≡◌, ◌⊎◌, IfOk, IfErr, IfSome};
-ghost use Rattle.cyc_words.specs.Fault.{memory_fault};
-ghost use Rattle.cyc_system.specs.Front.{IsRefusedText};
-ghost use Rattle.cyc_messages.specs.inside.Refusal.{HasTree, is_explained};
+//! The explanation of a fault of names, types or regions, in addition to its code.
+ghost use Rattle.std.specs.Prelude.{◌≡◌, IfSome};
+ghost use Rattle.cyc_front.specs.Front.{IsRefusedText};
+ghost use Rattle.cyc_messages.specs.inside.Refusal.{is_explained};
 
 use cyc_check::refusal;
 use cyc_explain::{Explanation, explain};
-use cyc_lex::lex;
-use cyc_parse::parse;
-use cyc_syntax::Tree;
+use cyc_rendering::tree_of;
 use cyc_words::{Code, Fault};
 use std::alloc::Global;
 
-/// Whether a refusal is the checker's, of names, types or regions.
+/// Returns true if a fault is the checker's, of names, types or regions.
 fn is_explained(code: Code) -> bool
     ensures { result ≡ is_explained code }
 {
@@ -32,19 +29,10 @@ fn is_explained(code: Code) -> bool
     }
 }
 
-/// The tree of a text.
-pub fn tree_of(alloc: Global, text: &[u8]) -> Result<Tree, Fault>
-    ensures tree { IfOk result (HasTree text.now) }
-    ensures refused { IfErr result (λ f. (f ≡ memory_fault) ⊎ IsRefusedText text.now f) }
-{
-    let tokens = lex(alloc, text)?;
-    parse(alloc, &tokens, text)
-}
-
-/// The rule that is broken where a text is refused with this fault, with the names, types or regions at
-/// hand, in lines; the last one may be a hint. Where memory runs out there is nothing to say.
+/// Returns the violated rule for a text with this fault, with the names, types or regions involved, in lines; the last may be a hint.
+/// Returns `None` if memory runs out.
 pub fn words_for(alloc: Global, text: &[u8], fault: Fault) -> Option<Explanation>
-    // There are words only for what the text is refused for.
+    // Only an actual fault of the text has an explanation.
     ensures { IfSome result (λ words. IsRefusedText text.now fault) }
 {
     if !is_explained(fault.code) {

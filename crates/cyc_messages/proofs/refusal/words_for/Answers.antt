@@ -11,11 +11,12 @@ use Rattle.cyc_words.specs.Fault.{memory_fault}
 use Rattle.cyc_syntax.specs.declared.tree.Tree.{Tree}
 use Rattle.cyc_syntax.specs.inside.TreeView.{declarations_of}
 use Rattle.cyc_types.specs.typing.Programs.{IsRefusedProgram}
-use Rattle.cyc_system.specs.Front.{names_in, IsRefusedText}
-use Rattle.cyc_messages.specs.inside.Refusal.{HasTree, is_explained}
+use Rattle.cyc_front.specs.Front.{names_in, IsRefusedText}
+use Rattle.cyc_rendering.specs.inside.Reading.{HasTree}
+use Rattle.cyc_messages.specs.inside.Refusal.{is_explained}
 use Rattle.cyc_messages.proofs.refusal.words_for.Goals as goal
 
--- the test of two faults
+-- The test that two faults are equal.
 not_false : (x : Bool) → false ≡ not x → x ≡ true
 not_false true e = refl
 not_false false e = cc
@@ -32,7 +33,7 @@ same_fault a b e =
     ∙ (ap (λ (line : ℕ). fault_of b.code line a.column) (eqb-true a.line b.line lines)
     ∙ ap (λ (column : ℕ). fault_of b.code b.line column) (eqb-true a.column b.column columns))
 
--- what the checker refuses a text's tree for, the text is refused for
+-- A fault that the checker finds in a text's tree is a fault of the text.
 refused : (text : List ℕ) (t : Tree) (found fault : Fault) → is_explained fault.code ≡ true → HasTree text t
     → (found ≡ memory_fault) ⊎ IsRefusedProgram t.names (declarations_of t) found → found ≡ fault → IsRefusedText text fault
 refused text t found fault explained has (inl memory) same =

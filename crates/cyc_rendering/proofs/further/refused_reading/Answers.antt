@@ -3,10 +3,10 @@ use Rattle.cyc_words.specs.contracts.fault.Code.{the_type}
 use Rattle.std.proofs.Common.{◌≡◌, ◌⊎◌, inl, inr, ℕ, false, List, subst}
 use Rattle.cyc_words.specs.declared.fault.Fault.{Fault}
 use Rattle.cyc_words.specs.Fault.{memory_fault}
-use Rattle.cyc_system.specs.Front.{IsRefusedText}
-use Rattle.cyc_messages.proofs.further.refused_reading.Goals as goal
+use Rattle.cyc_front.specs.Front.{IsRefusedText}
+use Rattle.cyc_rendering.proofs.further.refused_reading.Goals as goal
 
--- a fault whose code is another is not want of memory
+-- A fault with another code is not lack of memory.
 left_over : (text : List ℕ) (f : Fault) → false ≡ sameb the_type f.code memory_fault.code → (f ≡ memory_fault) ⊎ IsRefusedText text f → IsRefusedText text f
 left_over text f other (inl memory) =
     let e : false ≡ sameb the_type memory_fault.code memory_fault.code = subst (λ (x : Fault). false ≡ sameb the_type x.code memory_fault.code) memory other in

@@ -1,18 +1,19 @@
-//! Refusals and warnings for a program that reads them: what the objects of `--json` have.
+//! Faults and warnings as JSON: the members of the objects that `--json` prints.
 use crate::expected::text_before;
 use crate::flow_cause::Deed;
 use crate::message::{Advice, Lines, Message, Summary};
-use cyc_terminal::{Edit, Entry, Range, Related, Shown, is_in_name};
-use cyc_warnings::{Found, Warning, text_of};
+use crate::warnings::WarningText;
+use cyc_cli::{Edit, Entry, Range, Related, Shown, is_in_name};
+use cyc_warnings::{Found, Warning};
 use cyc_words::{Code, Fault, Span};
 use std::alloc::{AllocError, Global};
 
 // ---- ranges
 
-/// The signs of more than one byte, the longest first, and the beginning of a comment.
+/// The operators of more than one byte, longest first, and the beginning of a comment.
 const SIGNS: &str = ":=:~&&~||~==~!=~<=~>=~<<~>>~->~/*";
 
-/// How many bytes at the beginning of a text are those of names and numbers.
+/// Returns the length of the name or number at the beginning of a text.
 fn name_length(text: &[u8]) -> usize {
     match text.iter().position(|byte| !is_in_name(*byte)) {
         Some(end) => end,
@@ -20,7 +21,7 @@ fn name_length(text: &[u8]) -> usize {
     }
 }
 
-/// How many bytes at the beginning of a text are those of a number.
+/// Returns the length of the number at the beginning of a text.
 fn number_length(text: &[u8]) -> usize {
     if let [b'0', b'x' | b'X', digits @ ..] = text {
         let end = digits.iter().position(|byte| !byte.is_ascii_hexdigit());
@@ -33,7 +34,7 @@ fn number_length(text: &[u8]) -> usize {
     end.unwrap_or(text.len())
 }
 
-/// How many bytes the token has that begins a text. A byte that begins none has one, and so has each sign that is not listed.
+/// Returns the length of the token at the beginning of a text; 1 for a byte that begins no token and for each operator that is not listed.
 fn token_length(text: &[u8]) -> usize {
     match text {
         [] | [b'\n', ..] => return 0,
@@ -52,19 +53,19 @@ fn token_length(text: &[u8]) -> usize {
     name_length(text).max(1)
 }
 
-/// The bytes of a text from a place on.
+/// Returns the bytes of a text from a position on.
 fn text_from(text: &[u8], line: u32, column: u32) -> &[u8] {
     let start = text_before(text, line, column).len();
     text.get(start..).unwrap_or(&[])
 }
 
-/// The token at a place.
+/// Returns the token at a position.
 fn token_at(text: &[u8], line: u32, column: u32) -> &[u8] {
     let rest = text_from(text, line, column);
     rest.get(..token_length(rest)).unwrap_or(rest)
 }
 
-/// A range at a place with so many bytes of its line.
+/// Returns the range of `length` bytes at a position of a line.
 fn range_of(line: u32, column: u32, length: usize) -> Range {
     let length = u32::try_from(length).unwrap_or(0);
     Range {
@@ -75,13 +76,13 @@ fn range_of(line: u32, column: u32, length: usize) -> Range {
     }
 }
 
-/// From where to where the token at a place goes.
+/// Returns the range of the token at a position.
 fn range_at(text: &[u8], span: Span) -> Range {
     let token = token_at(text, span.line, span.column);
     range_of(span.line, span.column, token.len())
 }
 
-/// The same of a fault. A `main` that stands nowhere has no token.
+/// Returns the range of a fault. A missing `main` has no token.
 fn range_of_fault(text: &[u8], fault: Fault) -> Range {
     let Fault { code, line, column } = fault;
     if code == Code::BadMain && (line, column) == (1, 1) {
@@ -92,19 +93,19 @@ fn range_of_fault(text: &[u8], fault: Fault) -> Range {
 
 // ---- edits
 
-/// What stands in place of the token at a refusal, if its hint is that. What is put before it has an empty range there.
+/// The replacement of the token at a fault, if its hint describes one. An insertion before the token has an empty range there.
 #[derive(Clone, Copy)]
 struct Change<'a> {
     is_before: bool,
     text: &'a str,
 }
 
-/// Whether a byte stands in a text.
+/// Returns true if a byte occurs in a text.
 fn has_byte(text: &str, byte: u8) -> bool {
     text.as_bytes().iter().position(|b| *b == byte).is_some()
 }
 
-/// A change of the token at a refusal.
+/// Returns a replacement of the token at a fault.
 fn in_place(text: &str) -> Option<Change<'_>> {
     Some(Change {
         is_before: false,
@@ -112,20 +113,20 @@ fn in_place(text: &str) -> Option<Change<'_>> {
     })
 }
 
-/// How a hint on a word begins, the word, and what stands in its place.
+/// The beginning of a hint about a word, the word, and its replacement.
 const WORDS: [(&str, &str, &str); 9] = [
-    ("and is written", "and", "&&"),
-    ("or is written", "or", "||"),
-    ("there is no const", "const", ""),
-    ("there is no const", "static", ""),
-    ("there is no const", "extern", ""),
-    ("there is no const", "inline", ""),
-    ("there is no const", "register", ""),
-    ("there is no const", "volatile", ""),
-    ("there is no const", "restrict", ""),
+    ("write && for and", "and", "&&"),
+    ("write || for or", "or", "||"),
+    ("delete the word: there is no const", "const", ""),
+    ("delete the word: there is no const", "static", ""),
+    ("delete the word: there is no const", "extern", ""),
+    ("delete the word: there is no const", "inline", ""),
+    ("delete the word: there is no const", "register", ""),
+    ("delete the word: there is no const", "volatile", ""),
+    ("delete the word: there is no const", "restrict", ""),
 ];
 
-/// What a hint says to write in the place of a token, or before it.
+/// Returns the text that a hint suggests in place of a token, or before it.
 fn change_by<'a>(hint: &'a str, token: &str) -> Option<Change<'a>> {
     if let Some(rest) = hint.strip_prefix("did you mean `") {
         let name = rest.strip_suffix("`?")?;
@@ -156,8 +157,11 @@ fn change_by<'a>(hint: &'a str, token: &str) -> Option<Change<'a>> {
     None
 }
 
-/// The edit that a hint is, of the token that has this range.
-fn edit_by<'a>(hint: &'a str, token: &[u8], range: Range) -> Option<Edit<'a>> {
+/// The edit that a hint is, of the token that has this range. A keyword that is spelled otherwise stands before the token.
+fn edit_by<'a>(hint: &'a str, code: Code, token: &[u8], range: Range) -> Option<Edit<'a>> {
+    if code == Code::UnexpectedToken && hint.starts_with("did you mean") {
+        return None;
+    }
     let change = change_by(hint, str::from_utf8(token).ok()?)?;
     let range = if change.is_before {
         range_of(range.line, range.column, 0)
@@ -170,14 +174,14 @@ fn edit_by<'a>(hint: &'a str, token: &[u8], range: Range) -> Option<Edit<'a>> {
     })
 }
 
-// ---- lines
+// ---- output lines
 
-/// A text, where it is not empty.
+/// Returns a text, if it is not empty.
 fn if_any(text: &str) -> Option<&str> {
     if text.is_empty() { None } else { Some(text) }
 }
 
-/// Another place of a refusal, where there is one.
+/// Returns another place that belongs to a fault, if there is one.
 fn other_place(message: &Message<'_>) -> Option<Span> {
     match message.refusal.cause {
         Some(cause) => Some(cause.span),
@@ -185,7 +189,7 @@ fn other_place(message: &Message<'_>) -> Option<Span> {
     }
 }
 
-/// What is said of that place.
+/// Returns the words about a related place.
 fn words_on_place(alloc: Global, message: &Message<'_>) -> Result<String, AllocError> {
     let Message { text, refusal, .. } = *message;
     match refusal.cause {
@@ -201,8 +205,8 @@ fn words_on_place(alloc: Global, message: &Message<'_>) -> Result<String, AllocE
     }
 }
 
-/// A refusal as an object, and a line feed. Its strings are what a person reads: a byte of the source file that is no part of UTF-8, and a
-/// control character, stand there as `\x` and two hexadecimal digits.
+/// Returns a fault as a JSON object and a line feed. The JSON strings are those for human readers: a byte of the source file that is not
+/// part of UTF-8, or a control character, is written as `\x` and two hexadecimal digits.
 pub fn line_of_refusal(
     alloc: Global,
     message: &Message<'_>,
@@ -232,7 +236,7 @@ pub fn line_of_refusal(
         message: summary.as_str(),
         detail: if_any(detail.as_str()),
         hint: Some(hint.as_str()),
-        edit: edit_by(hint.as_str(), token, range),
+        edit: edit_by(hint.as_str(), fault.code, token, range),
         related: match other_place(message) {
             Some(span) => Some(Related {
                 range: range_at(text, span),
@@ -244,7 +248,7 @@ pub fn line_of_refusal(
     format!(in alloc; "{entry}\n")
 }
 
-/// The name of a warning.
+/// Returns the name of a warning.
 fn name_of(warning: Warning) -> &'static str {
     match warning {
         Warning::DoubleMinus => "DoubleMinus",
@@ -269,8 +273,8 @@ fn name_of(warning: Warning) -> &'static str {
     }
 }
 
-/// What an object says of a warning in this file.
-fn entry_of_warning<'a>(file: &'a str, text: &[u8], found: &Found) -> Entry<'a> {
+/// Returns the object for a warning in this file, with this message.
+fn entry_of_warning<'a>(file: &'a str, message: &'a str, text: &[u8], found: &Found) -> Entry<'a> {
     Entry {
         kind: "warning",
         rule: name_of(found.warning),
@@ -278,7 +282,7 @@ fn entry_of_warning<'a>(file: &'a str, text: &[u8], found: &Found) -> Entry<'a> 
         is_first: false,
         file,
         range: range_at(text, found.span),
-        message: text_of(found.warning),
+        message,
         detail: None,
         hint: None,
         edit: None,
@@ -286,7 +290,7 @@ fn entry_of_warning<'a>(file: &'a str, text: &[u8], found: &Found) -> Entry<'a> 
     }
 }
 
-/// A warning as an object, and a line feed.
+/// Returns a warning as a JSON object and a line feed.
 pub fn line_of_warning(
     alloc: Global,
     name: &str,
@@ -294,6 +298,7 @@ pub fn line_of_warning(
     found: &Found,
 ) -> Result<String, AllocError> {
     let file = format!(in alloc; "{}", Shown(name.as_bytes()))?;
-    let entry = entry_of_warning(file.as_str(), text, found);
+    let message = format!(in alloc; "{}", WarningText { text, found })?;
+    let entry = entry_of_warning(file.as_str(), message.as_str(), text, found);
     format!(in alloc; "{entry}\n")
 }

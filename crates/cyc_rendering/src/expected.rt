@@ -1,30 +1,30 @@
-//! What could stand where a token is unexpected, or where the text ends too early.
+//! Finds the tokens that could stand in place of an unexpected token, or at the premature end of a text.
 //!
-//! It is found by trial: the text up to that place is read once more with each candidate on a line behind it. What stands before such a
-//! place may begin a program, so a candidate can stand there where it is not itself what the text is refused for then. Where what stands
-//! before the declaration is a program by itself, the declaration alone is read.
+//! The expected tokens are found by trial: the text up to the fault's place is parsed again with each candidate on a line after it. A
+//! candidate fits if the text is not rejected at the candidate. If the text before the declaration is a complete program, only the
+//! declaration is parsed.
 use crate::declarations::{extent_of, starts_of};
-use crate::refusal::tree_of;
+use crate::reading::tree_of;
 use cyc_words::{Code, Fault};
 use std::alloc::{AllocError, Global};
 use std::mem::ManuallyDrop;
 
-/// How many are said.
+/// The greatest number of expected tokens listed in a message.
 const MOST: usize = 3;
 
-/// A token, and how what it begins is called.
+/// A token, and the name of the construct that it begins.
 type Candidate = (&'static str, &'static str);
 
-/// What can stand beside each other at one place, in the order in which it is said.
+/// The candidates that can stand at the given places, in the order in which they are listed.
 #[derive(Clone, Copy)]
 struct Group {
-    /// A token that stands at each such place and at none of another group; where it is empty, there is none.
+    /// A token that fits at each place of this group and at none of another group; empty if there is none.
     token: &'static str,
     candidates: &'static [Candidate],
 }
 
-/// The groups, in the order in which they are tried. What is a part of something that is said is not said beside it, as a name where an
-/// expression can stand.
+/// The groups of constructs, in the order in which they are tried. A part of a listed construct is not listed separately, such as a name if
+/// an expression fits.
 const GROUPS: &[Group] = &[
     Group {
         token: "/",
@@ -114,7 +114,7 @@ const GROUPS: &[Group] = &[
     },
 ];
 
-/// The bytes of a text before a place.
+/// Returns the bytes of a text before a position.
 pub fn text_before(text: &[u8], line: u32, column: u32) -> &[u8] {
     let mut start = 0_usize;
     for (n, part) in text.split(|byte| *byte == b'\n').enumerate() {
@@ -127,7 +127,7 @@ pub fn text_before(text: &[u8], line: u32, column: u32) -> &[u8] {
     text
 }
 
-/// The part of a text before a fault that is read in each trial: what stands before it is a program by itself, or nothing at all.
+/// Returns the part of the text before a fault that each trial parses: the part before it is a complete program, or empty.
 fn part_before<'a>(alloc: Global, before: &'a [u8]) -> Result<&'a [u8], AllocError> {
     let starts = starts_of(alloc, before)?;
     let start = extent_of(&starts, before.len(), before.len()).start;
@@ -144,12 +144,12 @@ fn part_before<'a>(alloc: Global, before: &'a [u8]) -> Result<&'a [u8], AllocErr
     }
 }
 
-/// A text that is read again and again, each time with another token on a line behind it.
+/// A text that is parsed repeatedly, each time with another token on a line after it.
 #[derive(Drop)]
 struct Trial {
     alloc: Global,
     text: Vec<u8>,
-    /// Its length without the token.
+    /// The length of the text with the token removed.
     length: usize,
     /// The line of the token.
     line: u32,
@@ -158,7 +158,7 @@ struct Trial {
 impl Trial {
     fn new(alloc: Global, before: &[u8]) -> Result<Trial, AllocError> {
         let mut text = Vec::from_slice(alloc, part_before(alloc, before)?)?;
-        // What stands before the place may end in a comment up to the end of its line.
+        // The text before the position may end in a comment up to the end of its line.
         text.push(b'\n')?;
         let mut line = 1_u32;
         for byte in &text {
@@ -175,7 +175,7 @@ impl Trial {
         })
     }
 
-    /// Whether the text is not refused for this token behind it.
+    /// Returns true if the text is not rejected at this token after it.
     fn goes_on(&mut self, token: &str) -> Result<bool, AllocError> {
         self.text.truncate(self.length);
         self.text.extend_from_slice(token.as_bytes())?;
@@ -191,7 +191,7 @@ impl Trial {
         }
     }
 
-    /// What of a group can stand behind the text.
+    /// Returns the candidates of a group that can stand after the text.
     fn names_of(&mut self, group: &Group) -> Result<Vec<&'static str>, AllocError> {
         let mut names = Vec::new(self.alloc);
         if !group.token.is_empty() && !self.goes_on(group.token)? {
@@ -206,7 +206,7 @@ impl Trial {
     }
 }
 
-/// What can stand at the place of a text's fault.
+/// Returns the candidates that fit at the place of a text's fault.
 fn names_at(alloc: Global, text: &[u8], fault: Fault) -> Result<Vec<&'static str>, AllocError> {
     let mut trial = Trial::new(alloc, text_before(text, fault.line, fault.column))?;
     for group in GROUPS {
@@ -218,7 +218,7 @@ fn names_at(alloc: Global, text: &[u8], fault: Fault) -> Result<Vec<&'static str
     Ok(Vec::new(alloc))
 }
 
-/// The names as a line.
+/// Returns the names as a line.
 fn line_of(alloc: Global, names: &[&'static str]) -> Result<Vec<u8>, AllocError> {
     let mut line = Vec::new(alloc);
     let mut left = names.len();
@@ -239,8 +239,8 @@ fn line_of(alloc: Global, names: &[&'static str]) -> Result<Vec<u8>, AllocError>
     Ok(line)
 }
 
-/// What could stand at the place of a text's fault, as a line, where the fault is that of a token or of the text's end. Where memory
-/// runs out there is nothing to say.
+/// Returns the candidates that fit at the place of a text's fault, as a line, if the fault is an unexpected token or end. Returns `None` if
+/// memory runs out.
 pub fn expected_at(alloc: Global, text: &[u8], fault: Fault) -> Option<Vec<u8>> {
     if !matches!(fault.code, Code::UnexpectedToken | Code::UnexpectedEnd) {
         return None;

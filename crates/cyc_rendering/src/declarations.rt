@@ -1,20 +1,19 @@
-//! Where the declarations of a text begin, as far as its bytes tell it: also of one that has no tokens or no tree.
+//! Finds the beginnings of declarations in a text, as far as its bytes show them, even if the text has no tokens or no tree.
 //!
-//! A declaration begins with one of its first words, where that stands outside of all brackets and behind a semicolon or a brace; and with
-//! what looks like the head of a struct or a function where it begins a line, so that a bracket which is not closed ends with its
-//! declaration.
-use cyc_terminal::is_in_name;
+//! A declaration begins with one of the keywords that can begin it, outside of all brackets and after a semicolon or a brace. A line that
+//! looks like the signature of a struct or a function also begins one, so an unclosed bracket ends with its declaration.
+use cyc_cli::is_in_name;
 use std::alloc::{AllocError, Global};
 
-/// From where to where a declaration goes, in bytes.
+/// The extent of a declaration, in bytes.
 #[derive(Clone, Copy)]
 pub struct Extent {
     pub start: usize,
     pub end: usize,
 }
 
-/// How far the first bytes go that are one of these and the next one, or all.
-fn behind_pair(text: &[u8], first: u8, second: u8) -> usize {
+/// Returns the length of the text up to the first occurrence of two bytes in sequence, including them, or of the whole text.
+fn after_pair(text: &[u8], first: u8, second: u8) -> usize {
     let mut last = 0u8;
     for (n, byte) in text.iter().enumerate() {
         if last == first && *byte == second {
@@ -25,7 +24,7 @@ fn behind_pair(text: &[u8], first: u8, second: u8) -> usize {
     text.len()
 }
 
-/// How far a line goes.
+/// Returns the text up to the end of its line.
 fn rest_of_line(text: &[u8]) -> &[u8] {
     match text.iter().position(|byte| *byte == b'\n') {
         Some(end) => &text[..end],
@@ -33,10 +32,10 @@ fn rest_of_line(text: &[u8]) -> &[u8] {
     }
 }
 
-/// How many bytes a comment, a character or a string has that begins a text; no string goes on behind its line. Anything else has none.
-fn quoted_length(text: &[u8]) -> usize {
+/// Returns the length of a comment, a character or a string that begins a text, or 0. A string must end on its line.
+pub fn quoted_length(text: &[u8]) -> usize {
     match text {
-        [b'/', b'*', rest @ ..] => behind_pair(rest, b'*', b'/').saturating_add(2),
+        [b'/', b'*', rest @ ..] => after_pair(rest, b'*', b'/').saturating_add(2),
         [b'/', b'/', ..] => rest_of_line(text).len(),
         [b'\'', b'\\', _, b'\'', ..] => 4,
         [b'\'', _, b'\'', ..] => 3,
@@ -48,10 +47,10 @@ fn quoted_length(text: &[u8]) -> usize {
     }
 }
 
-/// The words with which a declaration begins.
+/// The words that begin a declaration.
 const FIRST_WORDS: &str = "int~char~void~struct~datatype~region_t~uregion_key_t";
 
-/// Whether a text begins with one of these words.
+/// Returns true if a text begins with one of the words that begin a declaration.
 fn begins_declaration(text: &[u8]) -> bool {
     let word = match text.iter().position(|byte| !is_in_name(*byte)) {
         Some(end) => &text[..end],
@@ -65,7 +64,7 @@ fn begins_declaration(text: &[u8]) -> bool {
     false
 }
 
-/// Whether a line begins as the head of a struct, of exceptions or of a function does.
+/// Returns true if a line begins like a struct, a list of exceptions or a function.
 fn is_head(line: &[u8]) -> bool {
     let Some(end) = line.iter().position(|byte| !is_in_name(*byte)) else {
         return line == b"datatype".as_slice();
@@ -90,7 +89,7 @@ fn is_head(line: &[u8]) -> bool {
     }
 }
 
-/// Which brackets are open, and whether what stood last ends a declaration.
+/// The nesting depth of brackets, and whether the last token ends a declaration.
 #[derive(Clone, Copy)]
 struct Depth {
     braces: usize,
@@ -98,8 +97,8 @@ struct Depth {
     is_ended: bool,
 }
 
-/// What is so behind a byte that is no blank.
-fn behind_byte(depth: Depth, byte: u8) -> Depth {
+/// Returns the depth after a byte other than a blank.
+fn following_byte(depth: Depth, byte: u8) -> Depth {
     let Depth { braces, others, .. } = depth;
     let (braces, others) = match byte {
         b'{' => (braces.saturating_add(1), 0),
@@ -115,8 +114,8 @@ fn behind_byte(depth: Depth, byte: u8) -> Depth {
     }
 }
 
-/// How many starts there are up to a head that has its brackets and no body yet, behind a byte before which there are so many.
-fn heads_behind(heads: usize, starts: usize, depth: Depth, byte: u8) -> usize {
+/// Returns the number of starts up to a signature whose brackets are closed and whose body has not begun, after one more byte.
+fn heads_after(heads: usize, starts: usize, depth: Depth, byte: u8) -> usize {
     match byte {
         b'(' if depth.braces == 0 => starts,
         b'{' => usize::MAX,
@@ -124,7 +123,7 @@ fn heads_behind(heads: usize, starts: usize, depth: Depth, byte: u8) -> usize {
     }
 }
 
-/// Where the declarations of a text begin, in order.
+/// Returns the beginnings of the declarations of a text, in order.
 pub fn starts_of(alloc: Global, text: &[u8]) -> Result<Vec<usize>, AllocError> {
     let mut starts = Vec::new(alloc);
     let mut depth = Depth {
@@ -150,18 +149,18 @@ pub fn starts_of(alloc: Global, text: &[u8]) -> Result<Vec<usize>, AllocError> {
             };
         } else if !byte.is_ascii_whitespace() {
             if *byte == b'{' && depth.is_ended {
-                // What stands between a head and its body declares parameters, as in C of old.
+                // The text between a signature and its body declares parameters in the old style of C.
                 starts.truncate(heads);
             }
-            heads = heads_behind(heads, starts.len(), depth, *byte);
-            depth = behind_byte(depth, *byte);
+            heads = heads_after(heads, starts.len(), depth, *byte);
+            depth = following_byte(depth, *byte);
         }
         last = *byte;
     }
     Ok(starts)
 }
 
-/// The declaration that a place of a text of this length stands in, where these are its starts.
+/// Returns the extent of the declaration at a position of a text of this length with these starts.
 pub fn extent_of(starts: &[usize], length: usize, place: usize) -> Extent {
     let mut extent = Extent {
         start: 0,

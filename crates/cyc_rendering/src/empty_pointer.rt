@@ -1,26 +1,26 @@
-//! What to write for a pointer that is declared without a value and used before it has one.
+//! The advice for a pointer that is declared without a value and used before it receives one.
 use cyc_lex::lex;
 use cyc_syntax::{Keyword, Sign, Token, TokenKind};
 use cyc_words::Fault;
 use std::alloc::{AllocError, Global};
 use std::mem::ManuallyDrop;
 
-/// What a pointer leads to.
+/// The type that a pointer refers to.
 #[derive(Clone, Copy)]
 enum Target<'t> {
     Int,
     Char,
-    /// By its name.
+    /// A struct of this name.
     Struct(&'t Token),
 }
 
-/// The object that a pointer is to lead to.
+/// The object that a pointer should refer to.
 #[derive(Clone, Copy)]
 struct Object<'t> {
     target: Target<'t>,
     is_array: bool,
     is_unique: bool,
-    /// Whether the pointer may be NULL.
+    /// True if the pointer may be NULL.
     may_lack: bool,
 }
 
@@ -28,7 +28,7 @@ fn spelled<'a>(text: &'a [u8], token: &Token) -> &'a [u8] {
     text.get(token.start..token.end).unwrap_or(&[])
 }
 
-/// Whether a token ends a statement or a declaration.
+/// Returns true if a token ends a statement or a declaration.
 fn ends_statement(token: &Token) -> bool {
     matches!(
         token.kind,
@@ -36,12 +36,12 @@ fn ends_statement(token: &Token) -> bool {
     )
 }
 
-/// Whether what stands behind a token begins a declaration, where one stands there.
+/// Returns true if a declaration may begin after a token.
 fn ends_item(token: &Token) -> bool {
     ends_statement(token) || matches!(token.kind, TokenKind::Sign(Sign::LeftBrace | Sign::Colon))
 }
 
-/// The tokens of a statement or a declaration from its first one to that of this number.
+/// Returns the tokens of a statement or a declaration up to the one of this number.
 fn item_up_to(tokens: &[Token], last: usize) -> &[Token] {
     let mut start = last;
     for _ in 0..last {
@@ -54,7 +54,7 @@ fn item_up_to(tokens: &[Token], last: usize) -> &[Token] {
     tokens.get(start..=last).unwrap_or(&[])
 }
 
-/// What a type that some tokens begin with leads to, and the tokens behind that.
+/// Returns the target of the type at the beginning of some tokens, and the tokens after the type.
 fn target_of<'t>(tokens: &'t [Token]) -> Option<(Target<'t>, &'t [Token])> {
     match tokens {
         [first, rest @ ..] if first.kind == TokenKind::Keyword(Keyword::Int) => {
@@ -70,7 +70,7 @@ fn target_of<'t>(tokens: &'t [Token]) -> Option<(Target<'t>, &'t [Token])> {
     }
 }
 
-/// Whether a mark with this region, or with none, is that of unique pointers; none where it is that of another region than the heap.
+/// Returns true if a mark with this region, or without one, is that of unique pointers; `None` if the region is another one than the heap.
 fn is_unique(text: &[u8], region: Option<&Token>) -> Option<bool> {
     match region {
         None => Some(false),
@@ -82,7 +82,7 @@ fn is_unique(text: &[u8], region: Option<&Token>) -> Option<bool> {
     }
 }
 
-/// The object for a local that these tokens declare as a pointer with one mark.
+/// Returns the object for a local that these tokens declare as a pointer with one mark.
 fn object_of<'t>(text: &[u8], tokens: &'t [Token]) -> Option<Object<'t>> {
     let (target, rest) = target_of(tokens)?;
     let (mark, region) = match rest {
@@ -108,15 +108,15 @@ fn object_of<'t>(text: &[u8], tokens: &'t [Token]) -> Option<Object<'t>> {
     })
 }
 
-/// A declaration without a value, and whether the variable is used to make the first value that it gets.
+/// A declaration without a value. The flag tells whether the variable is used to compute its own first value.
 #[derive(Clone, Copy)]
 struct Declared<'t> {
     tokens: &'t [Token],
     is_built: bool,
 }
 
-/// The last declaration without a value that stands before the token of this number, of the variable that is used there; none where a
-/// statement before that one assigns it.
+/// Returns the last declaration without a value, before the token of this number, of the variable used there. `None` if the statement
+/// before assigns the variable.
 fn declaration_before<'t>(text: &[u8], tokens: &'t [Token], place: usize) -> Option<Declared<'t>> {
     let name = match tokens.get(place) {
         Some(token) => spelled(text, token),
@@ -124,12 +124,12 @@ fn declaration_before<'t>(text: &[u8], tokens: &'t [Token], place: usize) -> Opt
     };
     let (mut at, mut is_before, mut is_built) = (place, false, false);
     for _ in 0..place {
-        let behind = tokens.get(at);
+        let following = tokens.get(at);
         at = at.saturating_sub(1);
-        if let (Some(token), Some(behind)) = (tokens.get(at), behind) {
+        if let (Some(token), Some(following)) = (tokens.get(at), following) {
             is_before = is_before || ends_statement(token);
             if spelled(text, token) == name {
-                match behind.kind {
+                match following.kind {
                     TokenKind::Sign(Sign::Assign) if is_before => return None,
                     TokenKind::Sign(Sign::Assign) => is_built = true,
                     TokenKind::Sign(Sign::Semicolon) => {
@@ -146,7 +146,7 @@ fn declaration_before<'t>(text: &[u8], tokens: &'t [Token], place: usize) -> Opt
     None
 }
 
-/// The bytes from the first of some tokens to the last one, where they stand on one line.
+/// Returns the bytes from the first token to the last one, if they are on one line.
 fn line_of<'a>(text: &'a [u8], tokens: &[Token]) -> Option<&'a [u8]> {
     match (tokens.first(), tokens.last()) {
         (Some(first), Some(last)) if first.span.line == last.span.line => {
@@ -156,16 +156,16 @@ fn line_of<'a>(text: &'a [u8], tokens: &[Token]) -> Option<&'a [u8]> {
     }
 }
 
-/// The words for a pointer that is declared so and used to make its own value, as the list in a longer one.
+/// Returns the advice on a pointer that is declared without a value and used to build its own value, such as a list from a longer one.
 fn words_on_built(alloc: Global, declared: &[u8]) -> Result<Vec<u8>, AllocError> {
     let mut words = Vec::new(alloc);
-    words.extend_from_slice(b"hint: it has no value yet where it is used first: write ")?;
+    words.extend_from_slice(b"hint: give it a value where it is declared: ")?;
     words.extend_from_slice(declared)?;
     words.extend_from_slice(b" = NULL;")?;
     Ok(words)
 }
 
-/// The words for a pointer that is declared so, with the object that it is to lead to.
+/// Returns the advice on a pointer that is declared without a value, with the object that it should refer to.
 fn words_on_object(
     alloc: Global,
     text: &[u8],
@@ -173,7 +173,7 @@ fn words_on_object(
     object: Object<'_>,
 ) -> Result<Vec<u8>, AllocError> {
     let mut words = Vec::new(alloc);
-    words.extend_from_slice(b"hint: a pointer leads nowhere until it has an object: write ")?;
+    words.extend_from_slice(b"hint: give it an object where it is declared: ")?;
     words.extend_from_slice(declared)?;
     words.extend_from_slice(if object.is_unique {
         b" = rnew(unique_region) ".as_slice()
@@ -193,8 +193,8 @@ fn words_on_object(
     Ok(words)
 }
 
-/// What to write for the pointer that is used at a fault, as a line that is a hint, where it is declared without a value and nothing is
-/// assigned to it before. Where memory runs out there is nothing to say.
+/// Returns the advice, as a hint line, for the pointer used at a fault, if it is declared without a value and never assigned before.
+/// Returns `None` if memory runs out.
 pub fn words_on_empty(alloc: Global, text: &[u8], fault: Fault) -> Option<Vec<u8>> {
     let tokens = ManuallyDrop::new(lex(alloc, text).ok()?);
     let place = tokens.iter().position(|token| (token.span.line, token.span.column)

@@ -1,13 +1,15 @@
-//! The message for a person who reads why a text was refused.
-use crate::flow_cause::{Headline, Note, advice_for, name_at};
-use crate::told::Refusal;
+//! The message on a rejected text for human readers.
+use crate::flow_cause::{Headline, Note, advice_for, end_of_use, name_at};
+use crate::named::{AtToken, Naming, token_at};
+use crate::reported::Refusal;
+use cyc_cli::{FileName, Shown, excerpt_at, hint_at};
 use cyc_flow::Cause;
-use cyc_terminal::{FileName, Shown, excerpt_at, hint_at, meaning};
 use cyc_words::{Code, Fault};
 use std::fmt;
 
-/// Why the text in the file `name` was refused: the place and what is wrong there, with the first line of the rule that is broken,
-/// the line with a mark under the place, the other lines, and what to do. Where a variable is empty or locked, where it came to be so.
+/// The message on a fault in the file `name`. The message states the place and the fault, the first line on the violated rule, and the
+/// source line with a mark. The other lines and the advice follow the source line. For an empty or locked variable the message also names
+/// the place where the variable became so.
 #[derive(Clone, Copy)]
 pub struct Message<'a> {
     pub name: &'a str,
@@ -15,12 +17,12 @@ pub struct Message<'a> {
     pub refusal: &'a Refusal,
 }
 
-/// Whether a fault is of what stands at its place, and not of a `main` that stands nowhere. Where there is one, a type precedes its name.
+/// Returns true if a fault has a source line to show; a missing `main` has none.
 fn has_line(fault: Fault) -> bool {
     fault.code != Code::BadMain || (fault.line, fault.column) != (1, 1)
 }
 
-/// What to do about a fault, by how its variable came to be so or else by its code and what could stand there.
+/// Returns the advice on a fault, by its cause or else by its code and the tokens that fit there.
 fn hint_for(text: &[u8], fault: Fault, cause: Option<Cause>, words: &[u8]) -> &'static str {
     let expected = match words.strip_prefix(b"expected ") {
         Some(expected) => expected,
@@ -32,7 +34,7 @@ fn hint_for(text: &[u8], fault: Fault, cause: Option<Cause>, words: &[u8]) -> &'
     }
 }
 
-/// What a digit stands for, in numbers to this base.
+/// Returns the value of a digit in this base.
 fn digit_of(byte: u8, base: u32) -> Option<u32> {
     let digit = match byte {
         b'0'..=b'9' => byte - b'0',
@@ -44,7 +46,7 @@ fn digit_of(byte: u8, base: u32) -> Option<u32> {
     if digit < base { Some(digit) } else { None }
 }
 
-/// The bits of the number that a fault says to be too large, where it has no minus before it and 32 of them.
+/// Returns the bits of a number that is too large, if it fits 32 bits and no minus precedes it.
 fn bits_of(text: &[u8], fault: Fault) -> Option<u32> {
     let Fault { code, line, column } = fault;
     if code != Code::NumberTooLarge {
@@ -69,7 +71,7 @@ fn bits_of(text: &[u8], fault: Fault) -> Option<u32> {
     }
 }
 
-/// What to write for a number that is too large, where an int has its bits.
+/// The suggestion for a number that is too large: the int with the bits of that number.
 #[derive(Drop)]
 struct Signed {
     bits: u32,
@@ -86,17 +88,17 @@ impl fmt::Display for Signed {
     }
 }
 
-/// What is said of a rule in lines, taken apart.
+/// The lines on a rule, split into parts.
 #[derive(Clone, Copy)]
 struct Parts<'a> {
     first: &'a [u8],
-    /// The lines behind the first; empty where there is none.
+    /// The lines after the first; empty if there are none.
     others: &'a [u8],
-    /// What the last line says to do, if it is a hint.
+    /// The advice in the last line, if that is a hint.
     hint: Option<&'a [u8]>,
 }
 
-/// The last of some lines.
+/// Returns the last of several lines.
 fn last_of(lines: &[u8]) -> &[u8] {
     let mut last = lines;
     for line in lines.split(|byte| *byte == b'\n') {
@@ -105,7 +107,7 @@ fn last_of(lines: &[u8]) -> &[u8] {
     last
 }
 
-/// The lines without the last one, where that is a hint.
+/// Returns the lines without the last one, if that is a hint.
 fn without_hint(lines: &[u8]) -> &[u8] {
     let last = last_of(lines);
     if !last.starts_with(b"hint: ") {
@@ -115,7 +117,7 @@ fn without_hint(lines: &[u8]) -> &[u8] {
     rest.strip_suffix(b"\n").unwrap_or(rest)
 }
 
-/// The parts of some lines.
+/// Returns the parts of several lines.
 fn parts_of(lines: &[u8]) -> Parts<'_> {
     let hint = last_of(lines).strip_prefix(b"hint: ");
     let lines = without_hint(lines);
@@ -133,44 +135,8 @@ fn parts_of(lines: &[u8]) -> Parts<'_> {
     }
 }
 
-/// The signs of more than one byte.
-const SIGNS: &str = ":=:~&&~||~==~!=~<=~>=~<<~>>~->";
-
-/// The token at a place, as far as it is shown; a character constant by its quote.
-fn token_at(text: &[u8], line: u32, column: u32) -> &[u8] {
-    let name = name_at(text, line, column);
-    if !name.is_empty() {
-        return name;
-    }
-    let after = excerpt_at(text, line, column).after;
-    for sign in SIGNS.split('~') {
-        if after.starts_with(sign.as_bytes()) {
-            return &after[..sign.len()];
-        }
-    }
-    &after[..after.len().min(1)]
-}
-
-/// Whether the token at a fault tells what is wrong: an expression that is no place may have more of them.
-fn is_by_token(text: &[u8], fault: Fault, token: &[u8]) -> bool {
-    match fault.code {
-        Code::UnknownName
-        | Code::UniqueShared
-        | Code::OutsideLoop
-        | Code::EmptyVariable
-        | Code::LockedVariable => true,
-        Code::NotAPlace => {
-            let after = excerpt_at(text, fault.line, fault.column).after;
-            let behind = after.get(token.len()..).unwrap_or(&[]).trim_ascii_start();
-            matches!(behind, [] | [b';' | b',' | b')' | b':', ..])
-                || matches!(behind, [b'=', ..]) && !behind.starts_with(b"==")
-        }
-        _ => false,
-    }
-}
-
 impl Message<'_> {
-    /// What is said of the rule.
+    /// Returns the lines on the rule.
     fn parts(&self) -> Parts<'_> {
         match &self.refusal.words {
             Some(words) => parts_of(words),
@@ -178,12 +144,18 @@ impl Message<'_> {
         }
     }
 
-    /// The lines that are said behind the first; empty where there is none.
+    /// Returns the line on which the block ends up to which the variable is locked, if that is below the place.
+    fn end_of_use(&self) -> Option<u32> {
+        let cause = self.refusal.cause?;
+        end_of_use(self.text, self.refusal.fault, cause)
+    }
+
+    /// Returns the lines after the first; empty if there are none.
     pub fn detail(&self) -> &[u8] {
         self.parts().others
     }
 
-    /// All lines that are said but the hint.
+    /// Returns all lines of an explanation except the hint.
     pub fn said(&self) -> &[u8] {
         match &self.refusal.words {
             Some(words) => without_hint(words),
@@ -192,7 +164,7 @@ impl Message<'_> {
     }
 }
 
-/// Lines as they are shown.
+/// The lines of a message, prepared for display.
 #[derive(Drop)]
 pub struct Lines<'a>(pub &'a [u8]);
 
@@ -208,8 +180,7 @@ impl fmt::Display for Lines<'_> {
     }
 }
 
-/// What is wrong, on one line: it has the line of the rule that is said first, and the name or the token at the place where that has
-/// none.
+/// The fault, on one line: the line on its rule that is said first, and else the words of its code with the name or the token at the place.
 #[derive(Drop)]
 pub struct Summary<'a>(pub &'a Message<'a>);
 
@@ -221,28 +192,30 @@ impl fmt::Display for Summary<'_> {
             return write!(f, "{}", Headline { text, fault, cause });
         }
         let first = self.0.parts().first;
-        write!(f, "{}", meaning(fault.code))?;
         if first.is_empty() {
-            let token = token_at(text, fault.line, fault.column);
-            return if is_by_token(text, fault, token) {
-                write!(f, ": {}", Shown(token))
-            } else {
-                Ok(())
-            };
+            return write!(f, "{}", AtToken { text, fault });
         }
-        write!(f, ": {}", Shown(first))?;
-        // A token that is not shown is not looked for: that reads the text up to its line.
+        // A token that is not shown is not searched for, since that reads the text up to its line.
         match fault.code {
+            Code::MissingReturn => write!(
+                f,
+                "{}",
+                Naming {
+                    code: fault.code,
+                    name: first
+                }
+            ),
             Code::UnexpectedToken => {
                 let token = token_at(text, fault.line, fault.column);
-                write!(f, ", found `{}`", Shown(token))
+                write!(f, "{}, found `{}`", Shown(first), Shown(token))
             }
-            _ => Ok(()),
+            Code::UnexpectedEnd => write!(f, "{}, found the end of the file", Shown(first)),
+            _ => write!(f, "{}", Shown(first)),
         }
     }
 }
 
-/// What to do about it.
+/// The advice on a fault.
 #[derive(Drop)]
 pub struct Advice<'a>(pub &'a Message<'a>);
 
@@ -259,6 +232,9 @@ impl fmt::Display for Advice<'_> {
                 "an int has 32 bits and a sign: write {}",
                 Signed { bits }
             );
+        }
+        if let Some(line) = self.0.end_of_use() {
+            return write!(f, "move this after line {line}");
         }
         f.write_str(hint_for(text, refusal.fault, refusal.cause, first))
     }

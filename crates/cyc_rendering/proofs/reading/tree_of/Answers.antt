@@ -10,24 +10,24 @@ use Rattle.cyc_syntax.specs.Trees.{Declaration}
 use Rattle.cyc_lex.specs.Refusals as lexer
 use Rattle.cyc_parse.specs.Acceptance as parser
 use Rattle.cyc_syntax.specs.inside.TreeView.{declarations_of}
-use Rattle.cyc_system.specs.Front.{names_in, IsRefusedText}
-use Rattle.cyc_messages.specs.inside.Refusal.{HasTree}
-use Rattle.cyc_messages.proofs.refusal.tree_of.Goals as goal
+use Rattle.cyc_front.specs.Front.{names_in, IsRefusedText}
+use Rattle.cyc_rendering.specs.inside.Reading.{HasTree}
+use Rattle.cyc_rendering.proofs.reading.tree_of.Goals as goal
 
--- the code's tokens, held elsewhere, are those of the text
+-- The code's tokens in another list are those of the text.
 lexed : (text : List ℕ) (ts us : List TokenCode) → us ≡ ts
     → (tokens : List Token) × lexer.IsAccepted text tokens × (map (token_of text) ts ≡ tokens) → lexer.IsAccepted text (map (token_of text) us)
 lexed text ts us same (tokens, is, view) =
     subst (λ x. lexer.IsAccepted text (map (token_of text) x)) (sym same) (subst (lexer.IsAccepted text) (sym view) is)
 
--- what is parsed of them is the text's tree
+-- A tree parsed from the tokens is the text's tree.
 parsed : (text : List ℕ) (tokens : List Token) → lexer.IsAccepted text tokens → (result : Result Tree Fault)
     → IfOk result (λ t. (tree : List Declaration) × parser.IsAccepted tokens tree × (declarations_of t ≡ tree))
     → IfOk result (λ t. t.names ≡ names_in tokens) → IfOk result (HasTree text)
 parsed text tokens is (Ok t) (tree, has, view) names = (tokens, is, subst (parser.IsAccepted tokens) (sym view) has, names)
 parsed text tokens is (Err f) has names = tt
 
--- what the lexer refuses, and what the grammar refuses of the text's tokens, is refused
+-- A fault of the lexer, and a fault of the grammar on the text's tokens, is a fault of the text.
 refused_tokens : (text : List ℕ) (f : Fault) → (f ≡ memory_fault) ⊎ lexer.IsRefused text f → (f ≡ memory_fault) ⊎ IsRefusedText text f
 refused_tokens text f (inl memory) = inl memory
 refused_tokens text f (inr r) = inr (inl r)

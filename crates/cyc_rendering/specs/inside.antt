@@ -1,0 +1,2 @@
+-- the tree of a text
+pub mod Reading

@@ -1,0 +1,160 @@
+//! Finds the faults of a text after its first one, as if that were repaired: in tokens, grammar and flow.
+//!
+//! If a text has no tokens or no tree, the declarations with such a fault are blanked out, and the remaining text is parsed.
+ghost use Rattle.std.specs.Prelude.{◌≤◌, IfSome, length};
+ghost use Rattle.cyc_front.specs.Front.{IsRefusedText};
+
+use crate::declarations::{Extent, extent_of, starts_of};
+use crate::expected::{expected_at, text_before};
+use crate::reading::tree_of;
+use crate::reported::{Refusal, name_of_ended, words_on_variable};
+use cyc_flow::diagnose;
+use cyc_syntax::Tree;
+use cyc_types::TypedTree;
+use cyc_types::typed::Function;
+use cyc_words::{Code, Fault, Span};
+use std::alloc::{AllocError, Global};
+use std::mem::{ManuallyDrop, replace};
+
+/// The most faults that are reported after the first.
+pub const MOST_FURTHER: usize = 20;
+
+/// Returns true if a fault is at or between two places.
+pub fn is_between(first: Span, fault: Fault, last: Span) -> bool {
+    let place = (fault.line, fault.column);
+    (first.line, first.column) <= place && place <= (last.line, last.column)
+}
+
+// ---- flow
+
+/// Returns the number of functions up to and including the one that contains a fault; all if none does.
+fn count_up_to(functions: &[Function], fault: Fault) -> usize
+    ensures { result ≤ length functions.now }
+{
+    for (n, function) in functions.iter().enumerate() {
+        if is_between(function.span, fault, function.end) {
+            return n.saturating_add(1).min(functions.len());
+        }
+    }
+    functions.len()
+}
+
+/// Reports the flow faults of a typed tree, one function after another, except the first fault.
+pub fn tell_flow(
+    alloc: Global,
+    text: &[u8],
+    tree: &Tree,
+    typed: TypedTree,
+    first: Fault,
+    reported: &mut Vec<Refusal>,
+) -> Result<(), Fault> {
+    let mut typed = ManuallyDrop::new(typed);
+    for _ in 0..=MOST_FURTHER {
+        let Some(found) = diagnose(alloc, &typed) else {
+            return Ok(());
+        };
+        if found.fault != first {
+            if reported.len() >= MOST_FURTHER {
+                return Ok(());
+            }
+            let words = match found.fault.code {
+                Code::MissingReturn => name_of_ended(alloc, text, tree, found.fault),
+                _ => words_on_variable(alloc, text, found.fault, found.cause),
+            };
+            reported.push(Refusal::of_flow(found.fault, words, found.cause))?;
+        }
+        let refused = count_up_to(&typed.functions, found.fault);
+        let following = typed.functions.split_off(refused)?;
+        let _ = ManuallyDrop::new(replace(&mut typed.functions, following));
+    }
+    Ok(())
+}
+
+// ---- tokens and grammar
+
+/// Returns true if a fault is one of the tokens.
+fn is_of_token(code: Code) -> bool {
+    matches!(
+        code,
+        Code::UnknownByte | Code::UnclosedComment | Code::NumberTooLarge
+    )
+}
+
+/// Blanks out a part of a text and keeps its lines.
+fn make_blank(text: &mut [u8], start: usize, end: usize) {
+    for byte in text.iter_mut().take(end).skip(start) {
+        if *byte != b'\n' {
+            *byte = b' ';
+        }
+    }
+}
+
+/// Returns the text from this byte on, preceded by as many empty lines and blanks as the omitted part has. Positions in the remaining text
+/// are unchanged, and the omitted part is not parsed again.
+fn rest_in_place(alloc: Global, text: &[u8], end: usize) -> Result<Vec<u8>, AllocError> {
+    let mut left = Vec::new(alloc);
+    let mut column = 0_usize;
+    for byte in text.iter().take(end) {
+        column = column.saturating_add(1);
+        if *byte == b'\n' {
+            left.push(b'\n')?;
+            column = 0;
+        }
+    }
+    for _ in 0..column {
+        left.push(b' ')?;
+    }
+    for byte in text.iter().skip(end) {
+        left.push(*byte)?;
+    }
+    Ok(left)
+}
+
+/// Returns the fault of a text's tokens or its grammar.
+fn refused_reading(alloc: Global, text: &[u8]) -> Option<Fault>
+    ensures { IfSome result (IsRefusedText text.now) }
+{
+    match tree_of(alloc, text) {
+        Ok(tree) => {
+            let _ = ManuallyDrop::new(tree);
+            None
+        }
+        Err(fault) if fault.code == Code::Memory => None,
+        Err(fault) => Some(fault),
+    }
+}
+
+/// Reports faults of tokens or grammar. After a fault of a token it reports the faults of the text without that declaration. After one of
+/// the grammar it reports those of the later declarations.
+pub fn tell_readings(
+    alloc: Global,
+    text: &[u8],
+    first: Fault,
+    reported: &mut Vec<Refusal>,
+) -> Result<(), AllocError> {
+    let starts = starts_of(alloc, text)?;
+    let mut left = Vec::from_slice(alloc, text)?;
+    let mut fault = first;
+    for _ in 0..MOST_FURTHER {
+        let place = text_before(text, fault.line, fault.column).len();
+        let Extent { start, end } = extent_of(&starts, text.len(), place);
+        // The remaining text ends at the end of the whole text.
+        let gone = text.len().saturating_sub(left.len());
+        let end = end.saturating_sub(gone);
+        if is_of_token(fault.code) {
+            make_blank(&mut left, start.saturating_sub(gone), end);
+        } else {
+            left = rest_in_place(alloc, &left, end)?;
+        }
+        let Some(found) = refused_reading(alloc, &left) else {
+            return Ok(());
+        };
+        // If no text remains, it cannot be cut off in the middle of a declaration.
+        if found.code == Code::UnexpectedEnd && starts_of(alloc, &left)?.is_empty() {
+            return Ok(());
+        }
+        reported.push(Refusal::with_words(found, expected_at(alloc, &left, found)))?;
+        fault = found;
+    }
+    Ok(())
+}
