@@ -1,0 +1,112 @@
+//! The system's limits for this process, as given in files of `/proc`. Without these files, no limit is known.
+ghost use Rattle.std.specs.Prelude.{◌≡◌, ◌↔◌, ◌≤◌, ◌-◌, IsTrue};
+
+use std::io::Read;
+use std::rt::Files;
+use std::{fs, str};
+
+/// The bytes of stack that the program requires. A quarter of the stack may hold the command line and the environment, for which the system
+/// allows no more. No command needs more than the remaining stack, for any text or image.
+pub const STACK: u64 = 4_194_304;
+
+/// The maximum number of bytes read from a file of `/proc`. No file of `/proc` that is read has more bytes.
+const MOST: usize = 4096;
+
+/// Reads a file of `/proc`, as far as it fits `room`. Returns the number of bytes read; 0 if the file does not exist.
+fn read_part<R: Files>(rt: &R, path: &str, room: &mut [u8; MOST]) -> usize
+    ensures { result ≤ 4096 }
+{
+    let Ok(mut file) = fs::open(rt, path) else {
+        return 0;
+    };
+    file.read(room).unwrap_or(0)
+}
+
+/// Returns the first word of a text.
+fn first_word(text: &[u8]) -> Option<&str> {
+    for word in text.split(|byte| matches!(*byte, b' ' | b'\t')) {
+        if !word.is_empty() {
+            return str::from_utf8(word).ok();
+        }
+    }
+    None
+}
+
+/// Returns the first word after a name at the beginning of a line of a text.
+fn word_after<'a>(text: &'a [u8], name: &[u8]) -> Option<&'a str> {
+    for line in text.split(|byte| *byte == b'\n') {
+        if let Some(following) = line.strip_prefix(name) {
+            return first_word(following);
+        }
+    }
+    None
+}
+
+/// Returns a limit of this process, in bytes, by its name; the greatest number if there is none.
+fn limit_of<R: Files>(rt: &R, name: &[u8]) -> u64 {
+    let mut room = [0; MOST];
+    let count = read_part(rt, "/proc/self/limits", &mut room);
+    match word_after(&room[..count], name) {
+        Some(word) => word.parse().unwrap_or(u64::MAX),
+        None => u64::MAX,
+    }
+}
+
+/// Returns the limit of the stack size of this process, in bytes.
+#[inline(never)]
+pub fn stack_limit<R: Files>(rt: &R) -> u64 {
+    limit_of(rt, b"Max stack size")
+}
+
+/// Returns the limit of the size of files that this process writes, in bytes. The system kills a process that writes beyond it.
+#[inline(never)]
+pub fn file_limit<R: Files>(rt: &R) -> u64 {
+    limit_of(rt, b"Max file size")
+}
+
+/// Returns true if a stack of this size is sufficient.
+pub fn is_enough_stack(limit: u64) -> bool
+    ensures { IsTrue result ↔ (4194304 ≤ limit) }
+{
+    limit >= STACK
+}
+
+/// Returns the number of bytes that may still be written to a file, given the limit and the position of the next byte.
+fn room_at(limit: u64, place: u64) -> u64
+    ensures { result ≡ limit - place }
+{
+    limit.saturating_sub(place)
+}
+
+/// The flag of an open file by which each write appends. Flags are given in octal.
+const APPENDS: u64 = 0o2000;
+
+/// Returns the position of the next byte written to the standard output, if that is a file of this length.
+fn place_of_output<R: Files>(rt: &R, length: u64) -> u64 {
+    let mut room = [0; MOST];
+    let count = read_part(rt, "/proc/self/fdinfo/1", &mut room);
+    let said = &room[..count];
+    let flags = word_after(said, b"flags:").map(|word| u64::from_str_radix(word, 8));
+    match flags {
+        Some(Ok(flags)) if flags & APPENDS == 0 => {}
+        _ => return length,
+    }
+    match word_after(said, b"pos:") {
+        Some(word) => word.parse().unwrap_or(length),
+        None => length,
+    }
+}
+
+/// Returns the number of bytes that the standard output accepts if it is a file, for this limit of file sizes; else the greatest number.
+#[inline(never)]
+pub fn room_of_output<R: Files>(rt: &R, limit: u64) -> u64 {
+    if limit == u64::MAX {
+        return u64::MAX;
+    }
+    match fs::metadata(rt, "/proc/self/fd/1") {
+        Ok(metadata) if metadata.is_file() => {
+            room_at(limit, place_of_output(rt, metadata.len()))
+        }
+        _ => u64::MAX,
+    }
+}
