@@ -1,0 +1,25 @@
+-- The program's answers to a check and a compilation, in terms of the results of the lower layers.
+use Rattle.std.specs.Prelude.{◌≡◌, ◌⊎◌, ℕ, List, Result, Ok, Err}
+use Rattle.cyc_words.specs.declared.fault.Fault.{Fault}
+use Rattle.cyc_words.specs.Fault.{memory_fault}
+use Rattle.cyc_types.specs.TypedTrees.{Program}
+use Rattle.cyc_front.specs.Front.{IsAcceptedText, IsRefusedText}
+use Rattle.cyc_front.specs.inside.Phases.{HasTokens}
+use Rattle.cyc_image.specs.Notes.{Carries}
+use Rattle.cyc_compiler.specs.Compiled.{IsCompiledText, IsRefusedAtLast}
+use Rattle.cyc_compiler.specs.FullPreservation.{IsImageOf}
+use Rattle.cyc_compiler.specs.declared.compiler.Compilation.{Compilation}
+use Rattle.cyc_cli.specs.inside.Limits.{Given, carried_by}
+
+-- The answer to a check: the text is accepted, or its fault is that of the first phase that rejects it, unless memory ran out.
+abbrev pub AnswersCheck : {X : Type 0} → List ℕ → Result X Fault → Type 0
+AnswersCheck text (Ok done) = (p : Program) × IsAcceptedText text p
+AnswersCheck text (Err fault) = (fault ≡ memory_fault) ⊎ IsRefusedText text fault
+
+-- The answer to a compilation: an image of the text's program with the limits that follow from the given ones, and the text's tokens; or
+-- the fault of the text, unless memory ran out.
+abbrev pub AnswersCompile : List ℕ → Given → Result Compilation Fault → Type 0
+AnswersCompile text given (Ok made) =
+    ((p : Program) × IsCompiledText text p × IsImageOf p made.image.items)
+    × Carries made.image.items (carried_by given.pages given.calls) × HasTokens text made.tokens.items
+AnswersCompile text given (Err fault) = (fault ≡ memory_fault) ⊎ IsRefusedAtLast text fault

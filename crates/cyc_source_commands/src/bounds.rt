@@ -1,0 +1,244 @@
+//! The text about a program's needs, for every input.
+use cyc_bound::{CallBound, MOST_CALLS, PageBound, StepBound};
+use cyc_cli::{FileName, Shown};
+use cyc_compiler::{Bounded, Bounds, compile};
+use cyc_elf::read_outline;
+use cyc_syntax::{Sign, Token, TokenKind};
+use cyc_types::typed::Function;
+use cyc_words::Span;
+use std::alloc::Global;
+use std::fmt;
+
+/// Returns the number of words of text of the image that a program compiles to, if it does.
+fn words_of(alloc: Global, text: &[u8]) -> Option<u32> {
+    let image = compile(alloc, text).ok()?;
+    let outline = read_outline(alloc, image.as_slice()).ok()?;
+    let header = outline.loads.first()?;
+    Some(header.memory_size / 4)
+}
+
+/// Returns that number if the program's steps have a bound; otherwise it is not needed.
+pub fn words_by(alloc: Global, text: &[u8], bounds: &Bounds) -> Option<u32> {
+    match bounds.steps {
+        StepBound::Steps { .. } => words_of(alloc, text),
+        StepBound::Cycle | StepBound::TooMany => None,
+    }
+}
+
+/// The text about a program in a file: a line for each of the calls, pages and steps that it needs, or that there is no bound. If there is
+/// none, the obstacle follows: for a cycle of calls a line for each function with the position of its call of the next, else the position
+/// of a loop. After the steps it gives the greatest number of instructions for them.
+#[derive(Drop)]
+pub struct Needs<'a> {
+    pub name: &'a str,
+    pub text: &'a [u8],
+    pub bounded: &'a Bounded,
+    /// The number of words of the image's text, if the program was compiled: no step takes more instructions.
+    pub words: Option<u32>,
+}
+
+/// Returns the tokens from the first one at or after a position.
+fn tokens_from(tokens: &[Token], place: Span) -> &[Token] {
+    let before = tokens.partition_point(|token| {
+        (token.span.line, token.span.column) < (place.line, place.column)
+    });
+    tokens.get(before..).unwrap_or(&[])
+}
+
+/// Returns the bytes of a token.
+fn spelled<'a>(text: &'a [u8], token: &Token) -> &'a [u8] {
+    text.get(token.start..token.end).unwrap_or(&[])
+}
+
+impl<'a> Needs<'a> {
+    fn function(&self, number: usize) -> Option<&Function> {
+        self.bounded.program.tree.functions.get(number)
+    }
+
+    /// Returns the name of a function, as its declaration spells it.
+    fn name_of(&self, function: &Function) -> &'a [u8] {
+        match tokens_from(&self.bounded.tokens, function.span).first() {
+            Some(token) => spelled(self.text, token),
+            None => &[],
+        }
+    }
+
+    /// Returns the position at which the body of a function first calls the function of this name.
+    fn call_of(&self, caller: &Function, callee: &[u8]) -> Option<Span> {
+        let tokens = tokens_from(&self.bounded.tokens, caller.span).get(1..)?;
+        for (place, token) in tokens.iter().enumerate() {
+            if token.span == caller.end {
+                return None;
+            }
+            let is_call = match tokens.get(place + 1) {
+                Some(following) => following.kind == TokenKind::Sign(Sign::LeftParen),
+                None => false,
+            };
+            if is_call && spelled(self.text, token) == callee {
+                return Some(token.span);
+            }
+        }
+        None
+    }
+
+    fn write_call<W: fmt::Write>(
+        &self,
+        caller: usize,
+        callee: usize,
+        f: &mut fmt::Formatter<W>,
+    ) -> fmt::Result {
+        let (Some(caller), Some(callee)) = (self.function(caller), self.function(callee)) else {
+            return Ok(());
+        };
+        let (from, to) = (self.name_of(caller), self.name_of(callee));
+        let place = self.call_of(caller, to).unwrap_or(caller.span);
+        let (line, column) = (place.line, place.column);
+        let (file, from, to) = (FileName(self.name.as_bytes()), Shown(from), Shown(to));
+        write!(f, "{file}:{line}:{column}: {from} calls {to}\n")
+    }
+
+    fn write_cycle<W: fmt::Write>(
+        &self,
+        functions: &[usize],
+        f: &mut fmt::Formatter<W>,
+    ) -> fmt::Result {
+        write!(f, "calls unbounded\n")?;
+        let first = functions.first();
+        for place in 0..functions.len() {
+            let next = functions.get(place + 1).or(first);
+            if let (Some(caller), Some(callee)) = (functions.get(place), next) {
+                self.write_call(*caller, *callee, f)?;
+            }
+        }
+        Ok(())
+    }
+}
+
+impl Needs<'_> {
+    /// Writes the line of a loop that prevents a bound.
+    fn write_loop<W: fmt::Write>(
+        &self,
+        place: Span,
+        said: &str,
+        f: &mut fmt::Formatter<W>,
+    ) -> fmt::Result {
+        let file = FileName(self.name.as_bytes());
+        write!(f, "{file}:{}:{}: {said}\n", place.line, place.column)
+    }
+
+    fn write_calls<W: fmt::Write>(&self, f: &mut fmt::Formatter<W>) -> fmt::Result {
+        match &self.bounded.bounds.calls {
+            CallBound::Calls { count } => write!(f, "calls {count}\n"),
+            CallBound::Cycle { functions } => self.write_cycle(functions.as_slice(), f),
+            CallBound::Deep => write!(f, "calls more than {MOST_CALLS}\n"),
+        }
+    }
+
+    fn write_pages<W: fmt::Write>(&self, f: &mut fmt::Formatter<W>) -> fmt::Result {
+        if let PageBound::Pages { count } = self.bounded.bounds.pages {
+            return write!(f, "pages {count}\n");
+        }
+        f.write_str("pages unbounded\n")?;
+        match self.bounded.loop_of_pages {
+            Some(place) => {
+                self.write_loop(place, "each turn of this loop makes or opens something", f)
+            }
+            None => Ok(()),
+        }
+    }
+
+    fn write_steps<W: fmt::Write>(&self, f: &mut fmt::Formatter<W>) -> fmt::Result {
+        match self.bounded.bounds.steps {
+            StepBound::Steps { count } => {
+                write!(f, "steps {count}\n")?;
+                match self.words {
+                    Some(words) => {
+                        let instructions = u128::from(words) * (u128::from(count) + 1);
+                        write!(f, "instructions {instructions}\n")
+                    }
+                    None => Ok(()),
+                }
+            }
+            StepBound::Cycle | StepBound::TooMany => {
+                f.write_str("steps unbounded\n")?;
+                match self.bounded.loop_of_steps {
+                    Some(place) => self.write_loop(
+                        place,
+                        "this loop may have any number of turns",
+                        f,
+                    ),
+                    None => Ok(()),
+                }
+            }
+        }
+    }
+}
+
+impl fmt::Display for Needs<'_> {
+    fn fmt<W: fmt::Write>(&self, f: &mut fmt::Formatter<W>) -> fmt::Result {
+        self.write_calls(f)?;
+        self.write_pages(f)?;
+        self.write_steps(f)
+    }
+}
+
+/// What would have to change for a bound that a program has not. The `Display` form is one line each for a missing bound on calls and on
+/// pages, or nothing if both bounds exist.
+#[derive(Drop)]
+pub struct Remedies<'a>(pub &'a Needs<'a>);
+
+impl Remedies<'_> {
+    /// Returns true if there is something to say.
+    pub fn has_any(&self) -> bool {
+        let bounded = self.0.bounded;
+        match (&bounded.bounds.calls, &bounded.bounds.pages) {
+            (CallBound::Cycle { .. }, _) => true,
+            (_, PageBound::Pages { .. }) => false,
+            _ => bounded.loop_of_pages.is_some(),
+        }
+    }
+
+    /// Writes the line on calls: of functions that lead back to themselves, the last call of the circle.
+    fn write_calls<W: fmt::Write>(&self, f: &mut fmt::Formatter<W>) -> fmt::Result {
+        let needs = self.0;
+        let CallBound::Cycle { functions } = &needs.bounded.bounds.calls else {
+            return Ok(());
+        };
+        let (Some(callee), Some(caller)) = (functions.first(), functions.last()) else {
+            return Ok(());
+        };
+        let (Some(callee), Some(caller)) = (needs.function(*callee), needs.function(*caller)) else {
+            return Ok(());
+        };
+        let name = needs.name_of(callee);
+        let place = needs.call_of(caller, name).unwrap_or(caller.span);
+        needs.write_loop(
+            place,
+            "hint: for a bound on calls write a loop in place of this call, with what is still to be done in variables or in a list",
+            f,
+        )
+    }
+
+    /// Writes the line on pages: what a loop makes, or functions that lead back to themselves do.
+    fn write_pages<W: fmt::Write>(&self, f: &mut fmt::Formatter<W>) -> fmt::Result {
+        let needs = self.0;
+        if let PageBound::Pages { .. } = needs.bounded.bounds.pages {
+            return Ok(());
+        }
+        match needs.bounded.loop_of_pages {
+            Some(place) => needs.write_loop(
+                place,
+                "hint: for a bound on pages make it once, before this loop, or make it in a region<`r> h; that stands in its body",
+                f,
+            ),
+            None => Ok(()),
+        }
+    }
+}
+
+impl fmt::Display for Remedies<'_> {
+    fn fmt<W: fmt::Write>(&self, f: &mut fmt::Formatter<W>) -> fmt::Result {
+        self.write_calls(f)?;
+        self.write_pages(f)
+    }
+}

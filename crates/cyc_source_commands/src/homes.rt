@@ -1,0 +1,201 @@
+//! What is said of a text that was put together from several files, with each place told by the file in which it stands. A place of the
+//! program's own file is unchanged: that file comes first in the text, so its line numbers are those of the text.
+use cyc_cli::{FileName, Quoted, Shown};
+use cyc_places::Part;
+use std::alloc::{AllocError, Global};
+use std::fmt::Display;
+
+/// The file of another part of the text, and the line there, of a line of the text that stands in one.
+fn home_of<'a>(parts: &[Part<'a>], line: u32) -> Option<(&'a str, u32)> {
+    let after = parts.partition_point(|part| part.first <= line);
+    let part = parts.get(after.checked_sub(1)?)?;
+    let beyond = line.saturating_sub(part.first);
+    Some((part.name, part.line.saturating_add(beyond)))
+}
+
+/// The same of a text that begins with the number of a line and this sign, and the rest of it after that.
+fn home_in<'a, 't>(
+    parts: &[Part<'a>],
+    text: &'t str,
+    sign: char,
+) -> Option<(&'a str, u32, &'t str)> {
+    let (number, rest) = text.split_once(sign)?;
+    let (name, line) = home_of(parts, number.parse().ok()?)?;
+    Some((name, line, rest))
+}
+
+/// What is said with the text between some words and the next ones made anew.
+#[derive(Drop)]
+struct Pieces<'a> {
+    alloc: Global,
+    parts: &'a [Part<'a>],
+    made: String,
+}
+
+impl Pieces<'_> {
+    fn put<D: Display + Drop>(&mut self, shown: D) -> Result<(), AllocError> {
+        let text = format!(in self.alloc; "{shown}")?;
+        self.made.push_str(text.as_str())
+    }
+
+    /// A line for a person, of which the places in words follow ` at `.
+    fn put_words(&mut self, line: &str) -> Result<(), AllocError> {
+        let mut is_first = true;
+        for piece in line.split(" at ") {
+            if is_first {
+                self.made.push_str(piece)?;
+                is_first = false;
+                continue;
+            }
+            self.made.push_str(" at ")?;
+            match home_in(self.parts, piece, ':') {
+                Some((name, at, rest)) => {
+                    self.put(FileName(name.as_bytes()))?;
+                    let text = format!(in self.alloc; ":{at}:{rest}")?;
+                    self.made.push_str(text.as_str())?;
+                }
+                None => self.made.push_str(piece)?,
+            }
+        }
+        Ok(())
+    }
+
+    /// A line for a person, which may begin with a place.
+    fn put_line(&mut self, line: &str, head: &str) -> Result<(), AllocError> {
+        match line.strip_prefix(head) {
+            Some(placed) => match home_in(self.parts, placed, ':') {
+                Some((name, at, rest)) => {
+                    self.put(FileName(name.as_bytes()))?;
+                    let text = format!(in self.alloc; ":{at}:")?;
+                    self.made.push_str(text.as_str())?;
+                    self.put_words(rest)
+                }
+                None => self.put_words(line),
+            },
+            None => self.put_words(line),
+        }
+    }
+
+    /// The members of an object, in which the number of a line follows this name.
+    fn put_members(&mut self, object: &str, name: &str) -> Result<(), AllocError> {
+        let mut is_first = true;
+        for piece in object.split(name) {
+            if is_first {
+                self.made.push_str(piece)?;
+                is_first = false;
+                continue;
+            }
+            self.made.push_str(name)?;
+            match home_in(self.parts, piece, ',') {
+                Some((_, at, rest)) => {
+                    let text = format!(in self.alloc; "{at},{rest}")?;
+                    self.made.push_str(text.as_str())?;
+                }
+                None => self.made.push_str(piece)?,
+            }
+        }
+        Ok(())
+    }
+}
+
+/// What is said to a person of a text whose program stands in the file `name`.
+pub fn words_by_homes(
+    alloc: Global,
+    said: &str,
+    name: &str,
+    parts: &[Part<'_>],
+) -> Result<String, AllocError> {
+    let head = format!(in alloc; "{}:", FileName(name.as_bytes()))?;
+    let mut pieces = Pieces {
+        alloc,
+        parts,
+        made: String::new(alloc),
+    };
+    let mut is_first = true;
+    for line in said.split('\n') {
+        if !is_first {
+            pieces.made.push('\n')?;
+        }
+        is_first = false;
+        pieces.put_line(line, head.as_str())?;
+    }
+    Ok(pieces.made)
+}
+
+/// The name of the file of the place that follows these words in an object, as JSON, if it is another part's.
+fn file_after(
+    alloc: Global,
+    object: &str,
+    words: &str,
+    parts: &[Part<'_>],
+) -> Result<Option<String>, AllocError> {
+    let Some((_, place)) = object.split_once(words) else {
+        return Ok(None);
+    };
+    match home_in(parts, place, ',') {
+        Some((name, _, _)) => {
+            let shown = format!(in alloc; "{}", Shown(name.as_bytes()))?;
+            Ok(Some(format!(in alloc; "{}", Quoted(shown.as_str()))?))
+        }
+        None => Ok(None),
+    }
+}
+
+const FILE: &str = "\"file\":";
+
+const LINE: &str = ",\"line\":";
+
+const RELATED: &str = "\"related\":[{\"line\":";
+
+const END: &str = "}]}\n";
+
+/// An object with the file of its place in place of the program's.
+fn with_file(alloc: Global, object: &str, file: &str) -> Result<String, AllocError> {
+    if let Some((before, after)) = object.split_once(FILE) {
+        if let Some((_, rest)) = after.split_once(LINE) {
+            return format!(in alloc; "{before}{FILE}{file}{LINE}{rest}");
+        }
+    }
+    format!(in alloc; "{object}")
+}
+
+/// An object that tells of a text whose program stands in the file `name`, on a line. A further place in another file than its own has that
+/// file's name after its other members.
+pub fn object_by_homes(
+    alloc: Global,
+    object: &str,
+    name: &str,
+    parts: &[Part<'_>],
+) -> Result<String, AllocError> {
+    let own = format!(in alloc; "{}", Shown(name.as_bytes()))?;
+    let own = format!(in alloc; "{}", Quoted(own.as_str()))?;
+    let file = file_after(alloc, object, LINE, parts)?;
+    let other = file_after(alloc, object, RELATED, parts)?;
+    let file = match &file {
+        Some(file) => file.as_str(),
+        None => own.as_str(),
+    };
+    let other = match &other {
+        Some(other) => other.as_str(),
+        None => own.as_str(),
+    };
+    let mut made = with_file(alloc, object, file)?;
+    if file != other && object.split_once(RELATED).is_some() {
+        if let Some(before) = made.as_str().strip_suffix(END) {
+            made = format!(in alloc; "{before},{FILE}{other}{END}")?;
+        }
+    }
+    let mut lines = Pieces {
+        alloc,
+        parts,
+        made: String::new(alloc),
+    };
+    lines.put_members(made.as_str(), "\"line\":")?;
+    let mut ends = Pieces {
+        alloc,
+        parts,
+        made: String::new(alloc),
+    };
+    ends.put_members(lines.made.as_str(), "\"endLine\":")?;
+    Ok(ends.made)
+}

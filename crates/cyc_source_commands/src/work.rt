@@ -1,0 +1,54 @@
+//! The commands on a text, over its bytes.
+ghost use Rattle.std.specs.Prelude.{◌≡◌, ◌⊎◌, MatchResult};
+ghost use Rattle.cyc_words.specs.Fault.{memory_fault};
+ghost use Rattle.cyc_front.specs.Front.{HasFault};
+ghost use Rattle.cyc_compiler.specs.Compiled.{HasFaultAtLast};
+ghost use Rattle.cyc_source_commands.specs.inside.Work.{AnswersCheck, AnswersCompile};
+
+use cyc_cli::GivenLimits;
+use cyc_compiler::{Compilation, Placed, compile_with_places, compile_with_tokens};
+use cyc_front::{Phases, run_phases};
+use cyc_words::Fault;
+use std::alloc::{AllocError, Global};
+use std::mem::ManuallyDrop;
+
+/// An upper bound of the bytes of any list made from a text.
+const LARGEST: usize = 4194304;
+
+/// Allocates a block larger than all later ones, and frees it unused. The C library maps each block above a threshold separately and
+/// requests it anew from the system; it raises the threshold to the largest block that was freed. With a higher threshold, the lists of a
+/// phase reuse pages that earlier ones freed.
+pub fn widen_heap(alloc: Global) {
+    let _: Result<Vec<u8>, AllocError> = Vec::with_capacity(alloc, LARGEST);
+}
+
+/// Checks a text: its tokens, its grammar, its types and its flow. Returns the results of the phases without freeing them.
+pub fn check(alloc: Global, text: &[u8]) -> Result<ManuallyDrop<Phases>, Fault>
+    ensures answer { AnswersCheck text.now result }
+    // A text with a fault is never accepted.
+    ensures refuses { (fault : Fault) → HasFault text.now fault
+        → MatchResult result (λ _. ⊥) (λ f. (f ≡ memory_fault) ⊎ (f ≡ fault)) }
+{
+    // The process exits after these phases, so nothing is freed. Freeing the results of the phases, node by node, would take a sixth of the
+    // check's time.
+    Ok(ManuallyDrop::new(run_phases(alloc, text)?))
+}
+
+/// Compiles a text to an image, which contains both limits if one is given.
+pub fn compile(alloc: Global, text: &[u8], limits: GivenLimits) -> Result<Compilation, Fault>
+    ensures answer { AnswersCompile text.now limits result }
+    // A text with a fault is never compiled.
+    ensures refuses { (fault : Fault) → HasFaultAtLast text.now fault
+        → MatchResult result (λ _. ⊥) (λ f. (f ≡ memory_fault) ⊎ (f ≡ fault)) }
+{
+    compile_with_tokens(alloc, text, limits.carried())
+}
+
+/// Compiles a text to an image, and also returns the origins of the image's words in the text.
+pub fn compile_placed(alloc: Global, text: &[u8], limits: GivenLimits) -> Result<Placed, Fault>
+    // A text with a fault is never compiled.
+    ensures refuses { (fault : Fault) → HasFaultAtLast text.now fault
+        → MatchResult result (λ _. ⊥) (λ f. (f ≡ memory_fault) ⊎ (f ≡ fault)) }
+{
+    compile_with_places(alloc, text, limits.carried())
+}
