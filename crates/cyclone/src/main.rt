@@ -1,23 +1,11 @@
-//! The program `cyclone`: checks a program, compiles one to an image, runs an image, disassembles one, and says what it is.
+//! The program `cyclone`: checks a program, compiles one to an image, and runs, disassembles or describes an image.
 #![tactic(auto)]
 
-mod answer;
-mod bounds;
-mod console;
-mod files;
-mod formatting;
-mod functions;
-mod info;
-mod output;
+mod exec;
+mod line;
+mod pack;
 mod page;
-mod places;
-mod report;
-mod said;
 mod session;
-mod system;
-mod telling;
-mod whereabouts;
-mod work;
 
 use std::process::ExitCode;
 

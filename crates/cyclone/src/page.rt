@@ -1,11 +1,9 @@
-//! The page of a code of a refusal, printed.
-ghost use Rattle.cyclone.specs.inside.Console.{screen_held, screen_is_stuck, screen_written};
+//! Prints the page of a fault's code.
+ghost use Rattle.cyc_host.specs.inside.Console.{screen_held, screen_is_stuck, screen_written};
 ghost use Rattle.cyclone.specs.inside.Page.{AnswersPage, EndsPage};
 
-use crate::answer::Answer;
-use crate::console::Screen;
-use crate::work::finish_for;
-use cyc_terminal::page;
+use cyc_cli::page;
+use cyc_host::{Answer, Output, Screen, finish_for};
 use cyc_words::{ByteOut, Code};
 use std::io::Write;
 
@@ -26,4 +24,12 @@ pub fn print_page<W: Write + Drop>(code: Code, screen: &mut Screen<W>) -> Answer
 {
     let answer = print_to(code, screen);
     finish_for(screen, answer)
+}
+
+/// Runs the command `explain CODE`.
+pub fn describe_code(rt: &HostRuntime, code: Code) -> Result<Answer, Answer> {
+    let Ok(mut screen) = Screen::new(rt.alloc(), Output::new(rt), false) else {
+        return Err(Answer::NoMemory);
+    };
+    Ok(print_page(code, &mut screen))
 }

@@ -1,4 +1,4 @@
-use Rattle.cyclone.specs.inside.Console.{screen_written}
+use Rattle.cyc_host.specs.inside.Console.{screen_written}
 use Rattle.cyclone.proofs.page.print_page.Goals as goal
 
 pub returns : goal.returns

@@ -1,0 +1,171 @@
+//! The words of a text, four bytes in each, for a program that prints it.
+use cyc_host::{Answer, Output};
+use std::alloc::{AllocError, Global};
+use std::io::Write;
+use std::{fmt, io};
+
+/// How many bytes a word has, and how many words a call of the library takes.
+const BYTES: usize = 4;
+
+const WORDS: usize = 8;
+
+/// The byte that an escape of these letters means, and the letters after it; nothing if there is no such escape.
+fn escaped(letters: &[u8]) -> Option<(u8, &[u8])> {
+    match letters {
+        [b'n', rest @ ..] => Some((b'\n', rest)),
+        [b't', rest @ ..] => Some((b'\t', rest)),
+        [b'r', rest @ ..] => Some((b'\r', rest)),
+        [b'0', rest @ ..] => Some((0, rest)),
+        [b'x', high, low, rest @ ..] => {
+            let byte = digit_of(*high)?
+                .checked_mul(16)?
+                .checked_add(digit_of(*low)?)?;
+            Some((byte, rest))
+        }
+        [byte @ (b'\\' | b'"' | b'\''), rest @ ..] => Some((*byte, rest)),
+        _ => None,
+    }
+}
+
+/// The value of a hexadecimal digit.
+fn digit_of(letter: u8) -> Option<u8> {
+    match letter {
+        b'0'..=b'9' => Some(letter - b'0'),
+        b'a'..=b'f' => Some(letter - b'a' + 10),
+        b'A'..=b'F' => Some(letter - b'A' + 10),
+        _ => None,
+    }
+}
+
+/// The bytes of a text with escapes; nothing if any escape is invalid.
+fn bytes_of(alloc: Global, text: &[u8]) -> Result<Option<Vec<u8>>, AllocError> {
+    let mut bytes = Vec::new(alloc);
+    let mut rest = text;
+    for _ in 0..text.len() {
+        match rest {
+            [] => {}
+            [b'\\', letters @ ..] => {
+                let Some((byte, after)) = escaped(letters) else {
+                    return Ok(None);
+                };
+                bytes.push(byte)?;
+                rest = after;
+            }
+            [byte, after @ ..] => {
+                bytes.push(*byte)?;
+                rest = after;
+            }
+        }
+    }
+    Ok(Some(bytes))
+}
+
+/// A word of at most four bytes, the first one highest, as a program writes it: a number has no more than 31 bits.
+#[derive(Drop)]
+struct Word<'a>(&'a [u8]);
+
+impl fmt::Display for Word<'_> {
+    fn fmt<W: fmt::Write>(&self, f: &mut fmt::Formatter<W>) -> fmt::Result {
+        let mut bytes = [0; BYTES];
+        for place in 0..BYTES {
+            bytes[place] = self.0.get(place).copied().unwrap_or(0);
+        }
+        let word = u32::from_be_bytes(bytes);
+        match i32::from_be_bytes(bytes) {
+            i32::MIN => f.write_str("-2147483647 - 1"),
+            number if number < 0 => write!(f, "{number}"),
+            _ => write!(f, "0x{word:08x}"),
+        }
+    }
+}
+
+/// Words with something between them.
+#[derive(Drop)]
+struct Words<'a> {
+    bytes: &'a [u8],
+    between: &'static str,
+}
+
+impl fmt::Display for Words<'_> {
+    fn fmt<W: fmt::Write>(&self, f: &mut fmt::Formatter<W>) -> fmt::Result {
+        let mut is_first = true;
+        for bytes in self.bytes.chunks(BYTES) {
+            if !is_first {
+                f.write_str(self.between)?;
+            }
+            is_first = false;
+            write!(f, "{}", Word(bytes))?;
+        }
+        Ok(())
+    }
+}
+
+/// Bytes in a comment, with escapes, which does not end among them.
+#[derive(Drop)]
+struct Commented<'a>(&'a [u8]);
+
+impl fmt::Display for Commented<'_> {
+    fn fmt<W: fmt::Write>(&self, f: &mut fmt::Formatter<W>) -> fmt::Result {
+        let mut before = b' ';
+        for byte in self.0 {
+            match byte {
+                b'\n' => f.write_str("\\n")?,
+                b'\t' => f.write_str("\\t")?,
+                b'\r' => f.write_str("\\r")?,
+                b'\\' => f.write_str("\\\\")?,
+                b'/' if before == b'*' => f.write_str("\\x2f")?,
+                b' '..=b'~' => f.write_char(char::from(*byte))?,
+                _ => write!(f, "\\x{byte:02x}")?,
+            }
+            before = *byte;
+        }
+        Ok(())
+    }
+}
+
+/// What is printed of a text: its words, and the calls that print it, with the text beside them.
+#[derive(Drop)]
+struct Packed<'a>(&'a [u8]);
+
+impl fmt::Display for Packed<'_> {
+    fn fmt<W: fmt::Write>(&self, f: &mut fmt::Formatter<W>) -> fmt::Result {
+        let words = Words {
+            bytes: self.0,
+            between: " ",
+        };
+        write!(f, "{words}\n")?;
+        for bytes in self.0.chunks(BYTES * WORDS) {
+            let words = Words {
+                bytes,
+                between: ", ",
+            };
+            let count = bytes.len().div_ceil(BYTES);
+            write!(f, "say_{count}({words}); /* {} */\n", Commented(bytes))?;
+        }
+        Ok(())
+    }
+}
+
+/// Prints a text packed.
+fn print_packed(rt: &HostRuntime, bytes: &[u8]) -> io::Result<()> {
+    let mut output = Output::new(rt);
+    write!(output, "{}", Packed(bytes))?;
+    output.flush()
+}
+
+/// `pack TEXT`.
+pub fn pack_text(rt: &HostRuntime, text: &str) -> Result<Answer, Answer> {
+    match bytes_of(rt.alloc(), text.as_bytes()) {
+        Ok(Some(bytes)) => match print_packed(rt, &bytes) {
+            Ok(()) => Ok(Answer::Done),
+            Err(_) => Err(Answer::WriteFault),
+        },
+        Ok(None) => {
+            let _ = rt.eprintln(
+                "cyclone: a backslash in the text begins one of \\n \\t \\r \\0 \\\\ \\\" \\' and \\x with two hexadecimal digits",
+            );
+            Err(Answer::Usage)
+        }
+        Err(_) => Err(Answer::NoMemory),
+    }
+}
