@@ -1,18 +1,19 @@
-//! What is expected of a row. An assertion with a message costs the check some seconds, so each form of one stands here once.
+//! Assertions about a row of a test table. An assertion with a message makes type checking some seconds slower, so each form of assertion
+//! is defined only in this module.
 
 use std::process::Abort;
 
-/// Something holds of a row.
+/// Asserts that a condition holds for a row.
 pub fn expect<A: Abort>(rt: &A, holds: bool, row: &str) {
     assert!(rt; holds, "{row}");
 }
 
-/// A number of a row is as wanted.
+/// Asserts that a number of a row is the expected one.
 pub fn expect_number<A: Abort>(rt: &A, got: u32, want: u32, row: &str) {
     assert_eq!(rt; got, want, "{row}");
 }
 
-/// A text of a row is as wanted.
+/// Asserts that a text of a row is the expected one.
 pub fn expect_text<A: Abort>(rt: &A, got: &str, want: &str, row: &str) {
     assert_eq!(rt; got, want, "{row}");
 }

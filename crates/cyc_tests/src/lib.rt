@@ -1,17 +1,15 @@
-//! The tests of the crates from words and texts to types, instructions and files: what no clause says. There is a file for each crate
-//! that is tested, and beside them what several of them use.
+//! Tests of what neither a contract nor a case of the command-line suite covers: public calls that no command makes, and devices and stores
+//! in states that no command reaches.
 #![tactic(auto)]
 
 #[cfg(test)]
-mod elf;
+mod devices;
 #[cfg(test)]
 mod expect;
 #[cfg(test)]
 mod isa;
 #[cfg(test)]
-mod lex;
-#[cfg(test)]
-mod syntax;
+mod pages;
 #[cfg(test)]
 mod types;
 #[cfg(test)]

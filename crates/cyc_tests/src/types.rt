@@ -1,12 +1,9 @@
-//! Which region outlives which, worked out by hand, and types that are far deeper than any that a text can have.
+//! Which region outlives which, worked out by hand, while scopes open and close.
 
 use crate::expect::{expect, expect_text};
-use cyc_syntax::PointerKind;
-use cyc_types::{Kind, Outlives, Region, Ty};
-use smallvec::SmallVec;
+use cyc_types::{Kind, Outlives, Region};
 use std::alloc::Global;
 use std::process::Abort;
-use std::rc::Rc;
 
 const A: Region = Region::Variable(0);
 
@@ -16,7 +13,7 @@ const C: Region = Region::Variable(2);
 
 const D: Region = Region::Variable(3);
 
-/// For the heap, the unique region, A, B, C and D in turn, which of them in the same order it outlives.
+/// Asserts for the heap, the unique region, A, B, C and D in turn which regions, listed in this order, it outlives.
 fn expect_table<R: Abort>(rt: &R, alloc: Global, outlives: &Outlives, want: &str) -> Option<()> {
     let regions = [Region::Heap, Region::Unique, A, B, C, D];
     let mut got = String::new(alloc);
@@ -31,7 +28,7 @@ fn expect_table<R: Abort>(rt: &R, alloc: Global, outlives: &Outlives, want: &str
     Some(())
 }
 
-/// A lexical region, C, between an opened dynamic region, B, and an alias block, D.
+/// Tests a lexical region, C, between an opened dynamic region, B, and an alias block, D.
 fn expect_scopes<R: Abort>(rt: &R, alloc: Global) -> Option<()> {
     let mut outlives = Outlives::new(alloc, &[], &[A, Region::Unique]).ok()?;
     outlives.open_scope(B, Kind::Dynamic).ok()?;
@@ -53,7 +50,7 @@ fn expect_scopes<R: Abort>(rt: &R, alloc: Global) -> Option<()> {
     )
 }
 
-/// What is written of regions: that A outlives B, and B C.
+/// Tests written constraints: A outlives B, and B outlives C.
 fn expect_written<R: Abort>(rt: &R, alloc: Global) -> Option<()> {
     let written = Outlives::new(alloc, &[(A, B), (B, C)], &[]).ok()?;
     expect_table(
@@ -70,40 +67,4 @@ fn scopes_within_scopes(rt: HostRuntime) {
     expect(&rt, made.is_some(), "the scopes");
     let made = expect_written(&rt, rt.alloc());
     expect(&rt, made.is_some(), "the constraints");
-}
-
-/// A fat pointer to a fat pointer, and so on to a structure, 2000 deep.
-fn deep_type(alloc: Global) -> Option<Ty> {
-    let regions = SmallVec::from_slice(alloc, &[A, Region::Heap, C]).ok()?;
-    let mut ty = Ty::Struct {
-        number: 3,
-        regions: Rc::new(alloc, regions).ok()?,
-    };
-    for number in 0..2000 {
-        let target = Rc::new(alloc, ty).ok()?;
-        ty = Ty::Pointer {
-            kind: PointerKind::Fat,
-            target,
-            region: Region::Variable(number % 5),
-        };
-    }
-    Some(ty)
-}
-
-/// Whether a deep type equals itself with no region replaced, differs from itself with one replaced, and has the words of a fat
-/// pointer.
-fn deep_type_is_right(alloc: Global) -> Option<bool> {
-    let ty = deep_type(alloc)?;
-    let same = ty.substituted(alloc, &[]).ok()?;
-    let other = ty.substituted(alloc, &[A, B, Region::Heap]).ok()?;
-    Some(ty.equals(&same) && !ty.equals(&other) && ty.words() == 3)
-}
-
-#[test]
-fn deep_types(rt: HostRuntime) {
-    expect(
-        &rt,
-        deep_type_is_right(rt.alloc()).unwrap_or(false),
-        "a deep type",
-    );
 }

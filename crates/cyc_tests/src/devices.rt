@@ -1,9 +1,9 @@
-//! Devices that fail.
+//! A device that fails at each call.
 
 use std::io;
 
-/// A reader and writer that answers so many calls, and then an error once, and then calls again. It gives the byte x
-/// without end, and takes one byte at a time.
+/// A reader and writer that succeeds for a number of calls, fails once, and then succeeds again. The other device supplies the byte x
+/// endlessly, and accepts one byte at a time.
 #[derive(Drop)]
 pub struct FailsOnce {
     calls_before: usize,
@@ -12,7 +12,7 @@ pub struct FailsOnce {
 }
 
 impl FailsOnce {
-    /// A device that does so many calls right, fails the next one and then goes on.
+    /// Returns a device that succeeds for this many calls, fails at the next one and then succeeds again.
     pub fn new(calls_before: usize) -> FailsOnce {
         FailsOnce {
             calls_before,
@@ -53,21 +53,5 @@ impl io::Write for FailsOnce {
 
     fn flush(&mut self) -> io::Result<()> {
         Ok(())
-    }
-}
-
-/// A reader that comes to its end, and would have a byte after it.
-#[derive(Drop)]
-pub struct EndsOnce {
-    pub calls: usize,
-}
-
-impl io::Read for EndsOnce {
-    fn read(&mut self, buf: &mut [u8]) -> io::Result<usize> {
-        self.calls = self.calls.saturating_add(1);
-        if self.calls == 1 || buf.is_empty() {
-            return Ok(0);
-        }
-        Ok(1)
     }
 }
