@@ -1,11 +1,12 @@
 #!/usr/bin/env bash
-# The gate: every proof and test of the crates (rt ci), their wrong bodies, then the command-line suite, the examples, random
-# programs and images on the program that this has just proved and built. First it installs what they need, and ends where that cannot be
-# had. Before the last line stands what it cost, by crate and part, which is in out/gate.md too, as far as it came also where the gate is
-# stopped, and then what failed, in short: who sees only the end of a long log sees that. The last line is `N passed, M failed` over all
-# of it.
+# The gate: every proof and test of the crates (rt ci), the suites of tests/suites.txt on the program that this has just proved and built,
+# and the wrong bodies. First it installs what they need, and ends if that cannot be had. Before the last line it prints what each crate and
+# part cost, which is in out/gate.md too, also if the gate is stopped; and then what failed, in short, for whoever sees only the end of a
+# long log. The last line is `N passed, M failed` over all of it.
 set -u
 cd "$(dirname "$0")/.." || exit
+# shellcheck disable=SC1091
+. tests/suites.sh
 log=$(mktemp)
 costs=$(mktemp)
 faults=$(mktemp)
@@ -52,39 +53,25 @@ if ! sh tests/install.sh; then
   exit 1
 fi
 sources=$(python3 tools/sources.py look)
-add "proofs" rt ci
-# `make build` and `make demo` take what was proved and built here, while the sources are the same; and wrong bodies take that all is proved.
+# As many crates are proved side by side as fit the memory by the measured peaks, unless the caller has said how many.
+add "proofs" env "RT_JOBS=${RT_JOBS:-$(python3 tools/jobs.py)}" rt ci
+# `make build` and `make demo` take the program that was built here while the sources are the same. Wrong bodies rest on these proofs too.
 proved=
 if [ "$failed" -eq 0 ] && python3 tools/sources.py note "$sources"; then
   proved=$sources
 fi
-add "scripts" python3 tests/runners/scripts.py
-add "self tests" python3 tests/runners/self_test.py
+# suite NAME TRIES QUICK SCRIPT WORD ..: a suite of the list, on the program that was built here
+suite() {
+  local name=$1 script=$4
+  shift 4
+  add "$name" python3 "tests/runners/$script" "$@"
+}
+each gate suite
 add "wrong bodies" python3 tests/runners/wrong.py --proved "$proved"
-add "command line" python3 tests/runners/run.py
-add "whole language" python3 tests/runners/run.py --whole
-add "codes" python3 tests/runners/codes.py
-add "warnings" python3 tests/runners/warned.py
-add "formatted" python3 tests/runners/formatted.py
-add "whereabouts" python3 tests/runners/whereabouts.py
-add "bounded" python3 tests/runners/bounded.py
-add "told" python3 tests/runners/told.py
-add "documents" python3 tests/runners/documents.py
-add "trusted" python3 tests/runners/trusted.py
-add "examples" python3 tests/runners/examples.py
-add "sessions" python3 tests/runners/sessions.py
-add "judged" python3 tests/runners/judged.py
-add "dialogs" python3 tests/runners/interactive.py
-add "editors" python3 tests/runners/editors.py
-add "language server" python3 tests/runners/edited.py
-add "calls" python3 tests/runners/calls.py
-add "refused allocations" python3 tests/runners/refused.py
-add "limits of memory" python3 tests/runners/memory.py
-add "random programs" python3 tests/runners/differential.py
-add "images" python3 tests/runners/images.py
 echo "== costs"
 mkdir -p out
 python3 tests/runners/gate_table.py show "$costs" "$passed passed, $failed failed" | tee out/gate.md
+python3 tests/runners/gate_table.py memory "$costs" >out/memory.txt
 if [ -s "$faults" ]; then
   echo "== what failed"
   cat "$faults"

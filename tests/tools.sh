@@ -9,12 +9,18 @@ tools=${*:-$(grep -o '^[a-z][^ ]*' tools.txt)}
 status=0
 # Where Debian's python3 has its modules.
 modules=${MODULES:-/usr/lib/python3/dist-packages}
+# Where Debian has scripts for pages.
+libraries=${LIBRARIES:-/usr/share/javascript}
 for tool in $tools; do
   kind="command"
   case $tool in
   python3-*)
     kind="module"
     [ -e "$modules/${tool#python3-}" ] && continue
+    ;;
+  libjs-*)
+    kind="module"
+    [ -e "$libraries/${tool#libjs-}" ] && continue
     ;;
   *) command -v "$tool" >/dev/null && continue ;;
   esac

@@ -1,0 +1,14 @@
+# Reads the list of suites, for the scripts that run them from the top of the repository.
+# shellcheck shell=sh
+
+# each LOOP CALL: calls CALL NAME TRIES QUICK SCRIPT WORD .. for each suite that LOOP runs. QUICK is one word: what is added there.
+each() {
+  while IFS='|' read -r suite loops tries words quick <&3; do
+    case " $loops " in
+    *" $1 "*) ;;
+    *) continue ;;
+    esac
+    # shellcheck disable=SC2086 # the words of a command
+    "$2" "$suite" "$tries" "$quick" $words || return
+  done 3<tests/suites.txt
+}
