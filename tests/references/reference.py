@@ -18,6 +18,7 @@ from language.flow import Flow
 from language.frames import frame_words
 from language.runs import CALLS, PAGES, STEPS, Run
 from language.texts import Refused, tree_of
+from with_library import with_library
 
 FUNCTIONS_AT_MOST = 4_096
 FRAME_AT_MOST = 256
@@ -81,10 +82,13 @@ class Usage(Exception):
 def options_of(words):
     """The file, and the options of `run`."""
     options, files = {"--calls": CALLS, "--steps": STEPS, "--pages": PAGES, "-o": None}, []
-    words = list(words)
+    words, options["--with"] = list(words), []
     while words:
         word = words.pop(0)
-        if word not in options:
+        if word == "--with":
+            while words and not words[0].startswith("-"):
+                options["--with"].append(words.pop(0))
+        elif word not in options:
             files.append(word)
         elif not words:
             raise Usage
@@ -115,7 +119,7 @@ def answer(words, given, write=write_text):
         if not words or words[0] not in ("check", "compile", "run"):
             raise Usage
         path, options = options_of(words[1:])
-        text = read(path)
+        text = with_library(read(path), [read(it) for it in options["--with"]]) if options["--with"] else read(path)
         program = Program(text)
         if words[0] == "compile":
             program.hold_to_sizes()

@@ -62,7 +62,7 @@ def constant(node):
 
 
 class Warned:
-    """The places and the names of the warnings of one function."""
+    """The places and the names of the warnings of one function, and the words that they name."""
 
     def __init__(self, function):
         self.found = []
@@ -78,8 +78,9 @@ class Warned:
         for node in function.parameters + [node for node in self.nodes if node.kind == "local"]:
             self.local(node)
 
-    def warn(self, place, name):
-        self.found.append((place, name))
+    def warn(self, place, name, word=None):
+        """Notes a warning, with the word that it names if it names one."""
+        self.found.append((place, name, word))
 
     # Statements
 
@@ -98,7 +99,8 @@ class Warned:
                 place = {"local": lambda: item.written.place, "block": lambda: item.label.place if item.label else item.place,
                          "expression": lambda: item.value.start}
                 named = item.kind in ("region", "open", "alias", "key")
-                self.warn(item.region.place if named else place.get(item.kind, lambda: item.place)(), "Unreachable")
+                at = item.region.place if named else place.get(item.kind, lambda: item.place)()
+                self.warn(at, "Unreachable", "}" if before.kind == "block" else before.kind)
                 return
 
     def has_effect(self, node):
@@ -203,9 +205,9 @@ class Warned:
             return
         has_object = is_unique(node.type) and (is_parameter or any(value.kind != "null" for value in values))
         if has_object and not {"moved", "taken"} & set(uses):
-            self.warn(node.place, "NeverGivenBack")
+            self.warn(node.place, "NeverGivenBack", node.name)
         elif not is_parameter and not set(uses) - {"assigned"}:
-            self.warn(node.place, "NeverRead")
+            self.warn(node.place, "NeverRead", node.name)
         if not {"assigned", "assigned and used", "taken"} & set(uses):
             self.index(node, mine)
 
@@ -239,17 +241,17 @@ def hidden_in(text):
         line = line.encode("latin-1").decode("utf-8", "surrogateescape")
         match = HIDDEN.search(line)
         if match:
-            return [((number, len(line[:match.start()].encode("utf-8", "surrogateescape")) + 1), "HiddenCharacter")]
+            return [((number, len(line[:match.start()].encode("utf-8", "surrogateescape")) + 1), "HiddenCharacter", None)]
     return []
 
 
 def of_globals(program):
     """The constants of globals that are chars."""
-    return [(part.value.place, "CharConstant") for part in program.tree
+    return [(part.value.place, "CharConstant", None) for part in program.tree
             if part.kind == "global" and program.globals[part.name].type == CHAR and part.value and not 0 <= part.value.value <= 255]
 
 
 def warnings_of(program, text):
-    """What a program is warned of: the places, in order, and the names."""
+    """What a program is warned of: the places, in order, the names, and the word that each names."""
     found = [found for function in program.functions.values() for found in Warned(function).found]
     return sorted(found + of_globals(program) + hidden_in(text))
