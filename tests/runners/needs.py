@@ -1,5 +1,5 @@
-"""Takes away what the tests need, one thing after another: each fails then, and names it. They run on stand-ins for the program and for the
-commands that they run. self_test.py asks for all of it.
+"""Removes the tools that the tests need, one at a time: each test must fail and name the missing tool. The tests run on stand-ins for the
+program and for its commands. self_test.py runs all of these checks.
 """
 import os
 import re
@@ -7,26 +7,26 @@ import shutil
 import subprocess
 import sys
 
-import suite  # first: it says where the references and the generators are
+import suite  # first: it makes the references and the generators importable
 import images
 import instruction_makers
 
 HERE = os.path.dirname(os.path.abspath(__file__))
 BENCH = os.path.join(suite.ROOT, "bench")
 MACHINE = os.path.join(suite.TESTS, "references", "machine.py")
-# The gate's own scripts, which are tried in a tree of their own: they write there.
-OF_GATE = ("gate.sh", "install.sh", "tools.sh", "tools.txt")
-# What these scripts run that each system has.
+# The gate's own scripts, which are tried in a copy of the tree, since they write files.
+OF_GATE = ("gate.sh", "install.sh", "suites.sh", "suites.txt", "tools.sh", "tools.txt")
+# Commands of these scripts that every system has.
 USUAL = "bash cat cp cut dirname env grep head id make mkdir mktemp rm sed sh tail tee".split()
 NOTHING = "#!/bin/sh\n"
-# A manager of packages that has none; one that says that it installs them; and one that does, by a stand-in.
+# A package manager without packages; one that claims to install them; and one that installs a stand-in.
 HAS_NONE = '#!/bin/sh\necho "$1" >> "$CALLED"\n[ "$1" = update ]\n'
 SAYS_SO = '#!/bin/sh\necho "$1" >> "$CALLED"\n'
 HAS_VIM = SAYS_SO + '[ "$1" = update ] || cp "$(command -v readelf)" "${0%/*}/vim"\n'
 PYTHON = f'#!/bin/sh\nexec "{sys.executable}" "$@"\n'
 AS_ROOT = '#!/bin/sh\nexec "$@"\n'
 
-# What stands for Python in the gate: a test by its name, and what it says. The last five are no passes.
+# A stand-in for Python in the gate: maps a test's name to its output. The last five do not pass.
 SAYING = """#!/bin/sh
 case "$*" in
 */gate_table.py\\ measure*) shift 5; exec "$@";;
@@ -40,10 +40,10 @@ case "$*" in
 *) echo "1 passed, 0 failed";;
 esac
 """
-# 1 of the proofs, 10 of the cases, 3 of the codes, 4 of memory, 1 of sixteen others; the failures are those above.
-ADDED = "35 passed, 5 failed"
+# 1 of the proofs, 10 of the cases, 3 of the codes, 4 of memory, 1 of each of twenty-two others; the failures are those above.
+ADDED = "43 passed, 5 failed"
 
-# A case file, and what is wrong with it.
+# A case file, and its fault.
 BAD_CASES = {
     "": "there is no case",
     "# a remark\n": "there is no case",
@@ -57,14 +57,14 @@ BAD_CASES = {
     "== a\nlet WORD = b\n> silent\nends 0\n== c\n> say $WORD\nout b\nends 3 said\n": "6: nothing sets $WORD",
     "== a\n$\nends 0\n": "2: a line `$ WORDS` names a command",
 }
-# Values that differ, and what is shown about the first place where they do.
+# Values that differ, and the expected excerpt around the first difference.
 FAR = b"a" * 300 + b"b" + b"c" * 300, b"a" * 300 + b"d" + b"c" * 300
 ABOUT = "at 300 wanted b'" + 30 * "a" + "b" + 29 * "c" + "'", "got    b'" + 30 * "a" + "d" + 29 * "c" + "'"
 PARTINGS = [
     (*FAR, ABOUT), ((FAR[0], "", 0), (FAR[1], "", 0), ABOUT), ([b"x", FAR[0]], [b"x", FAR[1]], ABOUT), ("a" * 60, "b" * 60, ()),
     ("a" * 70, "a" * 71, (f"at 70 wanted '{30 * 'a'}'", f"got    '{31 * 'a'}'")), ((1,), (1, 2), ("1 parts, and 2 in place of them",)),
 ]
-# Scripts, and whether their checkers have nothing to say of them.
+# Scripts, and whether their checkers find no fault.
 SCRIPTS = {
     "good.sh": '#!/bin/sh\necho "$1"\n', "good": "#!/usr/bin/env python3\nprint(1)\n", "none.txt": "cd $1\n", "out/made.sh": "cd $1\n",
     "bad.sh": "#!/bin/sh\ncd $1\n", "bad": "#!/bin/sh\nls $1\n", "bad.py": "import os\n", ".ci/bad": "#!/usr/bin/env bash\ncd $1\n",
@@ -80,13 +80,14 @@ def write(path, text):
 
 
 class Room:
-    """A folder whose `bin` is all that commands find: the usual ones, and stand-ins."""
+    """A folder whose `bin` contains all available commands: the usual ones, and stand-ins."""
 
     def __init__(self, folder, stand_ins):
         self.folder, self.bin, self.called = folder, os.path.join(folder, "bin"), os.path.join(folder, "called")
         for name, text in stand_ins.items():
-            is_module = name.startswith(suite.MODULE)
-            write(os.path.join(folder, "modules", name.removeprefix(suite.MODULE)) if is_module else os.path.join(self.bin, name), text)
+            is_command = suite.kind_of(name) == "command"
+            prefix = suite.MODULE if name.startswith(suite.MODULE) else suite.LIBRARY
+            write(os.path.join(self.bin, name) if is_command else os.path.join(folder, "modules", name.removeprefix(prefix)), text)
         for name in {*USUAL} - stand_ins.keys():
             os.symlink(shutil.which(name), os.path.join(self.bin, name))
         for name in OF_GATE:
@@ -94,8 +95,8 @@ class Room:
             shutil.copy(os.path.join(suite.TESTS, name), os.path.join(folder, "tests", name))
 
     def ask(self, words):
-        """The status of a command and the lines that it prints."""
-        environment = {**os.environ, "PATH": self.bin, "MODULES": self.path("modules"), "CALLED": self.called}
+        """Returns the status of a command and the lines that it prints."""
+        environment = {**os.environ, "PATH": self.bin, "MODULES": self.path("modules"), "LIBRARIES": self.path("modules"), "CALLED": self.called}
         done = subprocess.run(words, env=environment, stdin=subprocess.DEVNULL, stdout=subprocess.PIPE, stderr=subprocess.STDOUT, text=True)
         return done.returncode, done.stdout.splitlines()
 
@@ -107,13 +108,13 @@ class Room:
 
 
 class Needs:
-    """The rooms of one try after another, and what was otherwise than it should be."""
+    """The rooms of consecutive tests, and the failures."""
 
     def __init__(self, folder):
         self.folder, self.count, self.right = folder, 0, []
 
     def room(self, missing=(), **stand_ins):
-        """A room that has all commands of the suite, but for those that are missing."""
+        """Returns a room that has all commands of the suite except the missing ones."""
         self.count += 1
         tools = {tool: NOTHING for tool in suite.packages()}
         tools |= {"rt": NOTHING, "apt-get": SAYS_SO, "sudo": AS_ROOT, **{name.replace("_", "-"): text for name, text in stand_ins.items()}}
@@ -125,7 +126,7 @@ class Needs:
             print(suite.difference(name, wanted, got))
 
     def fails(self, name, room, words, said, last=r"0 passed, \d+ failed"):
-        """Wants a command to fail, to say a line, and to end with one like `last`."""
+        """Expects a command to fail, to print a line, and to end with a line like `last`."""
         status, lines = room.ask(words)
         fits = status != 0 and any(said in line for line in lines) and re.fullmatch(last, lines[-1])
         self.want(f"{name}, which should fail, say `{said}` and end as `{last}`", True, bool(fits) or (status, lines[-9:]))
@@ -136,12 +137,11 @@ def runner(name, *words):
 
 
 def missing(tool):
-    kind = "module" if tool.startswith(suite.MODULE) else "command"
-    return f"there is no {kind} {tool}" + (f": Debian has it in {suite.packages()[tool]}" if tool in suite.packages() else "")
+    return f"there is no {suite.kind_of(tool)} {tool}" + (f": Debian has it in {suite.packages()[tool]}" if tool in suite.packages() else "")
 
 
 def try_tools(needs):
-    """What is missing is named, and installed by the script for that alone."""
+    """Tests that the script names each missing tool, and installs only that one."""
     for tool in suite.packages():
         room = needs.room([tool])
         words = ["sh", room.script("tools.sh")]
@@ -159,7 +159,7 @@ def try_tools(needs):
 
 
 def try_gate(needs):
-    """The gate ends where a package cannot be had, and counts as no pass what is none."""
+    """Tests that the gate stops if a package is unavailable, and never counts a failure as a pass."""
     room = needs.room(["vim"], apt_get=HAS_NONE, python3=SAYING)
     status, lines = room.ask(["bash", room.script("gate.sh")])
     wanted = ["tests/install.sh: what the tests need cannot be had, and nothing was tried", "0 passed, 1 failed"]
@@ -175,7 +175,7 @@ def try_gate(needs):
 
 
 def try_runners(needs):
-    """Each test that runs a command fails without it, and what is left out by name is said in the last line."""
+    """Tests that each test fails without its command, and that the last line names excluded tools."""
     program = needs.room().path("bin/sh")
     cases = {"readelf": "== a\n$ readelf -h b\nends 0\n", "man": "== a\n$ sh -c 'cat b; man b | wc -l'\nends 0\n"}
     for tool, text in cases.items():
@@ -183,10 +183,11 @@ def try_runners(needs):
     instructions = ("images.py", "--program", program, "--part", "instructions")
     for tool, words in (
         ("qemu-mips", instructions), ("mips-linux-gnu-objdump", instructions), ("qemu-mips", (*instructions, "--without-objdump")),
-        ("vim", ["editors.py"]), ("cc", ["refused.py", "--program", program, "--runner", program]),
+        ("vim", ["editors.py"]), ("cc", ["refused.py", "--program", program]),
         ("gcc", ["differential.py", "--program", program, "--count", "4"]), ("rt", ["codes.py", "--program", program]),
         ("parallel", ["judged.py", "--program", program]), ("valgrind", ["growth.py", "--program", program]), ("shellcheck", ["scripts.py"]), ("pyflakes3", ["scripts.py"]),
-        ("nvim", ["edited.py", "--program", program]), *((it, ["browsed.py", "--program", program]) for it in ("chromium", "chromedriver", "python3-aiohttp")),
+        ("nvim", ["edited.py", "--program", program]), ("python3-aiohttp", ["served.py", "--program", program]),
+        *((it, ["browsed.py", "--program", program]) for it in ("chromium", "chromedriver", "python3-selenium", "libjs-codemirror")),
         *((it, ["run.py", "--program", program, os.path.join(needs.folder, f"{it}.cases")]) for it in cases),
     ):
         needs.fails(f"{words[0]} without {tool}", needs.room([tool]), runner(*words), missing(tool))
@@ -194,12 +195,12 @@ def try_runners(needs):
     needs.fails("pairs.py without gcc", needs.room(), words, missing("no_such"), ".*")
     room = needs.room(["qemu-mips", "mips-linux-gnu-objdump"], python3=PYTHON)
     for options, left_out in ((), ""), (("--without-qemu", "--without-objdump"), "; left out: qemu-mips and mips-linux-gnu-objdump"):
-        status, lines = room.ask(runner("images.py", "--program", MACHINE, "--part", "random", "--count", "1", *options))
+        status, lines = room.ask(runner("images.py", "--program", MACHINE, "--part", "random", "--count", "1", "--one-store", *options))
         needs.want(f"images with {options}", (0, "1 passed, 0 failed" + left_out), (status, lines[-1]))
 
 
 def try_others(needs):
-    """A program of instructions fails beside another qemu-mips or objdump, and passes where that is left out."""
+    """Tests that a program of instructions fails with a wrong qemu-mips or objdump, and passes if that tool is excluded."""
     body = instruction_makers.of_lui("lui")
     room = needs.room(python3=PYTHON, qemu_mips="#!/bin/sh\nexit 1\n", mips_linux_gnu_objdump="#!/bin/sh\necho\n")
     path = os.environ["PATH"]
@@ -213,7 +214,7 @@ def try_others(needs):
 
 
 def try_cases(needs, program):
-    """Case files that could not fail are refused, and a test that tries nothing has not passed."""
+    """Tests that case files that could not fail are rejected, and that a test without cases fails."""
     path = os.path.join(needs.folder, "bad.cases")
     for text, fault in BAD_CASES.items():
         write(path, text)
@@ -226,7 +227,7 @@ def try_cases(needs, program):
 
 
 def try_scripts(needs):
-    """Scripts are found by their endings and first lines, and their checkers heard; one that says nothing and fails is heard too."""
+    """Tests that scripts are found by extension and first line, and that a checker's output or failure is reported."""
     root = os.path.join(needs.folder, "scripts")
     for name, text in SCRIPTS.items():
         write(os.path.join(root, name), text)
@@ -242,14 +243,14 @@ def try_scripts(needs):
 
 
 def try_differences(needs):
-    """Where two values begin to differ is shown."""
+    """Tests that the first difference of two values is printed."""
     for wanted, got, lines in PARTINGS:
         shown = [line.strip() for line in suite.difference("", wanted, got).splitlines()[3:]]
         needs.want(f"what is shown of {suite.shown(wanted)}", list(lines), shown)
 
 
 def tried(folder, program):
-    """Whether each of them was as it should be; `program` is a stand-in that knows the word `silent`."""
+    """Yields whether each test passed; `program` is a stand-in that knows the word `silent`."""
     needs = Needs(folder)
     try_tools(needs)
     try_gate(needs)
