@@ -1,29 +1,19 @@
 "use strict";
 
-// The page that tools/page serves. The program stands in a text area over two layers of the same text: one has the colours of its tokens,
-// one the marks of refusals and of where a run ended. All that the server says is put there as text, never as HTML.
+// The page that tools/page serves: what the server says of the text in the editor, of its runs and its listing. All that it says is put
+// there as text, never as HTML.
 
 const at = (id) => document.getElementById(id);
-const source = at("source");
 // How long somebody may pause while typing before the text is checked, in milliseconds.
 const PAUSE = 250;
 // Of a longer address some browsers keep a part.
 const LONGEST_ADDRESS = 60000;
-
-const WORDS = {
-  type: "int char void struct datatype exn region_t uregion_key_t",
-  statement: "if else while for return break continue throw try catch case default",
-  memory: "region open let alias NewDynamicRegion new_ukey new rnew numelts ufree free_ukey",
-  constant: "NULL unique_region heap_region",
-};
-const KIND_OF_WORD = new Map(Object.entries(WORDS).flatMap(([kind, words]) => words.split(" ").map((word) => [word, kind])));
-const TOKEN = new RegExp(
-  "(?<comment>/\\*[^]*?(?:\\*/|$(?![^]))|//[^\\n]*)|(?<name>[A-Za-z_][A-Za-z_0-9]*)|(?<region>`[A-Za-z_][A-Za-z_0-9]*)" +
-  "|(?<number>0[xX][0-9a-fA-F]+|0|[1-9][0-9]*)|(?<character>'(?:[ -&(-\\[\\]-~]|\\\\[ntr0\\\\'])')|(?<space>[ \\t\\r\\n]+)" +
-  "|(?<sign>:=:|&&|\\|\\||==|!=|<=|>=|<<|>>|->|[-+*/%&|^~!<>=()\\[\\]{},;:@?])|(?<other>[^])", "gu");
+// Narrower windows show one part at a time.
+const NARROW = matchMedia("(max-width: 60rem)");
 
 // What is known of the server, and of the text that stands there: how often it was changed, and what was found in it.
 let about = null;
+let editor = null;
 let changes = 0;
 let findings = [];
 let checked = -1;
@@ -31,6 +21,14 @@ let here = null;
 let running = null;
 let checking = null;
 let timer = 0;
+// The texts that the last run and the last listing are of.
+let ranText = null;
+let listedText = null;
+// The language of the text, and the C program that the translation is of.
+let language = LANGUAGES[0];
+let translatedText = null;
+// The earlier texts that may be chosen.
+let keptShown = [];
 
 // ---- elements
 
@@ -70,7 +68,7 @@ function offsetIn(text, starts, line, column) {
   return offset;
 }
 
-function rangeOf(it, text = source.value, starts = startsOf(text)) {
+function rangeOf(it, text = editor.text(), starts = startsOf(text)) {
   const start = offsetIn(text, starts, it.line, it.column);
   const end = it.endLine ? offsetIn(text, starts, it.endLine, it.endColumn) : start;
   return [start, Math.max(start, end)];
@@ -78,96 +76,159 @@ function rangeOf(it, text = source.value, starts = startsOf(text)) {
 
 // ---- the editor
 
-function paint() {
-  const text = source.value;
-  const colours = document.createDocumentFragment();
-  for (const match of text.matchAll(TOKEN)) {
-    const kind = Object.keys(match.groups).find((name) => match.groups[name] !== undefined);
-    const shown = kind === "name" ? KIND_OF_WORD.get(match[0]) : kind;
-    colours.append(shown && shown !== "space" ? make("span", { class: shown }, match[0]) : match[0]);
-  }
-  at("colours").replaceChildren(colours, "\n ");
-  const lines = startsOf(text).length;
-  at("numbers").textContent = Array.from({ length: lines }, (_, i) => i + 1).join("\n") + "\n ";
-  mark();
-}
-
-// Ranges that are marked, those that begin first before; one that begins within another is left out.
 function mark() {
-  const text = source.value;
+  const text = editor.text();
   const starts = startsOf(text);
-  const found = checked === changes ? findings.map((it) => [...rangeOf(it, text, starts), it.kind]) : [];
-  if (here) found.unshift([...here, "here"]);
-  found.sort((one, other) => one[0] - other[0]);
-  const layer = document.createDocumentFragment();
-  let behind = 0;
-  for (const [start, end, kind] of found) {
-    if (start < behind) continue;
-    const stop = Math.max(end, start + 1);
-    layer.append(text.slice(behind, start), make("mark", { class: kind }, text.slice(start, stop).replace(/^(\n|$)/, " $1")));
-    behind = stop;
-  }
-  at("marks").replaceChildren(layer, text.slice(behind), "\n ");
-  follow();
+  const marked = checked === changes ? findings : [];
+  editor.mark(marked.map((it) => {
+    const [start, end] = rangeOf(it, text, starts);
+    return { start, end, kind: it.kind, words: seen(it.hint ? `${it.message}\nHint: ${it.hint}` : it.message) };
+  }), here);
 }
 
-function follow() {
-  for (const id of ["colours", "marks"]) {
-    at(id).scrollTop = source.scrollTop;
-    at(id).scrollLeft = source.scrollLeft;
-  }
-  at("numbers").scrollTop = source.scrollTop;
-}
-
-function changed(event) {
+function changed() {
   changes += 1;
-  if (event) at("example").value = "";
+  at("example").value = "";
   at("verdict").setAttribute("aria-busy", "true");
-  here = null;
-  paint();
+  if (here) {
+    here = null;
+    mark();
+  }
   listFindings();
+  markStale();
   clearTimeout(timer);
-  timer = setTimeout(check, PAUSE);
+  timer = setTimeout(settled, PAUSE);
 }
 
-function putText(text, input) {
-  source.value = text;
-  source.setSelectionRange(0, 0);
-  source.scrollTop = source.scrollLeft = 0;
-  if (input !== undefined) at("input").value = input;
-  forget();
+function settled() {
+  store({ draft: present() });
+  check();
+}
+
+function present() {
+  return { source: editor.text(), input: at("input").value, language };
+}
+
+// Whether the text that stands there is one of the examples as it is.
+function isExample(text) {
+  return about.examples.some((it) => isSame(it, text));
+}
+
+// Puts a text in the place of the one that stands there, which is kept.
+function putText(it) {
+  const before = present();
+  if (isSame(before, it)) return;
+  if (!isExample(before)) keep(before);
+  setLanguage(languageOf(it));
+  editor.setText(it.source);
+  at("input").value = it.input;
+  showKept();
   changed();
 }
 
-// Puts a text in place of a range, so that it can be undone.
-function replaceRange(start, end, text) {
-  source.focus();
-  source.setSelectionRange(start, end);
-  if (!document.execCommand("insertText", false, text)) {
-    source.setRangeText(text, start, end, "end");
-    changed(true);
-  }
+// ---- the language
+
+function setLanguage(name) {
+  if (name === "c" && !about.can.includes("c")) return notice("This server translates no C.");
+  if (name === language) return;
+  language = name;
+  at("language").value = name;
+  at("tab-translation").hidden = name !== "c";
+  // Only a Cyclone program has a layout.
+  at("lay").disabled = name === "c";
+  editor.setLanguage(name);
+  if (name === "c" && !NARROW.matches) show("translation");
+  else if (document.body.dataset.part === "translation") show("running");
 }
 
-// Puts a text in the place of all, where the two differ: what stands before and behind that stays as it is.
+// Turns to another language: an example gives way to one of that language, and any other text stays.
+function turnTo(name) {
+  const other = about.examples.find((it) => languageOf(it) === name);
+  if (isExample(present()) && other) return choose(other.name);
+  setLanguage(name);
+  changed();
+}
+
+// Shows the translation of a C program, line by line beside the lines that it comes from; null where it is refused.
+function showTranslation(lines, source) {
+  translatedText = lines ? source : null;
+  at("take").hidden = at("translated-lines").hidden = !lines;
+  at("translation-words").textContent = lines ? "" : "There is no translation: the program is refused.";
+  at("lines").tBodies[0].replaceChildren(...rowsOfTranslation(lines || []));
+  at("take").onclick = () => putText({ source: lines.map((it) => `${it.text}\n`).join(""), input: at("input").value });
+  markStale();
+}
+
+// A row for each run of lines that come from one line. The first one of a line leads there.
+function rowsOfTranslation(lines) {
+  const rows = [];
+  const led = new Set();
+  for (const { line, text } of lines) {
+    const before = rows[rows.length - 1];
+    if (before && before.line === line) before.texts.push(text);
+    else rows.push({ line, texts: [text] });
+  }
+  return rows.map(({ line, texts }) => {
+    const first = line === null ? "" : led.has(line) ? String(line) : placeButton({ line, column: 1 }, String(line));
+    led.add(line);
+    return make("tr", {}, make("td", {}, first), make("td", {}, seen(texts.join("\n"))));
+  });
+}
+
+// Puts a text in the place of all, where the two differ: what stands before and after that stays as it is.
 function replaceAll(text) {
-  const old = source.value;
+  const old = editor.text();
   const most = Math.min(old.length, text.length);
   let start = 0;
   while (start < most && old[start] === text[start]) start += 1;
-  let behind = 0;
-  while (behind < most - start && old[old.length - 1 - behind] === text[text.length - 1 - behind]) behind += 1;
-  if (start < Math.max(old.length, text.length)) replaceRange(start, old.length - behind, text.slice(start, text.length - behind));
+  let after = 0;
+  while (after < most - start && old[old.length - 1 - after] === text[text.length - 1 - after]) after += 1;
+  editor.replace(start, old.length - after, text.slice(start, text.length - after));
 }
 
 function goTo(start, end = start) {
-  source.focus();
-  source.setSelectionRange(start, end);
-  const line = source.value.slice(0, start).split("\n").length;
-  const height = parseFloat(getComputedStyle(source).lineHeight);
-  const top = (line - 1) * height;
-  if (top < source.scrollTop || top > source.scrollTop + source.clientHeight - 2 * height) source.scrollTop = top - source.clientHeight / 2;
-  follow();
+  if (NARROW.matches) show("program");
+  editor.select(start, end);
+}
+
+// ---- the parts of the page, of which a narrow window shows one
+
+const PARTS = ["program", "running", "translation", "listing", "reading"];
+
+function show(part) {
+  const shown = part === "program" && !NARROW.matches ? "running" : part;
+  document.body.dataset.part = shown;
+  for (const it of PARTS) {
+    at(`tab-${it}`).setAttribute("aria-selected", String(it === shown));
+    at(`tab-${it}`).tabIndex = it === shown ? 0 : -1;
+  }
+  if (shown === "reading" && !at("document").src) at("document").src = "docs/";
+  if (shown === "program") editor.refresh();
+}
+
+function moveTab(event) {
+  const there = PARTS.filter((it) => at(`tab-${it}`).checkVisibility());
+  const now = there.indexOf(document.body.dataset.part);
+  const next = { ArrowRight: now + 1, ArrowLeft: now - 1 + there.length, Home: 0, End: there.length - 1 }[event.key];
+  if (next === undefined) return;
+  event.preventDefault();
+  show(there[next % there.length]);
+  at(`tab-${there[next % there.length]}`).focus();
+}
+
+// Marks what was said of another text than the one that stands there.
+function markStale() {
+  const text = present();
+  at("stale-run").hidden = !ranText || isSame(ranText, text);
+  at("stale-listing").hidden = listedText === null || listedText === text.source;
+  at("stale-translation").hidden = translatedText === null || translatedText === text.source;
+  for (const [part, stale] of [["running", "run"], ["listing", "listing"], ["translation", "translation"]]) {
+    at(part).classList.toggle("stale", !at(`stale-${stale}`).hidden);
+  }
+  const of = { places: ranText?.source, instructions: listedText, lines: translatedText };
+  for (const [id, source] of Object.entries(of)) {
+    for (const it of at(id).querySelectorAll("button")) it.disabled = source !== text.source;
+  }
 }
 
 // ---- what the server is asked
@@ -199,11 +260,13 @@ async function check() {
   checking?.abort();
   checking = new AbortController();
   try {
-    const answer = await (await ask("check", { source: source.value }, checking.signal)).json();
+    const { source } = present();
+    const answer = await (await ask("check", { source, language }, checking.signal)).json();
     if (mine !== changes) return;
     findings = answer.findings;
     checked = mine;
     showVerdict(answer);
+    if (language === "c") showTranslation(answer.translation, source);
   } catch (error) {
     if (isEnded(error) || mine !== changes) return;
     findings = [];
@@ -217,9 +280,9 @@ async function check() {
 async function lay() {
   const mine = changes;
   try {
-    const answer = await (await ask("format", { source: source.value })).json();
+    const answer = await (await ask("format", { source: editor.text() })).json();
     if (mine !== changes) return;
-    notice(answer.text === null ? answer.words : answer.text === source.value ? "The program is laid out already." : "");
+    notice(answer.text === null ? answer.words : answer.text === editor.text() ? "The program is laid out already." : "");
     if (answer.text !== null) replaceAll(answer.text);
   } catch (error) {
     notice(`The program was not laid out: ${error.message}`);
@@ -254,24 +317,25 @@ function listFindings() {
 }
 
 function placeButton(it, words = `Line ${it.line}, column ${it.column}`) {
-  return make("button", { type: "button", onclick: () => goTo(...rangeOf(it)) }, words);
+  return make("button", { type: "button", onclick: () => goTo(...rangeOf(it)) }, seen(words));
 }
 
 function itemOf(it) {
   const name = it.kind === "warning" ? "Warning" : it.first ? "Refused" : "Refused too";
-  const item = make("li", { class: it.kind }, make("p", { class: "message" }, `${name}: ${it.message}`));
-  if (it.detail) item.append(make("p", { class: "detail" }, it.detail));
-  if (it.hint) item.append(make("p", { class: "hint" }, `Hint: ${it.hint}`));
+  const item = make("li", { class: it.kind }, make("p", { class: "message" }, seen(`${name}: ${it.message}`)));
+  if (it.detail) item.append(make("p", { class: "detail" }, seen(it.detail)));
+  if (it.hint) item.append(make("p", { class: "hint" }, seen(`Hint: ${it.hint}`)));
   const actions = make("div", { class: "actions" }, placeButton(it));
-  for (const other of it.related) actions.append(placeButton(other, `Line ${other.line}${behind(other.message, it)}`));
-  if (it.edit) actions.append(make("button", { type: "button", class: "edit", onclick: () => edit(it) }, `Edit: ${editInWords(it.edit)}`));
+  for (const other of it.related) actions.append(placeButton(other, `Line ${other.line}${elsewhere(other.message, it)}`));
+  if (it.edit) actions.append(make("button", { type: "button", class: "edit", onclick: () => edit(it) },
+    seen(`Edit: ${editInWords(it.edit)}`)));
   item.append(actions);
   if (it.code !== null) item.append(ruleOf(it.code));
   return item;
 }
 
 // What is said of another place, where it was not said already.
-function behind(message, it) {
+function elsewhere(message, it) {
   const lines = message.split("\n").filter((line) => !`${it.message}\n${it.detail}`.includes(line));
   return lines.length ? `: ${lines.join("; ")}` : `, column ${it.related.find((one) => one.message === message).column}, is meant`;
 }
@@ -283,7 +347,9 @@ function editInWords({ text, line, column, endLine, endColumn }) {
 
 function edit(it) {
   if (checked !== changes) return;
-  replaceRange(...rangeOf(it.edit), it.edit.text);
+  const [start, end] = rangeOf(it.edit);
+  editor.replace(start, end, it.edit.text);
+  editor.select(start + it.edit.text.length, start + it.edit.text.length);
 }
 
 // The page of a code, which is asked for when it is opened.
@@ -306,12 +372,12 @@ function ruleOf(code) {
 function nextFinding() {
   if (checked !== changes || !findings.length) return null;
   const ordered = findings.map((it) => ({ it, start: rangeOf(it)[0] })).sort((one, other) => one.start - other.start);
-  return (ordered.find(({ start }) => start > source.selectionStart) || ordered[0]).it;
+  return (ordered.find(({ start }) => start > editor.caret()) || ordered[0]).it;
 }
 
 function findingHere() {
   if (checked !== changes) return null;
-  const inside = (it) => rangeOf(it)[0] <= source.selectionStart && source.selectionStart <= rangeOf(it)[1];
+  const inside = (it) => rangeOf(it)[0] <= editor.caret() && editor.caret() <= rangeOf(it)[1];
   return findings.find((it) => it.edit && inside(it)) || findings.find((it) => it.edit) || null;
 }
 
@@ -322,26 +388,24 @@ function forget() {
   at("output").replaceChildren();
   for (const id of ["end", "places"]) at(id).replaceChildren();
   at("figures").hidden = true;
-  at("listing").hidden = true;
 }
 
 function tellEnd(words, kind, ...more) {
   at("end").className = kind;
-  at("end").replaceChildren(make("p", {}, words), ...more);
+  at("end").replaceChildren(make("p", {}, seen(words)), ...more);
 }
 
-// Bytes as they come: text as UTF-8, and what steers a terminal by its number.
+// Bytes as they come: text as UTF-8, and what is not seen or steers a terminal by its bytes.
 function printer() {
-  const decoder = new TextDecoder("utf-8");
+  const decoder = new TextDecoder("utf-8", { ignoreBOM: true });
   return (bytes) => {
     const text = decoder.decode(bytes, { stream: bytes !== undefined });
-    for (const part of text.split(/([\x00-\x08\x0b-\x1f\x7f-\x9f\u202a-\u202e\u2066-\u2069])/u)) {
-      if (part.length === 1 && part !== "\n" && part !== "\t" && /[\x00-\x1f\x7f-\x9f\u202a-\u202e\u2066-\u2069]/u.test(part)) {
-        at("output").append(make("span", { class: "byte" }, `\\x${part.charCodeAt(0).toString(16).padStart(2, "0")}`));
-      } else if (part) {
-        at("output").append(part);
-      }
+    let done = 0;
+    for (const match of text.matchAll(HIDDEN_CHARACTER)) {
+      at("output").append(text.slice(done, match.index), make("span", { class: "byte" }, escaped(match[0])));
+      done = match.index + match[0].length;
     }
+    at("output").append(text.slice(done));
   };
 }
 
@@ -375,16 +439,19 @@ async function run() {
   running?.abort();
   const mine = (running = new AbortController());
   const text = changes;
+  ranText = present();
   forget();
   mark();
+  markStale();
+  show("running");
   at("stop").disabled = false;
   tellEnd("It is compiled.", "");
-  // In one column the output stands far below the text.
-  if (matchMedia("(max-width: 60rem)").matches) at("printed").scrollIntoView({ block: "start" });
+  // In a narrow window the output stands below the input.
+  if (NARROW.matches) at("printed").scrollIntoView({ block: "start" });
   let last = null;
   try {
     const print = printer();
-    const answer = await ask("run", { source: source.value, input: at("input").value, ...limits() }, mine.signal);
+    const answer = await ask("run", { ...ranText, ...limits() }, mine.signal);
     for await (const it of objectsIn(answer)) {
       if (mine !== running) return;
       last = it;
@@ -414,19 +481,22 @@ function tellCompiled(it, text) {
     showVerdict(it);
     listFindings();
     mark();
+    if (language === "c") showTranslation(it.translation, editor.text());
   }
   if (it.accepted) tellEnd("It runs.", "");
-  else tellEnd(it.end === "fault" ? "It was not run: the program is refused." : `It was not run: ${it.last}.`, "bad", make("p", { class: "said" }, it.said));
+  else tellEnd(it.end === "fault" ? "It was not run: the program is refused." : `It was not run: ${it.last}.`, "bad", make("p",
+    { class: "said" }, seen(it.said)));
 }
 
 function tellEnded(it, text) {
-  const said = it.said.filter(Boolean).map((line) => make("p", { class: "said" }, line));
+  const said = it.said.filter(Boolean).map((line) => make("p", { class: "said" }, seen(line)));
   tellEnd(it.words, it.end === "returned" ? "good" : "bad", ...said);
   if (it.places.length) {
-    at("places").replaceChildren(...it.places.map((place) => make("li", {}, placeButton(place, `Line ${place.line}, column ${place.column}: ${place.text}`))));
+    at("places").replaceChildren(...it.places.map((place) => make("li", {}, placeButton(place,
+      `Line ${place.line}, column ${place.column}: ${place.text}`))));
     if (text === changes) {
       const [start] = rangeOf(it.places[0]);
-      here = [start, start + (/^\w+|^./su.exec(source.value.slice(start)) || [" "])[0].length];
+      here = [start, start + (/^\w+|^./su.exec(editor.text().slice(start)) || [" "])[0].length];
       mark();
     }
   } else if (it.end !== "returned" && !about.can.includes("places")) {
@@ -435,7 +505,8 @@ function tellEnded(it, text) {
   showFigures(it.report);
 }
 
-const FIGURES = { instructions: "Instructions", most_calls: "Most calls at once", most_pages: "Most pages at once", read: "Bytes read", written: "Bytes printed" };
+const FIGURES = { instructions: "Instructions", most_calls: "Most calls at once", most_pages: "Most pages at once", read: "Bytes read",
+  written: "Bytes printed" };
 
 function showFigures(report) {
   const rows = report ? Object.entries(FIGURES).filter(([name]) => report[name] !== null) : [];
@@ -447,22 +518,23 @@ function showFigures(report) {
 // ---- the listing
 
 async function list() {
-  const lines = source.value.split("\n");
-  at("listing").hidden = false;
+  const text = editor.text();
+  show("listing");
+  listedText = text;
   at("instructions").tBodies[0].replaceChildren();
   at("listing-words").textContent = "It is compiled.";
   try {
-    const answer = await (await ask("listing", { source: source.value })).json();
-    at("listing-words").textContent = listingInWords(answer);
-    at("instructions").tBodies[0].replaceChildren(...rowsOf(answer, lines));
+    const answer = await (await ask("listing", { source: text, language })).json();
+    at("listing-words").textContent = seen(listingInWords(answer));
+    at("instructions").tBodies[0].replaceChildren(...rowsOf(answer, text.split("\n")));
   } catch (error) {
     at("listing-words").textContent = `There is no listing: ${error.message}.`;
   }
-  at("listed").scrollIntoView({ block: "nearest" });
+  markStale();
 }
 
 function listingInWords(answer) {
-  if (answer.end !== "done") return answer.end === "fault" ? "There is no listing: the program is refused." : `There is no listing: ${answer.last}.`;
+  if (answer.end !== "done") return `There is no listing: ${answer.end === "fault" ? "the program is refused" : answer.last}.`;
   const cut = answer.all > answer.lines.length ? `, of which the first ${answer.lines.length.toLocaleString("en")} are shown` : "";
   const placed = answer.placed ? "" : " This program cannot tell which lines they are made from: it has no compile --places.";
   return `${count(answer.all, "instruction")}${cut}.${placed}`;
@@ -482,7 +554,7 @@ function rowsOf(answer, lines) {
     const words = line === null ? (name ? `(what ${name} raises)` : answer.placed ? "(before main)" : "") : lines[line - 1] || "";
     const first = line === null ? "" : led.has(line) ? String(line) : placeButton(place, String(line));
     led.add(line);
-    return make("tr", {}, make("td", {}, first), make("td", {}, words), make("td", {}, texts.join("\n")));
+    return make("tr", {}, make("td", {}, first), make("td", {}, seen(words)), make("td", {}, texts.join("\n")));
   });
 }
 
@@ -502,7 +574,7 @@ async function through(bytes, stream, most = Infinity) {
 }
 
 async function link() {
-  const held = JSON.stringify({ source: source.value, input: at("input").value });
+  const held = JSON.stringify(present());
   const bytes = await through(new TextEncoder().encode(held), new CompressionStream("deflate-raw"));
   const base64 = btoa(Array.from(bytes, (byte) => String.fromCharCode(byte)).join(""));
   const address = `#program=${base64.replaceAll("+", "-").replaceAll("/", "_").replace(/=+$/, "")}`;
@@ -518,14 +590,16 @@ async function link() {
 
 // Whether the address held a program.
 async function takeLink() {
+  const example = /^#example=([\w.-]+)$/.exec(location.hash);
+  if (example) return choose(example[1]);
   const held = /^#program=([\w-]+)$/.exec(location.hash);
   if (!held) return false;
   try {
     const most = 12 * about.caps.text + 1000;
     const bytes = await through(bytesIn(held[1].replaceAll("-", "+").replaceAll("_", "/")), new DecompressionStream("deflate-raw"), most);
     const it = JSON.parse(new TextDecoder("utf-8", { fatal: true }).decode(bytes));
-    if (typeof it.source !== "string" || typeof it.input !== "string") throw new Error("it holds no program");
-    putText(it.source, it.input);
+    if (!isText(it)) throw new Error("it holds no program");
+    putText(it);
     return true;
   } catch {
     notice("The address of this page holds no program that can be read.");
@@ -548,6 +622,8 @@ const LACKING = {
 
 function showAbout() {
   at("version").textContent = about.version;
+  const isWished = editor instanceof RichEditor || stored().plain;
+  at("editor-words").textContent = isWished ? "" : "The server has no CodeMirror: this is a plain text area.";
   const lacking = Object.keys(LACKING).filter((name) => !about.can.includes(name)).map((name) => LACKING[name]);
   if (lacking.length) notice(`The program behind this page cannot ${lacking.join(", and cannot ")}.`);
   at("peaks").disabled = !about.can.includes("peaks");
@@ -559,14 +635,39 @@ function showAbout() {
   const { seconds, output, text } = about.caps;
   at("caps").textContent = `A run takes at most ${count(seconds, "second")} and prints at most ${output.toLocaleString("en")} bytes;` +
     ` a program and an input have at most ${text.toLocaleString("en")} bytes each.`;
-  at("example").append(...about.examples.map(({ name }) => make("option", { value: name }, name)));
+  const canC = about.can.includes("c");
+  at("language").closest(".field").hidden = !canC;
+  const examples = about.examples.filter((it) => canC || languageOf(it) !== "c");
+  at("example").append(...examples.map(({ name, title }) => make("option", { value: name }, title ? `${name}: ${title}` : name)));
+}
+
+function showKept() {
+  const { kept } = stored();
+  keptShown = kept;
+  at("kept").replaceChildren(make("option", { value: "" }, kept.length ? "choose one" : "none yet"), ...kept.map((it,
+    number) => make("option", { value: number }, titleOf(it))));
+  at("kept").disabled = !kept.length;
+}
+
+function bringBack(number) {
+  const found = number === "" ? null : keptShown[number];
+  if (found) putText(found);
+  at("kept").value = "";
 }
 
 function choose(name) {
   const found = about.examples.find((it) => it.name === name);
-  if (!found) return;
+  if (!found) return false;
   history.replaceState(null, "", location.pathname);
-  putText(found.source, found.input);
+  putText(found);
+  at("example").value = name;
+  if (NARROW.matches) show("program");
+  return true;
+}
+
+function setPlain(isPlain) {
+  store({ plain: isPlain, draft: present() });
+  location.reload();
 }
 
 function pressed(event) {
@@ -581,10 +682,8 @@ function pressed(event) {
   event.preventDefault();
 }
 
-async function begin() {
-  source.addEventListener("input", changed);
-  source.addEventListener("scroll", follow);
-  new ResizeObserver(follow).observe(source);
+function listen() {
+  editor.onChange(changed);
   document.addEventListener("keydown", pressed);
   at("run").addEventListener("click", run);
   at("stop").addEventListener("click", () => running?.abort());
@@ -592,8 +691,25 @@ async function begin() {
   at("list").addEventListener("click", list);
   at("link").addEventListener("click", link);
   at("example").addEventListener("change", () => choose(at("example").value));
+  at("language").addEventListener("change", () => turnTo(at("language").value));
+  at("kept").addEventListener("change", () => bringBack(at("kept").value));
+  at("input").addEventListener("input", markStale);
+  at("plain").addEventListener("change", () => setPlain(at("plain").checked));
+  for (const it of PARTS) at(`tab-${it}`).addEventListener("click", () => show(it));
+  at("tabs").addEventListener("keydown", moveTab);
+  NARROW.addEventListener("change", () => show(document.body.dataset.part));
   window.addEventListener("hashchange", takeLink);
-  paint();
+  window.addEventListener("pagehide", () => about && store({ draft: present() }));
+}
+
+async function begin() {
+  const { plain, draft } = stored();
+  editor = editorAt(at("editor"), "Program", "verdict keys", plain);
+  at("plain").checked = plain || editor instanceof PlainEditor;
+  at("plain").disabled = editor instanceof PlainEditor && !plain;
+  listen();
+  show("program");
+  showKept();
   try {
     const answer = await fetch("about");
     about = await answer.json();
@@ -602,12 +718,10 @@ async function begin() {
     return;
   }
   showAbout();
-  if (!(await takeLink()) && !source.value && about.examples.length) {
-    at("example").value = about.examples[0].name;
-    choose(about.examples[0].name);
-  } else {
-    changed();
-  }
+  if (draft) putText(draft);
+  if (!(await takeLink()) && !draft && about.examples.length) choose(about.examples[0].name);
+  clearTimeout(timer);
+  settled();
 }
 
 begin();
