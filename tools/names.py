@@ -1,10 +1,11 @@
-"""The names of a text: where each is declared, with which type, and what each use of one means.
+"""Resolves the names of a text: the place and type of each declaration, and the meaning of each use.
 
-Any text is read, also one that is refused: where it is none of the language, reading goes on behind the next semicolon or brace, and a name
-of which nothing is known means nothing. Places are numbers of characters from the beginning of the text.
+Any text can be analysed, also one with faults: after a syntax error, reading continues after the next semicolon or brace, and an unknown
+name has no meaning. Places are character offsets from the beginning of the text.
 """
 import bisect
 import collections
+import itertools
 import re
 
 TOKEN = re.compile(
@@ -24,28 +25,34 @@ KEYWORDS = set(
 BASES = ("int", "char", "struct", "region_t", "uregion_key_t")
 MARKS = ("*", "@", "?")
 OPERATORS = set("|| && | ^ & == != < <= > >= << >> + - * / %".split())
-# How deep brackets and statements may stand in each other before reading gives up; the language allows 200.
+# A region that no type can name: that of a block without a label, or an unknown one. Regions chosen by a caller are numbers.
+UNKNOWN, HEAP = "`0", "`H"
+# The maximum nesting of brackets and statements that is read; the language allows 200.
 DEEPEST = 210
 
 Token = collections.namedtuple("Token", "kind text start end")
 
 
 class Lost(Exception):
-    """The text is none of the language here."""
+    """Reports a syntax error at this point."""
 
 
 class Declared:
-    """What a name is declared as: its kind, its type or None, the function or struct that it belongs to or None, more about it in words,
-    and its place; -1 of what is there beforehand."""
+    """A declaration: its kind, its type or None, its function or struct or None, a description, and its place; -1 for a built-in name."""
 
     def __init__(self, kind, name, type_text=None, owner=None, about="", token=None):
         self.kind, self.name, self.type, self.owner, self.about = kind, name, type_text, owner, about
         self.start, self.end = (token.start, token.end) if token else (-1, -1)
-        # The whole declaration, from its first character to its last, and what stands in it.
+        # The whole declaration, from its first character to its last, and its parts.
         self.whole, self.parts = (self.start, self.end), []
-        # What a call of it answers; the fields of a struct; whether a variable has a value at once, and the block in which it lies: its
-        # region, or None where that has no name.
+        # The result type of a call; the fields of a struct; whether a variable has an initial value; and the region of its block, or None
+        # if it has no name.
         self.result, self.fields, self.has_value, self.block = None, {}, False, None
+        # The type, or a function's result type, with all regions; the types of a function's parameters, and their source texts; and the
+        # region parameters of a struct.
+        self.full, self.parameters, self.written, self.regions = type_text, [], [], []
+        # The range of the text in which the name is visible, for a name in a block.
+        self.since, self.until = -1, -1
 
 
 GIVEN = {
@@ -67,7 +74,7 @@ GIVEN_EXCEPTIONS = {
 
 
 def tokens_of(text):
-    """The tokens of a text, without spaces and comments, and one for its end."""
+    """Returns the tokens of a text, without spaces and comments, and one for its end."""
     tokens = []
     for match in TOKEN.finditer(text):
         kind = "keyword" if match.group() in KEYWORDS else match.lastgroup
@@ -77,7 +84,7 @@ def tokens_of(text):
 
 
 def spelled(tokens):
-    """Tokens of a type as a person writes them."""
+    """Returns the tokens of a type in the usual spelling."""
     text = ""
     for before, token in zip([None, *tokens], tokens):
         is_close = before is None or token.text in ("<", ">", ",") or before.text == "<" or before.text in MARKS
@@ -86,7 +93,7 @@ def spelled(tokens):
 
 
 def target_of(type_text):
-    """What a pointer of this type leads to; None where it is none."""
+    """Returns the target type of a pointer type; None for another type."""
     found = re.fullmatch(r"(.*?)\s*[*@?](?:`\w+)?", type_text or "")
     return found and found[1]
 
@@ -96,13 +103,35 @@ def pointer_to(type_text):
 
 
 def struct_in(type_text):
-    """The name of the struct that a type is of, or leads to."""
+    """Returns the name of the struct of a type or of its target."""
     found = re.match(r"struct (\w+)", type_text or "")
     return found and found[1]
 
 
+def region_of(type_text):
+    """Returns the region of a pointer or handle type; for another type, an unknown one."""
+    found = re.search(r"[*@?](`\w+)$", type_text or "") or re.fullmatch(r"region_t<(`\w+)>", type_text or "")
+    return found[1] if found else UNKNOWN
+
+
+def replaced(type_text, regions):
+    """Returns a type with some regions replaced."""
+    return type_text and re.sub(r"`\w+", lambda it: regions.get(it[0], it[0]), type_text)
+
+
+def bound(parameters, arguments):
+    """Returns the region for each region parameter at a call: that of the argument at its first place, or the heap for `NULL`."""
+    found = {"`U": "`U"}
+    for parameter, argument in zip(parameters, arguments):
+        theirs = re.findall(r"`\w+", parameter)
+        given = [HEAP] * len(theirs) if argument == "NULL" else re.findall(r"`\w+", argument or "")
+        for one, other in zip(theirs, given if len(given) == len(theirs) else [UNKNOWN] * len(theirs)):
+            found.setdefault(one, other)
+    return {HEAP: HEAP, **found}
+
+
 class Reading:
-    """The tokens of a text, and how far it is read."""
+    """The tokens of a text, and the current position."""
 
     def __init__(self, text):
         self.text, self.tokens, self.at = text, tokens_of(text), 0
@@ -120,7 +149,7 @@ class Reading:
         return token
 
     def is_next(self, *wanted):
-        """Whether these stand next, each a text, or a kind of tokens behind a dot."""
+        """Returns true if these tokens are next, each given as a text, or as a kind after a dot."""
         return all(self.fits(self.ahead(count), it) for count, it in enumerate(wanted))
 
     @staticmethod
@@ -128,20 +157,20 @@ class Reading:
         return token.kind == wanted[1:] if len(wanted) > 1 and wanted[0] == "." else token.text == wanted
 
     def accept(self, text):
-        """Takes the next token where it is this one, and answers whether it was."""
+        """Consumes the next token if it is this one, and returns true if it was."""
         is_there = self.next.text == text
         if is_there:
             self.take()
         return is_there
 
     def expect(self, wanted):
-        """Takes the next token, which has to be this, or of this kind."""
+        """Consumes the next token, which must be this one, or of this kind."""
         if not self.fits(self.next, wanted):
             raise Lost
         return self.take()
 
     def closing(self, at):
-        """The place of the bracket that closes the one at a place."""
+        """Returns the place of the bracket that closes the one at a place."""
         depth = 0
         while at < len(self.tokens) - 1:
             depth += (self.tokens[at].text in ("(", "[", "{")) - (self.tokens[at].text in (")", "]", "}"))
@@ -151,7 +180,7 @@ class Reading:
         return at
 
     def end_of_type(self):
-        """The place behind the type that begins here; this place where none does."""
+        """Returns the place after the type that begins here; this place if none does."""
         at = self.at
         if self.next.text not in BASES or self.next.text == "struct" and self.ahead(1).kind != "name":
             return at
@@ -169,12 +198,12 @@ class Reading:
         return at
 
     def declared_name(self):
-        """The place of the name behind the type, or the `void`, that begins here; None where none stands there."""
+        """Returns the place of the name after the type, or the `void`, that begins here; None if there is none."""
         end = self.at + 1 if self.next.text == "void" else self.end_of_type()
         return end if end > self.at and self.tokens[end].kind == "name" else None
 
     def is_struct(self):
-        """Whether a struct is declared here."""
+        """Returns true if a struct is declared here."""
         return self.is_next("struct", ".name") and self.ahead(2).text in ("{", "<") and self.declared_name() is None
 
 
@@ -184,16 +213,20 @@ class Names(Reading):
     def __init__(self, text):
         super().__init__(text)
         self.declared, self.top, self.uses = [], [], []
+        # The places of omitted regions, each with its meaning; and the types before each `->`, by the place after it.
+        self.left_out, self.arrows = [], {}
         self.structs, self.globals, self.exceptions = {}, {}, {}
-        # What `top` has, by the places of the names.
+        # The declarations in `top`, by the places of their names.
         self.heads = {}
         self.each(self.find_head)
+        self.find_types()
         self.each(self.read)
         self.uses.sort(key=lambda use: use[0])
+        self.left_out.sort()
         self.starts = [start for start, _, _ in self.uses]
 
     def each(self, read):
-        """Goes through the declarations of the text, and over what is none."""
+        """Iterates over the declarations of the text, and skips syntax errors."""
         self.at = 0
         while self.next.kind != "end":
             start = self.at
@@ -204,14 +237,14 @@ class Names(Reading):
             self.at = max(self.at, start + 1)
 
     def meaning_at(self, place):
-        """The use at a place, or right before it, with its meaning; None where there is none."""
+        """Returns the use at a place, or just before it, with its meaning; None if there is none."""
         for at in (place, place - 1):
             number = bisect.bisect_right(self.starts, at) - 1
             if number >= 0 and self.uses[number][1] > at:
                 return self.uses[number]
         return None
 
-    # ---- what is noted
+    # ---- recorded uses
 
     def declare(self, kind, token, type_text=None, owner=None, about="", name=None):
         it = Declared(kind, name or token.text, type_text, owner, about, token)
@@ -223,7 +256,28 @@ class Names(Reading):
         if meaning is not None:
             self.uses.append((token.start, token.end, meaning))
 
-    # ---- the heads, which are known in the whole text
+    def whole_type(self, tokens, outermost=HEAP, inner=HEAP):
+        """Returns a type with all regions, and records the places of omitted ones. The last mark gets `outermost`, the others `inner`: each
+        is a text, or a function that makes one."""
+        parts = []
+        marks = [number for number, token in enumerate(tokens) if token.text in MARKS]
+        for number, token in enumerate(tokens):
+            parts.append(token)
+            behind = tokens[number + 1] if number + 1 < len(tokens) else None
+            text = None
+            if token.text in MARKS and (behind is None or behind.kind != "region"):
+                meant = outermost if number == marks[-1] else inner
+                text = meant() if callable(meant) else meant
+                parts.append(Token("region", text, token.end, token.end))
+            elif token.kind == "name" and token.text in self.structs and (behind is None or behind.text != "<"):
+                count = len(self.structs[token.text].regions)
+                text = count and f"<{','.join([HEAP] * count)}>"
+                parts += tokens_of(text or "")[:-1]
+            if text:
+                self.left_out.append((token.end, text))
+        return spelled(parts)
+
+    # ---- declarations outside of blocks, visible in the whole text
 
     def find_head(self):
         if self.is_struct():
@@ -242,18 +296,21 @@ class Names(Reading):
         return it
 
     def find_struct(self):
-        start, name = self.take().start, self.take()
+        start, name, regions = self.take().start, self.take(), []
         while self.next.text != "{":
             if self.next.kind == "end":
                 raise Lost
+            regions += [self.next.text] if self.next.kind == "region" else []
             self.take()
         end = self.closing(self.at)
         it = self.find("struct", name, f"struct {name.text}", self.structs, (start, self.tokens[end].end))
+        it.regions = regions
         self.take()
         while self.at < end:
             at = self.declared_name()
             if at is not None:
                 field = self.declare("field", self.tokens[at], spelled(self.tokens[self.at:at]), it)
+                field.full = self.tokens[self.at:at]
                 it.fields.setdefault(field.name, field)
                 it.parts.append(field)
                 self.at = at
@@ -276,19 +333,51 @@ class Names(Reading):
         if self.tokens[at + 1].text != "(":
             while self.tokens[close].kind != "end" and self.tokens[close].text != ";":
                 close += 1
-            self.find("global", name, type_text, self.globals, (start, self.tokens[close].end))
+            self.find("global", name, type_text, self.globals, (start, self.tokens[close].end)).full = self.tokens[self.at:at]
         else:
             close = self.closing(at + 1)
             head = " ".join(self.text[start:self.tokens[close].end].split())
             if self.tokens[min(close + 1, len(self.tokens) - 1)].text == "{":
                 close = self.closing(close + 1)
-            self.find("function", name, head, self.globals, (start, self.tokens[close].end)).result = type_text
+            it = self.find("function", name, head, self.globals, (start, self.tokens[close].end))
+            it.result, it.full = type_text, self.tokens[self.at:at]
+            it.parameters = list(self.parameters_at(at + 2))
+            it.written = [" ".join(self.text[one:other].split()) for one, other, _ in it.parameters]
         self.at = close + 1
 
-    # ---- what stands in them
+    def parameters_at(self, at):
+        """Returns the parameters of a function from its bracket on: the range and the type of each."""
+        before = self.at
+        self.at = at
+        while self.end_of_type() > self.at:
+            start, tokens = self.next.start, self.tokens[self.at:self.end_of_type()]
+            self.at += len(tokens)
+            if self.next.kind == "name":
+                self.take()
+            yield start, self.tokens[self.at - 1].end, tokens
+            if not self.accept(","):
+                break
+        self.at = before
+
+    def find_types(self):
+        """Computes the type with all regions of each outer declaration, once all structs are known."""
+        for it in self.declared:
+            if it.kind == "field":
+                it.full = self.whole_type(it.full)
+            elif it.kind == "function":
+                numbers = itertools.count(1)
+                choose = lambda: f"`{next(numbers)}"
+                noted = len(self.left_out)
+                it.parameters = [self.whole_type(tokens, choose, choose) for _, _, tokens in it.parameters]
+                self.left_out[noted:] = [(place, text) for place, text in self.left_out[noted:] if text[0] == "<"]
+                it.full = self.whole_type(it.full)
+            elif it.kind == "global":
+                it.full = self.whole_type(it.full)
+
+    # ---- bodies
 
     def read(self):
-        """Reads a declaration whose head was found; what is none of the language may lead to another."""
+        """Reads a declaration whose name was found; after a syntax error, reading may continue at another one."""
         if self.is_struct():
             found, inside = self.heads.get(self.ahead(1).start), Inside.struct
         elif self.declared_name() is not None:
@@ -300,26 +389,39 @@ class Names(Reading):
 
 
 class Inside:
-    """A declaration while it is read: what is known in each block that is open."""
+    """A declaration while it is read, with the visible names of each open block."""
 
     def __init__(self, names, owner):
         self.names, self.owner = names, owner
         self.variables, self.regions, self.depth = [{}], [{}], 0
         self.blocks = ["`" + owner.name]
+        # The region of the object that was read last.
+        self.lies = UNKNOWN
 
-    # ---- what is known
+    # ---- visible names
 
     def variable(self, kind, token, type_text):
         it = self.names.declare(kind, token, type_text, self.owner)
         it.block = self.blocks[-1]
         self.variables[-1][token.text] = it
         self.owner.parts.append(it)
+        self.begin(it)
         return it
 
     def region(self, token, about, name=None):
         it = self.names.declare("region", token, None, self.owner, about, name)
         self.regions[-1][it.name] = it
+        self.begin(it)
         return it
+
+    def begin(self, it):
+        """Records that a name is visible from here on, or from the place after its name."""
+        it.since = max(it.end, self.names.tokens[self.names.at - 1].end if self.names.at else 0)
+
+    def end(self, place):
+        """Ends the visibility of the names declared in the innermost block."""
+        for it in (*self.variables[-1].values(), *self.regions[-1].values()):
+            it.until = place
 
     def meaning(self, name):
         known = (scope[name] for scope in reversed(self.variables) if name in scope)
@@ -329,7 +431,7 @@ class Inside:
         self.names.use(token, self.names.exceptions.get(token.text) or GIVEN_EXCEPTIONS.get(token.text))
 
     def use_region(self, token, about=None):
-        """Notes the use of a region; with `about` it is declared where it is not known."""
+        """Records the use of a region; with `about`, declares an unknown one."""
         known = next((scope[token.text] for scope in reversed(self.regions) if token.text in scope), GIVEN.get(token.text))
         if known is None and about:
             self.region(token, about)
@@ -337,7 +439,7 @@ class Inside:
             self.names.use(token, known)
 
     def type(self, about=None):
-        """Takes a type, and answers it as it is spelled."""
+        """Consumes a type, and returns its spelling."""
         names = self.names
         end = names.end_of_type()
         if end == names.at:
@@ -349,10 +451,11 @@ class Inside:
             elif token.kind == "region":
                 self.use_region(token, about)
         names.at = end
+        self.read = tokens
         return spelled(tokens)
 
     def nested(self, read, *more):
-        """Reads what stands in a bracket, an operand or a statement, within the depth that is allowed."""
+        """Reads a bracket, an operand or a statement, within the allowed depth."""
         if self.depth == DEEPEST:
             raise Lost
         self.depth += 1
@@ -362,13 +465,15 @@ class Inside:
             self.depth -= 1
 
     def within(self, read, block=None):
-        """Reads what has names of its own, in a block of this region, or of one without a name."""
+        """Reads a scope in a block with this region, or without a name."""
         self.variables.append({})
         self.regions.append({})
         self.blocks.append(block)
         try:
             return self.nested(read)
         finally:
+            last = self.names.tokens[self.names.at - 1]
+            self.end(last.start if read in (self.block, self.labelled) and last.text == "}" else self.names.next.start)
             self.variables.pop()
             self.regions.pop()
             self.blocks.pop()
@@ -388,6 +493,7 @@ class Inside:
                 self.type()
             else:
                 names.take()
+        self.end(names.tokens[end].end)
         names.at = end + 1
 
     def function_or_global(self):
@@ -398,12 +504,13 @@ class Inside:
             while names.next.kind != "end" and not names.accept(";"):
                 names.take()
             return
-        # The regions of the result are those of the parameters, which stand behind it.
-        own = Declared("region", "`" + self.owner.name, owner=self.owner, about="where this function's own variables lie, to its last brace")
+        # The regions of the result are those of the parameters, which follow it in the text.
+        about = "where this function's own variables lie, to its last brace"
+        own = Declared("region", "`" + self.owner.name, owner=self.owner, about=about)
         own.start, own.end = self.owner.start, self.owner.end
         self.regions[0][own.name] = own
         names.at = name_at + 1
-        close = names.closing(names.at)
+        close, self.own = names.closing(names.at), iter(self.owner.parameters)
         self.parameters(close)
         names.at = start
         if not names.accept("void"):
@@ -417,24 +524,25 @@ class Inside:
         about = f"a region that the caller of {self.owner.name} chooses"
         while names.at < close:
             if names.end_of_type() > names.at:
-                type_text = self.type(about)
+                type_text, full = self.type(about), next(self.own, None)
                 if names.next.kind == "name":
-                    self.variable("parameter", names.next, type_text)
+                    self.variable("parameter", names.next, type_text).full = full
             elif names.next.kind == "region":
                 self.use_region(names.next, about)
             names.take()
 
     def body(self):
-        """The block of a function, in which its parameters are declared too."""
+        """Reads the block of a function, in which its parameters are declared too."""
         end = self.names.closing(self.names.at)
         self.names.take()
         self.items(("}",))
+        self.end(self.names.tokens[end].start)
         self.names.at = max(self.names.at, end + 1)
 
     # ---- blocks
 
     def items(self, stops):
-        """Reads items up to one of these tokens, which is left. Where one is none of the language, it goes on behind it."""
+        """Reads items up to one of these tokens, which is not consumed. Continues after a syntax error."""
         names = self.names
         while names.next.kind != "end" and names.next.text not in stops:
             start = names.at
@@ -444,7 +552,7 @@ class Inside:
                 self.pass_over(start)
 
     def pass_over(self, start):
-        """Goes on behind the next semicolon, or at the next brace."""
+        """Skips to the place after the next semicolon, or to the next brace."""
         names = self.names
         if names.at == start:
             names.take()
@@ -466,13 +574,15 @@ class Inside:
 
     def local_item(self):
         names = self.names
-        type_text = self.type()
+        type_text, tokens = self.type(), self.read
         name = names.expect(".name")
-        has_value = names.accept("=")
-        if has_value:
-            self.expression()
-        # It is known behind its declaration alone.
-        self.variable("local", name, type_text).has_value = has_value
+        has_value, found = names.accept("="), "NULL"
+        try:
+            found = self.expression() if has_value else found
+        finally:
+            # The name is visible only after its declaration.
+            it = self.variable("local", name, type_text)
+            it.has_value, it.full = has_value, names.whole_type(tokens, HEAP if found == "NULL" else region_of(found))
         names.expect(";")
 
     def region_item(self):
@@ -499,12 +609,12 @@ class Inside:
         names.expect("<")
         self.region(names.expect(".region"), "where a unique pointer is lent out, to the end of this block")
         names.expect(">")
-        type_text = self.type()
+        type_text, tokens = self.type(), self.read
         name = names.expect(".name")
         names.expect("=")
         lent = names.expect(".name")
         names.use(lent, self.meaning(lent.text))
-        self.variable("local", name, type_text)
+        self.variable("local", name, type_text).full = names.whole_type(tokens)
         names.expect(";")
 
     def dynamic_item(self):
@@ -527,7 +637,7 @@ class Inside:
         names.expect("}")
 
     def labelled(self):
-        """A label with its block, whose region it names."""
+        """Reads a label with its block, whose region it names."""
         names = self.names
         label = names.take()
         names.take()
@@ -601,7 +711,7 @@ class Inside:
         names.expect(":")
         self.items(("case", "default", "}"))
 
-    # ---- expressions; each answers the type of what was read, or None where that is not known
+    # ---- expressions; each returns the type of the expression, or None if it is unknown
 
     def expression(self):
         return self.nested(self.one_expression)
@@ -618,6 +728,7 @@ class Inside:
             is_sum = self.names.take().text in ("+", "-")
             self.unary()
             found = found if is_sum and target_of(found) is not None else "int"
+            self.lies = UNKNOWN
         return found
 
     def unary(self):
@@ -632,39 +743,52 @@ class Inside:
             return "int"
         if text == "*":
             names.take()
-            return target_of(self.unary())
+            return self.led_to(self.unary())
         if text == "&":
             names.take()
-            return pointer_to(self.unary())
+            found = self.unary()
+            return found and f"{found} @{self.lies}"
         if text == "new":
             names.take()
-            return self.initial()
+            return self.initial(HEAP)
         if text == "rnew":
             names.take()
-            self.arguments()
-            return self.initial()
+            return self.initial(region_of((self.arguments() or [None])[0]))
         return self.postfix()
 
-    def initial(self):
+    def led_to(self, found):
+        """Returns the type of a pointer's target, which is in the pointer's region."""
+        self.lies = region_of(found)
+        return target_of(found)
+
+    def initial(self, region):
+        """Reads an allocation in a region, and returns the type of the pointer to it."""
         names = self.names
         if names.is_next("{", "for"):
-            return self.within(self.elements)
-        if names.is_next(".name", "{") or names.is_next(".name", "<", ".region"):
-            return self.fields()
-        return pointer_to(self.unary())
+            found, mark = self.within(self.elements), "?"
+        elif names.is_next(".name", "{") or names.is_next(".name", "<", ".region"):
+            found, mark = self.fields(), "@"
+        else:
+            found, mark = self.unary(), "@"
+        return found and f"{found} {mark}{region}"
 
     def fields(self):
         names = self.names
-        struct = names.take()
-        names.use(struct, names.structs.get(struct.text))
+        struct, regions = names.take(), []
+        it = names.structs.get(struct.text)
+        names.use(struct, it)
+        if names.next.text == "{" and it and it.regions:
+            regions = [HEAP] * len(it.regions)
+            names.left_out.append((struct.end, f"<{','.join(regions)}>"))
         while names.next.text != "{":
             token = names.take()
             if token.kind == "region":
                 self.use_region(token)
+                regions.append(token.text)
             elif token.text not in ("<", ",", ">"):
                 raise Lost
         self.list("{", "}")
-        return f"struct {struct.text} @"
+        return f"struct {struct.text}" + (f"<{', '.join(regions)}>" if regions else "")
 
     def elements(self):
         names = self.names
@@ -676,35 +800,38 @@ class Inside:
         self.variable("counter", counter, "int")
         found = self.expression()
         names.expect("}")
-        return found and f"{found} ?"
+        return found
 
     def list(self, opening, closing):
-        """Expressions with commas between them, in brackets."""
-        names = self.names
+        """Reads comma-separated expressions in brackets, and returns their types."""
+        names, found = self.names, []
         names.expect(opening)
         if names.next.text != closing:
-            self.expression()
+            found.append(self.expression())
             while names.accept(","):
-                self.expression()
+                found.append(self.expression())
         names.expect(closing)
+        return found
 
     def arguments(self):
-        self.list("(", ")")
+        return self.list("(", ")")
 
     def postfix(self):
         names = self.names
         found = self.primary()
         while names.next.text in ("[", "->"):
-            if names.take().text == "[":
+            token = names.take()
+            if token.text == "[":
                 self.expression()
                 names.expect("]")
-                found = target_of(found)
+                found = self.led_to(found)
             else:
+                names.arrows[token.end] = found
                 found = self.field(names.expect(".name"), found)
         return found
 
     def field(self, token, found):
-        """A field of what `found` leads to; where that is not known, of the only struct that has one of this name."""
+        """Reads a field of the target of `found`; if that is unknown, of the only struct with a field of this name."""
         structs = self.names.structs
         struct = structs.get(struct_in(found))
         if struct is None:
@@ -712,7 +839,10 @@ class Inside:
             struct = having[0] if len(having) == 1 else None
         it = struct and struct.fields.get(token.text)
         self.names.use(token, it)
-        return it and it.type
+        given = re.match(r"struct \w+<([^>]*)>", found or "")
+        self.lies = region_of(found)
+        regions = dict(zip(struct.regions, re.findall(r"`\w+", given[1] if given else ""))) if struct else {}
+        return it and replaced(it.full, {**{one: UNKNOWN for one in struct.regions}, **regions})
 
     def primary(self):
         names = self.names
@@ -729,7 +859,7 @@ class Inside:
             return found
         if token.text in ("NULL", "heap_region", "unique_region"):
             names.take()
-            return None
+            return {"NULL": "NULL", "heap_region": "region_t<`H>", "unique_region": "region_t<`U>"}[token.text]
         if token.text in ("numelts", "char", "ufree", "free_ukey"):
             names.take()
             self.arguments()
@@ -741,6 +871,11 @@ class Inside:
         it = self.meaning(token.text)
         names.use(token, it)
         if names.next.text != "(":
-            return it and it.type
-        self.arguments()
-        return it and it.result
+            self.lies = (it.block or UNKNOWN) if it and it.owner else HEAP
+            return it and it.full
+        given = self.arguments()
+        self.lies = UNKNOWN
+        if it is None or it.start < 0:
+            return it and "int"
+        regions = bound(it.parameters, given)
+        return re.sub(r"`\w+", lambda found: regions.get(found[0], UNKNOWN), it.full or "")

@@ -1,13 +1,12 @@
 #!/usr/bin/env python3
-"""Reads the examples, and a text of odd tokens, with the files in editors/, and says which bytes are taken for what they are not, and which
-lines are indented otherwise than they should be.
+"""Tests the files in editors/ on the examples and on a text of unusual tokens. Reports wrongly classified bytes and wrongly indented lines.
 
     python3 tests/runners/editors.py
 
-What each byte is comes from the reference's rules of tokens (language/texts.py). The file for vim is read by vim; the TextMate grammar
-by a small reader of such grammars here, a line and a token at a time, as editors do. Each example, with no indentation, is indented by vim
-as it is written, by two spaces. What package.json names is there, and its words are those of the grammar. The last line is
-`N passed, M failed`, of texts and files.
+The expected class of each byte comes from the reference's lexical rules (language/texts.py). Vim itself interprets its file; a small
+interpreter in this module applies the TextMate grammar line by line and token by token, as editors do. Each example without its indentation
+must be indented by vim as it is written, by two spaces. The files named in package.json must exist, and its words must be those of the
+grammar. The last line is `N passed, M failed`, of texts and files.
 """
 import json
 import os
@@ -15,20 +14,20 @@ import re
 import subprocess
 import tempfile
 
-import suite  # first: it says where the references and the generators are
+import suite  # first: it makes the references and the generators importable
 from language import texts
 
 EXAMPLES = os.path.join(suite.ROOT, "examples")
 EDITORS = os.path.join(suite.ROOT, "editors")
 VIM = os.path.join(EDITORS, "vim")
 TEXTMATE = os.path.join(EDITORS, "textmate", "cyclone.tmLanguage.json")
-# What touches its neighbour, what only begins like something else, and comments of each form.
+# Tokens that touch their neighbours, tokens that only begin like others, and comments of each form.
 ODD = """int interest=0x1F+0X0a-017*08/12int%_1;/**//*/ if " ' # */return'\\''+'\\\\'-' '*'"';
 a-->b>>=c:=:d||e//*/ while
 `int`r int*`H x;newer new_ukeys new0 NULLs NULL/*
 struct 'a' // */ struct Point2 p?q@r 0x 0 1 x1 unique_region,heap_regions,regions region region_t
 """
-# The kinds of bytes, and how each file names them: a group for vim, the beginning of a scope for TextMate.
+# The classes of bytes, and their names in each file: a group for vim, the beginning of a scope for TextMate.
 KINDS = {
     "comment": ("cycloneComment", "comment."),
     "name": ("cycloneName", "variable.other."),
@@ -48,7 +47,7 @@ WORDS = {
     "constant": "NULL unique_region heap_region",
 }
 KIND_OF_WORD = {word: kind for kind, words in WORDS.items() for word in words.split()}
-# Writes the group of each byte of a line, a line for each line of the text.
+# Writes the group of each byte, one line for each line of the text.
 VIM_SCRIPT = """
 set nomore encoding=latin1 synmaxcol=0 redrawtime=100000
 execute 'set runtimepath^=' . $FILES
@@ -62,7 +61,7 @@ call writefile(groups, $GROUPS)
 quitall!
 """
 
-# Indents a text anew.
+# Reindents a text.
 INDENT_SCRIPT = """
 set nomore encoding=latin1
 execute 'set runtimepath^=' . $FILES
@@ -75,7 +74,7 @@ quitall!
 
 
 def kinds_of(text):
-    """The kind of each byte of a text by the rules of tokens; nothing for a space."""
+    """Returns the class of each byte of a text by the lexical rules; none for a space."""
     kinds, at = [], 0
     while at < len(text):
         match = texts.TOKEN.match(text, at)
@@ -88,32 +87,32 @@ def kinds_of(text):
 
 
 def in_vim(script, text, folder, **more):
-    """What a script for vim leaves in the file GROUPS, of a text in the file TEXT; nothing where it leaves none."""
+    """Returns the file GROUPS that a vim script writes for the file TEXT; empty if it writes none."""
     paths = {name: os.path.join(folder, name.lower() + ".cyc") for name in ("TEXT", "GROUPS", "SCRIPT")}
     for name, content in (("TEXT", text), ("SCRIPT", script), ("GROUPS", "")):
         with open(paths[name], "w", encoding="latin-1") as file:
             file.write(content)
     words = ["vim", "-N", "-u", "NONE", "-i", "NONE", "-n", "-es", "-S", paths["SCRIPT"]]
     environment = {**os.environ, **paths, "FILES": VIM, "HOME": folder, "TERM": "dumb", **more}
-    subprocess.run(words, env=environment, cwd=folder, stdin=subprocess.DEVNULL, capture_output=True, timeout=suite.SECONDS)
+    suite.run(words, env=environment, cwd=folder, stdin=subprocess.DEVNULL)
     with open(paths["GROUPS"], encoding="latin-1") as file:
         return file.read()
 
 
 def groups_in_vim(text, folder):
-    """What vim takes each byte of each line for."""
+    """Returns vim's class of each byte of each line."""
     return [line.split(" ") for line in in_vim(VIM_SCRIPT, text, folder).split("\n")]
 
 
 def faults_of_indentation(text, folder):
-    """Where vim indents a text otherwise than it is, with two spaces for a tabulator."""
+    """Returns the lines that vim indents differently, with two spaces for a tabulator."""
     wanted = text.replace("\t", "  ")
     got = in_vim(INDENT_SCRIPT, re.sub("^[ \t]+", "", text, flags=re.M), folder)
     return [suite.difference("the text as vim indents it", wanted, got)] if wanted != got else []
 
 
 def faults_of_package():
-    """What is wrong with what an extension of Visual Studio Code has."""
+    """Returns the faults of an extension of Visual Studio Code."""
     with open(os.path.join(EDITORS, "package.json"), encoding="utf-8") as file:
         package = json.load(file)
     parts = package["contributes"]
@@ -134,13 +133,14 @@ def faults_of_package():
 
 
 def first_match(rules, line, at):
-    """The rule that matches first from here on, and its match: of two at one place the upper one."""
+    """Returns the first matching rule from this position on, and its match; at equal positions the rule listed first."""
     found = [(match.start(), number, match) for number, (match_of, _, _) in enumerate(rules) if (match := match_of.search(line, at))]
     return min(found, key=lambda one: one[:2], default=None)
 
 
 def scopes_of_line(rules, line, inside):
-    """The scope of each byte of a line, and the rule that is still open behind it: a rule has a beginning, a name and an end, or none."""
+    """Returns the scope of each byte of a line, and the rule that is still open at its end: a rule has a begin, name and end pattern, or is
+    None."""
     scopes, at = [""] * len(line), 0
     while at <= len(line):
         if inside:
@@ -162,7 +162,7 @@ def scopes_of_line(rules, line, inside):
 
 
 def scopes_in_textmate(text, _):
-    """What the grammar takes each byte of each line for."""
+    """Returns the class that the grammar gives each byte of each line."""
     with open(TEXTMATE, encoding="utf-8") as file:
         patterns = json.load(file)["patterns"]
     rules = [(re.compile(one.get("match") or one["begin"]), one["name"], re.compile(one["end"]) if "end" in one else None) for one in patterns]
@@ -174,7 +174,7 @@ def scopes_in_textmate(text, _):
 
 
 def faults_of(text, named, column, folder):
-    """Each first byte of a line that a file takes for what it is not. Spaces may be anything."""
+    """Returns the first wrongly classified byte of each line. Spaces may have any class."""
     lines, kinds, faults, at = named(text, folder), kinds_of(text), [], 0
     for number, line in enumerate(text.split("\n"), 1):
         names = lines[number - 1] if number <= len(lines) else []
