@@ -39,15 +39,15 @@ show cyclone compile count.cyc -o "$room/count.elf"
 show_on count.in cyclone run "$room/count.elf"
 show_on count.in cyclone run "$room/count.elf" --calls 2
 
-show cyclone compile primes.cyc -o "$room/primes.elf"
+show cyclone compile primes.cyc --with ../lib/numbers.cyc -o "$room/primes.elf"
 show cyclone run "$room/primes.elf"
 
 echo
 echo "an average of nothing, where a division by 0 ends the run:"
-show cyclone compile average.cyc -o "$room/average.elf"
+show cyclone compile average.cyc --with ../lib/numbers.cyc -o "$room/average.elf"
 show cyclone run "$room/average.elf"
 
-show cyclone check squares.cyc
+show cyclone check squares.cyc --with ../lib/numbers.cyc
 show cyclone check wrong.cyc
 show cyclone check unset.cyc
 show cyclone compile wrong.cyc -o "$room/wrong.elf"

@@ -11,7 +11,7 @@ if ! command -v rt >/dev/null; then
 fi
 source=$(realpath -- "$1") || exit 8
 cd "$(dirname "$0")/.." || exit
-program=$PWD/out/unproved/cyclone
+program=$PWD/out/unproved/fast/cyclone
 room=$(mktemp -d)
 trap 'rm -rf "$room"' EXIT
 
@@ -23,9 +23,9 @@ step() {
 }
 
 echo "Nothing is proved here: \`make build\` proves cyclone and builds it. It takes some minutes where cyclone is new or was changed." >&2
-tools/unproved "$program" >&2 || exit 8
-echo "\$ cyclone compile $source -o image.elf" >&2
-step compile "$source" -o "$room/image.elf" < /dev/null
+tools/unproved --fast "$program" >&2 || exit 8
+echo "\$ cyclone compile $source --with lib/*.cyc -o image.elf" >&2
+step compile "$source" --with lib/*.cyc -o "$room/image.elf" < /dev/null
 [ "$status" -eq 0 ] || exit 0
 echo "\$ cyclone run image.elf" >&2
 step run "$room/image.elf"
