@@ -1,7 +1,7 @@
-"""Changes one thing of a text: a token, or a statement."""
+"""Changes one part of a text: a token, or a statement."""
 from language.texts import KEYWORDS, tokens_of
 
-# What is said of a name where it should not be.
+# Statements about a name that are probably invalid.
 STATEMENTS = [
     "ufree(#);", "ufree(#);", "free_ukey(#);", "#;", "&#;", "*#;", "# = NULL;", "# = 1;", "show(*#);", "return #;", "break;",
     "continue;", "# == #;", "look(#);", "get(#);", "eat(#);", "# :=: #;", "#[0] = eaten(#);", "region<`z_> z_ = open(#);",
@@ -11,7 +11,8 @@ STATEMENTS = [
 
 
 def broken(text, numbers):
-    """The text with one thing changed: a token into another of its kind, or a statement that is twice there, elsewhere, new, or not."""
+    """Returns the text with one change: a token is replaced by another of its kind, or a statement is duplicated, moved, inserted or
+    removed."""
     way = numbers.randrange(6)
     if way == 0:
         return with_other_lines(text, numbers)
@@ -26,7 +27,7 @@ def broken(text, numbers):
 
 
 def are_alike(one, other):
-    """Whether two tokens are of one kind; the names that a maker makes up are told apart by their first letters."""
+    """Returns true if two tokens are of one kind; generated names are distinguished by their first letters."""
     if one.kind != other.kind or one.kind == "sign" and one.text not in "*@?":
         return False
     return one.kind != "name" or not other.text.endswith("_") or one.text[0] == other.text[0] and one.text.endswith("_")
@@ -45,7 +46,7 @@ def with_other_lines(text, numbers):
 
 
 def with_statement(text, numbers):
-    """The text with a statement more, on a name that stands in a line above."""
+    """Returns the text with an additional statement on a name from a line above it."""
     lines = text.split("\n")
     names = [token for token in tokens_of(text) if token.kind == "name" and token.text.endswith("_")]
     token = numbers.choice(names or [token for token in tokens_of(text) if token.kind == "name"])

@@ -1,4 +1,4 @@
-"""Makes the texts of random programs with chars, beside ints alone and beside all that others have."""
+"""Generates random programs with chars, combined with ints only or with all other forms."""
 from language.types import CHAR, HEAP, pointer
 from heap_makers import INT_FAT
 from int_makers import CHAR_GLOBAL, CHAR_NAMES, NAMES, Maker
@@ -6,7 +6,7 @@ from region_makers import RegionMaker
 
 
 class Chars:
-    """Variables, parameters and results that are chars, beside what another maker has."""
+    """Adds variables, parameters and results of type char to another generator."""
 
     NAMES = NAMES + CHAR_NAMES
 
@@ -34,7 +34,7 @@ class Chars:
 
 
 class CharMaker(Chars, Maker):
-    """Ints and chars in variables alone."""
+    """Generates programs with only ints and chars in variables."""
 
 
 CHAR_STAR, CHAR_AT, CHAR_FAT = (pointer(mark, CHAR, HEAP) for mark in "*@?")
@@ -57,7 +57,7 @@ BYTE_ROUTINES = [
 
 
 class ByteMaker(Chars, RegionMaker):
-    """Cells that are chars: elements, and fields among ints and fat pointers."""
+    """Generates programs with cells that are chars: elements, and fields among ints and fat pointers."""
 
     TYPES = RegionMaker.TYPES + [CHAR_STAR, CHAR_AT, CHAR_FAT, CHAR_FAT, CHAR_FAT, BYTES_AT, BYTES_AT]
     LENGTHS = [1, 2, 3, 4, 5, 6, 7, 8, 9]
@@ -88,7 +88,7 @@ class ByteMaker(Chars, RegionMaker):
         return super().expressions() + [self.char_cell, self.char_cell, self.char_routine] * 2
 
     def bracketed(self, depth):
-        """An expression of type int: an operator makes it one."""
+        """Returns an expression of type int, made by an operator."""
         return f"({self.expression(depth)} | 0)"
 
     def held(self, target, depth):
@@ -107,7 +107,7 @@ class ByteMaker(Chars, RegionMaker):
         return self.pick(fields) if fields and self.chance(50) else super().derived(type, depth)
 
     def array(self, target, depth):
-        """An array of chars has other lengths than one of words."""
+        """Returns an array of chars, whose length differs from those of arrays of words."""
         if target != CHAR:
             return super().array(target, depth)
         counter = self.fresh("i")
@@ -118,7 +118,7 @@ class ByteMaker(Chars, RegionMaker):
         return f"new {{for {counter} < {length} : {element}}}"
 
     def char_cells(self):
-        """Places that are chars."""
+        """Returns lvalues of type char."""
         places = [f"*{name}" for name, _ in self.to(CHAR, "@")]
         places += [f"{name}[{self.pick([0, 1, 2, 3, self.index(1)])}]" for name, _ in self.to(CHAR, "?")]
         return places + [f"{name}->{field}" for name, _ in self.to(BYTES, "@") for field in BYTE_FIELDS]
@@ -139,7 +139,7 @@ class ByteMaker(Chars, RegionMaker):
         return f"mixed({self.pointer(CHAR_FAT, depth)})"
 
     def converting_call(self):
-        """A call that makes a char of an int, as its argument or as its result."""
+        """Returns a call that converts an int to a char, as its argument or as its result."""
         return f"{self.pick(['cut', 'widened'])}({self.expression(1)})"
 
     def char_store(self, depth):
@@ -151,7 +151,7 @@ class ByteMaker(Chars, RegionMaker):
         self.put(f"{self.pick(cells)} :=: {self.pick(cells)};")
 
     def char_address(self, depth):
-        """A pointer to a variable that is a char; what lies beside it stays."""
+        """Returns a pointer to a variable of type char; adjacent memory must stay unchanged."""
         name, value = self.fresh("q"), self.pick(self.chars())
         self.put(f"char {self.pick('@*?')} {name} = &{value};")
         self.put(f"*{name} = *{name} {self.pick('+-^*')} {self.literal()};")
@@ -163,20 +163,20 @@ class ByteMaker(Chars, RegionMaker):
         self.put(self.pick(structs if structs and self.chance(50) else chars))
 
     def char_edge(self, depth):
-        """A store to the last byte of an array, or to one behind it, which is caught."""
+        """Returns a store to the last byte of an array, or to the one after it, which throws a caught exception."""
         name = self.pick([name for name, _ in self.to(CHAR, "?")])
         place = f"{name}[numelts({name}){self.pick(['', '', ' - 1', ' - 1', ' + 1'])}]"
         self.put(f"try {place} = {self.expression(1)}; catch {{ case &Array_bounds: show(mixed({name})); default: ; }}")
         self.put(f"show(mixed({name}));")
 
     def char_tossed(self, depth):
-        """A char that is returned, or thrown as an int and caught."""
+        """Returns a char that a function returns, or that is thrown as an int and caught."""
         clauses = "case &E1(n): show(n); case &E2(n): { putchar(n); show(n); }" + self.pick(["", " default: ;"])
         self.put(f"show({self.converting_call()});")
         self.put(f"try show(tossed({self.expression(1)}, {self.expression(1)})); catch {{ {clauses} }}")
 
     def unique_chars(self, depth):
-        """An array that is one of a class of blocks, and is given back."""
+        """Returns an array whose block belongs to a class of unique blocks, and frees it."""
         name, length = self.fresh("w"), self.pick([1, 4, 5, 64, 65, 4000])
         made = [f"kept({length})", f"rnew(unique_region) {{for {name}i_ < {length} : char({name}i_ ^ {self.random.randrange(300)})}}"]
         self.open("{")

@@ -1,5 +1,5 @@
-"""Names that are chosen to be found slowly: such as begin at one end of a table by their hash, such as have one key in an index, and such as
-begin alike. Beside them stand random ones of the same lengths.
+"""Generates names that are slow to look up: names whose hashes are at one end of a table, names with one key in an index, and names with a
+common prefix. Random names of the same lengths are compared with them.
 """
 import functools
 import itertools
@@ -9,7 +9,7 @@ LETTERS = "abcdefghijklmnopqrstuvwxyz"
 REST = LETTERS + "0123456789"
 WORDS = ("int", "exn", "for", "new", "let", "try", "if")
 
-# ---- one end of a table: the hasher of the library, with the constants that it has
+# ---- names at one end of a table, by the library's hash function with its constants
 
 START, MULTIPLIER, WORD = 0x243F6A8885A308D3, 0x9E3779B97F4A7C15, (1 << 64) - 1
 
@@ -21,7 +21,7 @@ def folded(state, bits, multiplier):
 
 @functools.cache
 def clustered(count):
-    """Names whose hashes begin in the first 64th of a table: where what finds its place taken goes to the next, it passes all before it."""
+    """Returns names whose hashes are in the first 64th of a table: with linear probing, each passes all earlier ones."""
     found = []
     for length in itertools.count(5):
         start = folded(START, length, MULTIPLIER ^ 16)
@@ -37,10 +37,10 @@ def clustered(count):
                         return found
 
 
-# ---- one key: the bytes of a name as the digits of a number to a base, to so many bits
+# ---- names with one key: the bytes of a name are the digits of a number to a base, truncated to so many bits
 
 BASE, BITS = 257, 64
-# Products of differences x^n - 1, by these n, are 0 where x is the base: each is a multiple of a power of 2.
+# Products of differences x^n - 1, for these n, are 0 at the base: each is a multiple of a power of 2.
 POWERS = (
     (1, 1, 1, 1, 2, 3, 4, 5), (1, 1, 1, 2, 2, 3, 3, 5), (1, 1, 1, 2, 2, 3, 4, 5), (1, 1, 1, 2, 3, 3, 4, 5), (1, 1, 2, 2, 2, 3, 4, 5),
     (1, 2, 2, 2, 4, 4, 6), (1, 1, 1, 2, 3, 4, 5, 5), (1, 1, 1, 2, 2, 3, 5, 7), (1, 1, 2, 2, 3, 3, 4, 5), (1, 1, 1, 2, 3, 4, 4, 5),
@@ -48,7 +48,7 @@ POWERS = (
 
 
 def times(numbers, power):
-    """The product of a polynomial, its coefficients from the lowest on, and x^power - 1."""
+    """Returns the product of a polynomial, given by its coefficients from the lowest on, and x^power - 1."""
     product = [0] * (len(numbers) + power)
     for place, number in enumerate(numbers):
         product[place + power] += number
@@ -57,7 +57,7 @@ def times(numbers, power):
 
 
 def nothings():
-    """The products that are 0 at the base."""
+    """Returns the products that are 0 at the base."""
     for powers in POWERS:
         product = functools.reduce(times, powers, [1])
         if sum(number * pow(BASE, place, 1 << BITS) for place, number in enumerate(product)) % (1 << BITS) == 0:
@@ -66,7 +66,7 @@ def nothings():
 
 @functools.cache
 def of_one_key(count, length=23):
-    """Names that have one key: the middle of the letters over and over, and nothings added to it."""
+    """Returns names with one key: repeated middle letters, with multiples of the zero products added."""
     chance, all_nothings, found = random.Random(BASE), list(nothings()), set()
     while len(found) < count:
         places = [12] * length
@@ -82,8 +82,8 @@ def of_one_key(count, length=23):
 
 @functools.cache
 def woven(count):
-    """Names that have one key for any odd base: in each of four words of 128 letters two letters stand in the order of the bits of Thue and
-    Morse, and their sum is that of all words."""
+    """Returns names with one key for any odd base. In each of four words of 128 letters two letters follow the Thue-Morse sequence, and the
+    words have the same sum."""
     found = []
     for ones in itertools.islice(itertools.product(LETTERS, repeat=4), count):
         pairs = [one + LETTERS[-1 - LETTERS.index(one)] for one in ones]
@@ -96,14 +96,14 @@ def alike_of_one_key(count):
 
 
 def in_order(count):
-    """Names that begin alike, in the order of their letters."""
+    """Returns names with a common prefix, in alphabetical order."""
     return [f"{'a' * 20}{number:06}" for number in range(count)]
 
 
 # ---- random ones
 
 def at_random(names):
-    """Random names of the lengths of others."""
+    """Returns random names of the same lengths as others."""
     chance, found = random.Random(BASE), []
     known = set(WORDS)
     for name in names:

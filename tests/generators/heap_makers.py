@@ -1,4 +1,4 @@
-"""Makes the texts of random programs with objects in the heap, pointers to them, and exceptions."""
+"""Generates random programs with objects in the heap, pointers to them, and exceptions."""
 from language.types import CHAR, HEAP, INT, pointer
 from int_makers import NAMES, Maker
 
@@ -25,7 +25,7 @@ THIN_ROUTINES = [
 
 
 def spelled(type, keeps_heap=False):
-    """A type as it is written, with the heap's name where it is asked for."""
+    """Returns the spelling of a type, with the heap's name if requested."""
     if type in (INT, CHAR):
         return type[0]
     if type[0] == "struct":
@@ -35,7 +35,7 @@ def spelled(type, keeps_heap=False):
 
 
 class HeapMaker(Maker):
-    """Objects in the heap, and the three kinds of pointers to them."""
+    """Generates objects in the heap, and the three kinds of pointers to them."""
 
     TYPES = [INT_STAR, INT_AT, INT_AT, INT_FAT, INT_FAT, NODE_STAR, NODE_AT, FATS, STARS]
     FIELDS = {"a": INT, "n": INT_STAR, "f": INT_FAT, "next": NODE_STAR}
@@ -43,11 +43,11 @@ class HeapMaker(Maker):
     def prepare(self):
         self.count = 0
         self.routines = list(ROUTINES)
-        # The pointers of each block that is open, with their types; the first are globals.
+        # The pointers of each open block, with their types; the first are globals.
         self.known = [{"gp": INT_STAR, "gf": INT_FAT, "gt": NODE_STAR}]
 
     def fresh(self, letter):
-        """A name that nothing else has."""
+        """Returns an unused name."""
         self.count += 1
         return f"{letter}{self.count}_"
 
@@ -80,16 +80,16 @@ class HeapMaker(Maker):
     # Pointers
 
     def visible(self, fits):
-        """The pointers that may be named here and fit, each with its type."""
+        """Returns the visible pointers that fit, each with its type."""
         return [(name, type) for scope in self.known for name, type in scope.items() if fits(type)]
 
     def to(self, target, marks="*@?"):
         return self.visible(lambda type: type[2] == target and type[1] in marks and type[3] == HEAP)
 
     def pointer(self, type, depth):
-        """An expression that converts to a type of pointer in the heap."""
+        """Returns an expression that converts to a type of pointer into the heap."""
         mark, target = type[1], type[2]
-        # a pointer of another mark may raise an exception as it is converted
+        # converting a pointer with another mark may raise an exception
         marks = "*@?" if self.chance(15) else {"*": "*@", "@": "@", "?": "?@"}[mark]
         found = [name for name, _ in self.to(target, marks)]
         if found and self.chance(50):
@@ -108,7 +108,7 @@ class HeapMaker(Maker):
         return f"new {self.held(target, depth)}"
 
     def array(self, target, depth):
-        """An array whose elements have just this type."""
+        """Returns an array whose elements have exactly this type."""
         counter = self.fresh("i")
         length = self.random.randint(2, 5) if self.chance(93) else self.pick([0, 1, 334, 1000, 1001, "-1"])
         self.scopes.append({counter: False})
@@ -117,7 +117,7 @@ class HeapMaker(Maker):
         return f"new {{for {counter} < {length} : {element}}}"
 
     def held(self, target, depth):
-        """An expression of just this type."""
+        """Returns an expression of exactly this type."""
         if target == INT:
             return self.bracketed(depth)
         if target == INT_FAT:
@@ -137,7 +137,7 @@ class HeapMaker(Maker):
         return f"({self.bracketed(min(depth, 1))} & 1)" if way < 19 else self.pick(["3", "-1", self.bracketed(min(depth, 1))])
 
     def derived(self, type, depth):
-        """A pointer by way of another one."""
+        """Returns a pointer derived from another one."""
         mark, target = type[1], type[2]
         fats = [name for name, _ in self.to(target, "?")]
         ways = [f"{name} + {self.bracketed(0)}" if self.chance(30) else f"{name} + {self.index(0)}" for name in fats if mark == "?"]
@@ -166,7 +166,7 @@ class HeapMaker(Maker):
         place, type = self.pick(ways + [("gp", INT_STAR)])
         self.put(f"{place} = {self.expression(2) if type == INT else self.pointer(type, 1)};")
 
-    # Ints by way of pointers
+    # Ints accessed through pointers
 
     def through(self, depth):
         found = self.to(INT, "*@")
@@ -208,7 +208,7 @@ class HeapMaker(Maker):
 
 
 class PointerMaker(HeapMaker):
-    """Objects in the heap, and thin pointers to them alone."""
+    """Generates objects in the heap, with only thin pointers to them."""
 
     TYPES = [INT_STAR, INT_STAR, INT_AT, INT_AT, NODE_STAR, NODE_AT, WAY_STAR, WAY_AT]
     FIELDS = {"a": INT, "n": INT_STAR, "next": NODE_STAR}
@@ -264,7 +264,7 @@ class PointerMaker(HeapMaker):
 
 
 class ExceptionMaker(HeapMaker):
-    """Throws by hand and by failed checks, and clauses that catch them."""
+    """Generates explicit throws and failed checks, and clauses that catch them."""
 
     OWN = {"E0": False, "E1": True, "E2": True}
     BUILT_IN = ["Null_Exception", "Array_bounds", "Array_size", "Div_zero"]

@@ -1,7 +1,7 @@
-"""Makes images that no compiler writes, at random: words of instructions, calls of the store, and headers that are wrong.
+"""Generates random images that no compiler writes: words of instructions, calls of the store, and wrong headers.
 
-Each is made of a generator of random numbers alone, so a seed and a number give the same image. The words are chosen so that runs
-do not end at once: most loads and stores go to words that are there, and most services are asked with arguments that they take.
+Each image depends only on a seed and a number. The words are chosen so that runs do not end at once: most loads and stores access existing
+words, and most services get valid arguments.
 """
 import struct
 
@@ -9,7 +9,7 @@ import machine
 import stores
 
 STEPS = 1000
-# An image that a compiler wrote is run so far, and each of so many with words changed.
+# The step budgets for images written by the compiler and for changed ones, and the number of changed images for each.
 STEPS_OF_COMPILED, STEPS_OF_CHANGED, CHANGED = 30_000, 3_000, 5
 # One segment, which ends with 3 after five instructions; and the same with a note of 8 pages and 32 calls.
 PLAIN = bytes.fromhex("""
@@ -29,7 +29,7 @@ WITH_DATA = bytes.fromhex("""
 00000001 0000008c 10000000 10000000 00000008 00000010 00000006 00000004
 3c081000 8d040000 24020002 0000000c 24020003 0000000c
 00000048 00000069""")
-# Two segments in one place: a fault. No random image is made of it.
+# Two segments in one place, which is a fault. No random image is derived from it.
 DOUBLED = bytes.fromhex("""
 7f454c46010201000000000000000000 0002000800000001 00400000 00000034 0000000000000000 0034002000020000 00000000
 00000001 00000074 00400000 00400000 00000018 00000018 00000005 00000004
@@ -37,14 +37,14 @@ DOUBLED = bytes.fromhex("""
 24040001 10000002 24840002 24840004 24020003 0000000c""")
 SMALL_IMAGES = {"one segment": PLAIN, "a note": WITH_NOTE, "two segments": WITH_DATA}
 SET_TO = (0x00, 0x7F, 0xFF)
-# Values at the ends of what a field of a header may hold, and one beyond.
+# The extreme values of a header field, and one beyond.
 FIELDS = [
     0, 1, 2, 3, 4, 5, 6, 7, 8, 0x14, 0x17, 0x18, 0x19, 0x1B, 0x1C, 0x1D, 0x20, 0x34, 0x54, 0x58, 0x74, 0x8C, 0x3FFFFC,
     0x400000, 0x400002, 0x400004, 0x400014, 0x400018, 0x1FFFFFC, 0x2000000, 0xFFFFFFC, 0x10000000, 0x10000004, 0x103FFFFC, 0x10400000,
     0x20000000, 0x30000000, 0x7FFFEFFC, 0x7FFFFFFF, 0x80000000, 0xFFFFFFF8, 0xFFFFFFFC, 0xFFFFFFFF,
 ]
 EDGES = [0, 1, 2, 3, 4, 31, 32, 255, 0x7FFF, 0x8000, 0xFFFF, 0x10000, 0x7FFFFFFF, 0x80000000, 0x80000001, 0xFFFFFFFE, 0xFFFFFFFF]
-# Words of a block, with the ends of a unique block's classes, of a page, and of what is allowed; and what is not.
+# Sizes of blocks in words: the limits of the classes of unique blocks, of a page, and of the allowed sizes, and invalid sizes.
 SIZES = [1, 1, 2, 3, 4, 8, 24, 25, 64, 127, 128, 129, 256, 257, 400, 512, 513, 999, 1000]
 NO_SIZES = [0, 1001, 1024, 0xFFFFFFFF]
 
@@ -59,7 +59,7 @@ BRANCHES = ["beq", "bne", "blez", "bgtz", "bltz", "bgez"]
 
 
 def word_of(name, s=0, t=0, d=0, a=0, i=0):
-    """The word of an instruction; `i` is its 16 bits, or the 26 of a jump."""
+    """Returns the word of an instruction; `i` is its 16-bit immediate, or the 26 bits of a jump."""
     if name in FUNCTION_OF:
         return s << 21 | t << 16 | d << 11 | a << 6 | FUNCTION_OF[name]
     if name in BRANCH_OF:
@@ -70,7 +70,7 @@ def word_of(name, s=0, t=0, d=0, a=0, i=0):
 
 
 def constant(register, value):
-    """Two instructions that set a register."""
+    """Returns two instructions that set a register."""
     return [word_of("lui", t=register, i=value >> 16), word_of("ori", register, register, i=value)]
 
 
@@ -91,7 +91,7 @@ def bytes_of(words):
 
 
 def image(segments, entry=machine.TEXT, note=None):
-    """An image of segments, each an address, its words, and how many bytes it has in memory beyond them; and a note of limits."""
+    """Returns an image of segments, each an address, its words, and the number of further bytes in memory; and a note of limits."""
     parts = [(machine.LOADED, address, bytes_of(words), more) for address, words, more in segments]
     if note:
         parts.append((machine.NOTE, 0, struct.pack(">III8sII", 8, 8, 1, machine.NOTE_NAME, *note), 0))
@@ -105,19 +105,19 @@ def image(segments, entry=machine.TEXT, note=None):
 
 
 class Made:
-    """An image, and how it is run."""
+    """An image, and the options with which it is run."""
 
     def __init__(self, family, file, given=b"", pages=None, calls=None, steps=STEPS):
         self.family, self.file, self.given, self.pages, self.calls, self.steps = family, file, given, pages, calls, steps
 
     def options(self, steps):
-        """The limits of a run of so many steps, as the command line has them."""
+        """Returns the command-line options for the limits of a run of so many steps."""
         limits = [("--pages", self.pages), ("--calls", self.calls), ("--steps", steps)]
         return [word for name, value in limits if value is not None for word in (name, str(value))]
 
 
 class Words:
-    """Random instructions, in a text that begins with some registers that point to words."""
+    """Random instructions, in a text that begins by setting some registers to addresses of words."""
 
     REGISTERS = [0, 2, 3, 4, 5, 8, 9, 10, 11, 16, 17, 18, 29, 31]
     BASES = [16, 16, 16, 17, 29, 18]
@@ -161,11 +161,11 @@ class Words:
         return [word_of(name, base, self.register(), i=offset)]
 
     def address(self):
-        """The number of a word of the text, and most of them one of these."""
+        """Returns the number of a word of the text, usually one of these."""
         return self.numbers.randrange(self.length + 2) if self.numbers.random() < 0.95 else self.numbers.choice(EDGES)
 
     def jump(self):
-        """A jump, and mostly something in its slot that is none."""
+        """Returns a jump, usually with no jump in its delay slot."""
         name = self.numbers.choice(BRANCHES * 2 + ["j", "jal", "jr", "jalr"])
         slot = self.jump() if self.numbers.random() < 0.05 else self.numbers.choice([self.calculation, self.access, self.print])()[:1]
         s, t, to = self.register(), self.register(), self.address()
@@ -191,7 +191,7 @@ class Words:
         return service(self.numbers.choice([5, 6, 7, 8, 9, 10, self.numbers.randint(0, 13)]))
 
     def rarity(self):
-        """Mostly nothing; at times what the machine refuses, or any word."""
+        """Returns usually nothing; sometimes an instruction that the machine refuses, or any word."""
         words = [
             [self.numbers.getrandbits(32)], [self.numbers.getrandbits(26)], [BREAK], [word_of("div", 8, 0)],
             [*constant(8, 1 << 31), word_of("addiu", 0, 9, i=-1), word_of("div", 8, 9)],
@@ -204,23 +204,24 @@ class Words:
     MAKERS = [calculation] * 4 + [access] * 4 + [jump] * 3 + [print] * 3 + [read, read, ask, rarity]
 
     def spoil(self):
-        """Sometimes a bit of a word is turned."""
+        """Sometimes inverts a bit of a word."""
         if self.numbers.random() < 0.3:
             self.words[self.numbers.randrange(len(self.words))] ^= 1 << self.numbers.randrange(32)
 
 
 class Calls:
-    """Calls of the store. Handles and addresses are kept in registers 16 to 23, and only what a store may not choose is printed.
+    """Calls of the store. Handles and addresses are kept in registers 16 to 23, and only values that do not depend on the store's choices
+    are printed.
 
-    Most calls are of what is open or live by then; some are not, and the same calls are often made over and over, until a call that
-    was none is one, or there is no room.
+    Most calls refer to open regions or live blocks; some do not. Often the same calls are repeated until an invalid call becomes valid, or
+    there is no room.
     """
 
     KEPT = range(16, 24)
 
     def __init__(self, numbers):
         self.numbers, self.words, self.next = numbers, [], 0
-        # registers of handles and of addresses, and how many lexical regions are open
+        # the registers of handles and of addresses, and the number of open lexical regions
         self.lexical, self.dynamic, self.blocks, self.unique, self.opened = [], [], [], [], 0
         for _ in range(numbers.randint(3, 24)):
             self.words += numbers.choice(self.MAKERS)(self)
@@ -232,7 +233,7 @@ class Calls:
         return self.numbers.random() < chance
 
     def kept(self, names):
-        """Keeps the answer of a call in the next register; what stood there is gone."""
+        """Saves the result of a call in the next register, and overwrites its former content."""
         register = self.KEPT[self.next]
         self.next = (self.next + 1) % len(self.KEPT)
         for others in (self.lexical, self.dynamic, self.blocks, self.unique):
@@ -248,7 +249,7 @@ class Calls:
         return [*service(7), self.kept(self.dynamic)]
 
     def make(self):
-        """A block of the heap, of a region, or of its own."""
+        """Allocates a block in the heap, in a region, or a unique one."""
         size = number_in(5, self.numbers.choice(SIZES if self.happens(0.97) else NO_SIZES))
         if self.happens(0.03):
             return [*number_in(4, self.numbers.choice([0, 3, 77, stores.STORE])), *size, *service(9), self.kept(self.blocks)]
@@ -260,7 +261,7 @@ class Calls:
         return [*first, *size, *service(9), self.kept(self.unique if is_unique else self.blocks)]
 
     def rush(self):
-        """Several large unique blocks of one size, of which most are freed at once: their pages stay taken."""
+        """Allocates several large unique blocks of one size, and frees most of them at once: their pages stay in use."""
         size, words = self.numbers.choice([200, 256, 257, 512, 513, 1000]), []
         for _ in range(self.numbers.randint(2, 6)):
             words += [*number_in(4, stores.UNIQUE), *number_in(5, size), *service(9), self.kept(self.unique)]
@@ -269,8 +270,8 @@ class Calls:
         return words
 
     def use(self):
-        """Stores a word and prints what is loaded from there, which a block of one word has at its beginning alone; or so with a byte
-        of a word that was stored."""
+        """Stores a word and prints the word loaded from the same place, or does so with a byte of a stored word. A block of one word has
+        only one such place."""
         blocks = self.blocks + self.unique
         if not blocks:
             return self.make()
@@ -283,7 +284,7 @@ class Calls:
         return [*number_in(8, value), word_of("sw", base, 8, i=offset), word_of("lw", base, 4, i=offset), *service(2)]
 
     def free(self):
-        """Frees a block, which is mostly not used again."""
+        """Frees a block, which is usually not used again."""
         others = self.blocks + self.unique
         if others and self.happens(0.03):
             return [moved(4, self.numbers.choice(others)), word_of("addiu", 4, 4, i=4 * self.numbers.randrange(2)), *service(10)]
@@ -295,7 +296,7 @@ class Calls:
         return [moved(4, register), *service(10)]
 
     def close(self):
-        """Closes some regions, whose handles are mostly not used again."""
+        """Closes some regions, whose handles are usually not used again."""
         if self.dynamic and self.happens(0.5):
             register = self.numbers.choice(self.dynamic)
             if self.happens(0.85):
@@ -319,14 +320,14 @@ def given(numbers):
 
 
 def note(numbers):
-    """The limits of a note, at times with one that is none."""
+    """Returns the limits of a note, sometimes invalid ones."""
     if numbers.random() < 0.1:
         return numbers.choice([(2, 32), (65_537, 32), (8, 0), (8, 4_097)])
     return numbers.choice([3, 4, 8, 65_536]), numbers.choice([1, 2, 32, 4_096])
 
 
 def of_words(numbers):
-    """A run of random words, at times with data and a note."""
+    """Returns a run of random words, sometimes with data and a note."""
     words = Words(numbers).words
     segments = [(machine.TEXT, words, 0)]
     if numbers.random() < 0.4:
@@ -337,7 +338,7 @@ def of_words(numbers):
 
 
 def of_calls(numbers):
-    """A run of calls of a store of few pages."""
+    """Returns a run of calls of a store of few pages."""
     limits = note(numbers) if numbers.random() < 0.2 else None
     return Made("calls", image([(machine.TEXT, Calls(numbers).words, 0)], note=limits), b"", numbers.choice([None, 3, 3, 4, 5, 8]))
 
@@ -347,7 +348,7 @@ def field(numbers):
 
 
 def of_changes(numbers):
-    """A small image with some fields set to others, bytes changed, or bytes taken away or added."""
+    """Returns a small image with some fields replaced, bytes changed, or bytes removed or added."""
     file = bytearray(numbers.choice(list(SMALL_IMAGES.values())))
     for _ in range(numbers.choice([1, 1, 2, 3])):
         at = 4 * numbers.randrange(4, len(file) // 4)
@@ -362,14 +363,14 @@ def of_changes(numbers):
     return Made("changes", bytes(file), given(numbers))
 
 
-# Where segments begin: at both ends of the two ranges and within them.
+# Addresses at which segments begin: at both ends of the two ranges and within them.
 ADDRESSES = [
     machine.TEXT, machine.TEXT, machine.TEXT + 0x1000, machine.TEXT_END - 24, machine.DATA, machine.DATA + 0x1000, machine.DATA_END - 24,
 ]
 
 
 def of_headers(numbers):
-    """A file with a random table of program headers, most of which could stand."""
+    """Returns a file with a random table of program headers, most of which are valid."""
     count = numbers.randint(0, 6)
     offset = machine.HEADER + machine.ENTRY_BYTES * count
     content = bytes_of(Words(numbers).words) + WITH_NOTE[-28:]
@@ -392,7 +393,7 @@ def of_headers(numbers):
 
 
 def of_compiled(name, file, given, numbers):
-    """An image that the compiler wrote, and some that differ from it in up to three words of the text."""
+    """Returns an image written by the compiler, and some that differ from it in up to three words of the text."""
     yield Made(name, file, given, steps=STEPS_OF_COMPILED)
     text = machine.Image(file).segments[0]
     for _ in range(CHANGED):
@@ -408,12 +409,12 @@ FAMILIES = [of_words] * 4 + [of_calls] * 3 + [of_changes] * 2 + [of_headers]
 
 
 def made(numbers):
-    """A random image."""
+    """Returns a random image."""
     return numbers.choice(FAMILIES)(numbers)
 
 
 def spoiled():
-    """Each small image cut at each length, and with each byte set to 00, 7f and ff."""
+    """Yields each small image cut at each length, and with each byte set to 00, 7f and ff."""
     for name, file in {**SMALL_IMAGES, "one place": DOUBLED}.items():
         for length in range(len(file)):
             yield Made(f"{name}, cut at {length}", file[:length])

@@ -1,18 +1,17 @@
 #!/usr/bin/env python3
-"""What programs need, as `cyclone bound` says, beside a second reading of their trees, and beside their runs.
+"""Compares the bounds that `cyclone bound` prints with an independent analysis of syntax trees, and with runs.
 
     python3 tests/runners/bounded.py [--program PATH] [--count N] [--seed N]
 
-Of each example, and of N random programs, 300 where it is left out, three quarters of which have no functions that lead back to themselves,
-a quarter no loops either, and a quarter regions that are opened in each turn of a loop. Calls: the number is the longest row of functions of
-which each calls the next, from `main` on; where there is none, each function that is named calls the next one at the place that is told, the
-last one calls the first, and `main` leads to them. Pages: where nothing leads back, there is a number just where no loop stands in the way,
-and else the place is that of one that does. A loop does that makes or opens anything, also by calls. Where `main` leads to no dynamic region
-and nowhere is the heap's handle a value, lexical regions give back: then only a loop does that makes an object on the heap or a unique one,
-or that makes or opens anything while a region is open outside of it. Steps: there is a number just where nothing leads back and `main` leads
-to no loop, and else the place is that of one. No run has more calls under way, takes more pages or executes more instructions, and one that
-is allowed just so many calls and pages ends as one that is allowed more. The last line is `N passed, M failed`, of programs; before it stands
-how many have a bound, and how near their runs come to it.
+Tests each example and N random programs (300 by default). Three quarters of the random programs have no recursion, a quarter no loops
+either, and a quarter open regions in loops. Calls: the bound is the length of the longest chain of calls from `main`. If there is no bound,
+each named function calls the next one at the reported place, the last calls the first, and `main` reaches them. Pages: without recursion
+there is a bound exactly if no loop prevents it; otherwise the place of such a loop is reported. A loop that allocates or opens a region,
+also by calls, prevents a bound. Suppose `main` reaches no dynamic region and the heap's handle is never a value. Then lexical regions free
+their pages, and two kinds of loop prevent a bound: a loop that allocates on the heap or a unique object, and a loop that allocates or opens
+a region while an outer region is open. Steps: there is a bound exactly if there is no recursion and `main` reaches no loop; otherwise the
+place of a loop is reported. No run exceeds a bound, and a run limited to the bounds ends as a run with higher limits does. The last line is
+`N passed, M failed`, of programs. The line before it gives the number of programs with bounds and how close their runs come to the bounds.
 """
 import itertools
 import json
@@ -20,7 +19,7 @@ import os
 import re
 import tempfile
 
-import suite  # first: it says where the references and the generators are
+import suite  # first: it makes the references and the generators importable
 import makers
 import reference
 import texts
@@ -31,7 +30,7 @@ LOOP = re.compile(r"main\.cyc:(\d+):(\d+): (?:each turn of )?this loop .*")
 
 
 def parts_of(part):
-    """A part of a tree, and all that are in it."""
+    """Yields a part of a tree and all of its parts."""
     for inner in part if isinstance(part, list) else [part]:
         if hasattr(inner, "kind"):
             yield inner
@@ -42,22 +41,22 @@ def parts_of(part):
 
 
 def is_region(part):
-    """Whether a part declares a lexical region."""
+    """Returns true if a part declares a lexical region."""
     return part.kind == "region" and hasattr(part, "at")
 
 
 def is_making(part):
-    """Whether a part makes an object or opens a region."""
+    """Returns true if a part allocates an object or opens a region."""
     return part.kind in ("new", "key") or is_region(part)
 
 
 def is_lasting(part):
-    """Whether a part makes an object that the end of no lexical region gives back, where there is no handle of the heap."""
+    """Returns true if a part allocates an object that no end of a lexical region frees. The program uses no handle of the heap."""
     return part.kind == "new" and (part.handle is None or part.handle.kind == "unique_region")
 
 
 def outermost_regions(part):
-    """What stands to the end of its block behind each lexical region that is declared where no other one is open in its function."""
+    """Returns the statements from each outermost lexical region of a function to the end of its block."""
     if isinstance(part, list):
         for place, inner in enumerate(part):
             if hasattr(inner, "kind") and is_region(inner):
@@ -70,7 +69,7 @@ def outermost_regions(part):
 
 
 class Calls:
-    """Which functions a text calls, and where: a second reading, of its tree."""
+    """The call graph of a program with the places of calls, read independently from its tree."""
 
     def __init__(self, text):
         self.functions = reference.Program(text).functions
@@ -81,7 +80,7 @@ class Calls:
                     self.sites[name].setdefault(part.name, set()).add(part.place)
 
     def height(self, name, heights, path):
-        """The longest row from a function on, or None where there is none."""
+        """Returns the length of the longest chain of calls from a function, or None if there is none."""
         if name in path:
             return None
         if name not in heights:
@@ -90,7 +89,7 @@ class Calls:
         return heights[name]
 
     def reached(self, first=("main",)):
-        """The functions that these lead to."""
+        """Returns the functions that are reachable from these."""
         found, left = set(), list(first)
         while left:
             name = left.pop()
@@ -100,14 +99,14 @@ class Calls:
         return found
 
     def counted(self, is_counted):
-        """The functions of which a part is counted, also in one that is called there."""
+        """Returns the functions that contain a counted part, directly or by calls."""
         counted = {name for name, function in self.functions.items() if any(is_counted(part) for part in parts_of(function.body))}
         for _ in self.functions:
             counted |= {name for name, sites in self.sites.items() if counted & set(sites)}
         return counted
 
     def loops_in(self, parts, is_counted):
-        """The places of loops in these parts, and in functions that they lead to, of which a part is counted, also by calls."""
+        """Returns the places of the loops in these parts and in called functions that contain a counted part, also by calls."""
         counted = self.counted(is_counted)
         called = self.reached(part.name for part in parts_of(parts) if part.kind == "call" and part.name in self.functions)
         return {
@@ -119,11 +118,11 @@ class Calls:
         }
 
     def loops(self, is_counted):
-        """The places of loops that `main` leads to of which a part is counted."""
+        """Returns the places of the loops reachable from `main` that contain a counted part."""
         return self.loops_in(self.functions["main"].body, is_counted)
 
     def loops_of_pages(self):
-        """The places of loops that stand in the way of a bound on pages."""
+        """Returns the places of the loops that prevent a bound on pages."""
         bodies = [self.functions[name].body for name in self.reached()]
         if any(part.kind in ("heap_region", "key") for part in parts_of(bodies)):
             return self.loops(is_making)
@@ -131,12 +130,12 @@ class Calls:
         return self.loops(is_lasting).union(*inside)
 
     def grows_elsewhere(self, is_counted):
-        """Whether a function leads back to itself, with a part that is counted on the way, to which `main` does not lead."""
+        """Returns true if a recursive function that `main` does not reach contains a counted part in its cycle."""
         counted = self.counted(is_counted)
         return any(name in self.reached(self.sites[name]) for name in counted - self.reached())
 
     def fault_of_circle(self, lines):
-        """What is wrong with a circle that is told, if anything is."""
+        """Returns the faults of a reported cycle of calls."""
         found = [LINE.fullmatch(line) for line in lines]
         if not found or None in found:
             return f"tells {lines}"
@@ -149,7 +148,7 @@ class Calls:
 
 
 class Told:
-    """What `cyclone bound` says of a program: the lines of each bound, and the numbers that there are."""
+    """The output of `cyclone bound` for a program: the lines of each bound, and the bounds that exist."""
 
     def __init__(self, lines):
         self.lines = {"calls": [], "pages": [], "steps": [], "instructions": []}
@@ -160,8 +159,8 @@ class Told:
         self.numbers = {word: int(lines[0].split(" ")[1]) for word, lines in self.lines.items() if lines and lines[0].split(" ")[1].isdigit()}
 
     def fault_of_loop(self, word, loops, grows):
-        """What is wrong with a loop that is told to stand in the way, or with a number where one does. Where what is counted grows in a
-        circle of calls, also one that `main` does not lead to, there may be no number and no loop."""
+        """Returns the fault of a reported loop, or of a bound despite a loop. If a counted part is in a cycle of calls, even an unreachable
+        one, the report may contain neither a bound nor a loop."""
         if grows and self.lines[word] == [f"{word} unbounded"]:
             return None
         found = [LOOP.fullmatch(line) for line in self.lines[word][1:]]
@@ -177,7 +176,7 @@ class Tried:
         self.program, self.ratios = program, {"calls": [], "pages": []}
 
     def run(self, folder, given, limits):
-        """How a run ends with these limits, and what is reported of it."""
+        """Runs a program with these limits, and returns the end of the run and its report."""
         report = os.path.join(folder, "report")
         ended = suite.answer([self.program, "run", os.path.join(folder, "main.elf"), "--steps", STEPS, *limits,
                               "--report", report, "--peaks"], given)
@@ -207,7 +206,7 @@ class Tried:
         )
 
     def fault_of_run(self, folder, source, given, told):
-        """What is wrong with what a run takes beside what is told, if anything is."""
+        """Returns the fault of a run whose needs exceed the reported bounds, if any."""
         limits = [word for name in ("calls", "pages") if name in told.numbers for word in (f"--{name}", str(max(told.numbers[name], 3)))]
         most = ["--calls", "4096", "--pages", "65536"]
         image = os.path.join(folder, "main.elf")

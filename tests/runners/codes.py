@@ -1,15 +1,15 @@
 #!/usr/bin/env python3
-"""Compares what stands elsewhere of the codes of refusals with docs/codes.txt, and tries the texts of each code: the smallest that is
-refused with it, the one on its page and that one mended; the same of the habits of C programmers with docs/habits.txt, and of the text of
-each.
+"""Compares all tables of fault codes with docs/codes.txt, and tries the texts of each code. These are the smallest rejected text, the one
+on the code's page, and its correction. Does the same for the habits of C programmers in docs/habits.txt.
 
     python3 tests/runners/codes.py [--program PATH] [--write]
 
-The docstrings of crates/cyc_words/src/fault.rt, the messages and hints of crates/cyc_terminal/src/advice.rt, the pages in
-crates/cyc_terminal/src/pages.rt, the folder beside it and docs/CODES.md, what `cyclone explain` prints and the table of codes in
-docs/LANGUAGE.md have to say what docs/codes.txt says. --write makes the pages and the table in docs/LANGUAGE.md of it, and tries nothing.
-The table in crates/cyc_terminal/src/habits.rt has to be that of docs/habits.txt, row by row. `cyclone --version` has to name the
-toolchain's logic as `rt --version` does. The last line is `N passed, M failed`, of the files, the version, the codes and the habits.
+The docstrings of crates/cyc_words/src/fault.rt, the messages and hints of crates/cyc_cli/src/advice.rt, the lines of
+crates/cyc_rendering/src/named.rt, the pages in
+crates/cyc_cli/src/pages.rt, the folder beside it and docs/CODES.md, what `cyclone explain` prints and the table of codes in
+docs/LANGUAGE.md have to say what docs/codes.txt says. --write generates the pages and the table in docs/LANGUAGE.md from docs/codes.txt,
+and tries nothing. The table in crates/cyc_cli/src/habits.rt has to be that of docs/habits.txt, row by row. `cyclone --version` has to name
+the toolchain's logic as `rt --version` does. The last line is `N passed, M failed`, of the files, the version, the codes and the habits.
 """
 import os
 import re
@@ -23,9 +23,10 @@ import suite
 TABLE = os.path.join(suite.ROOT, "docs", "codes.txt")
 LANGUAGE = os.path.join(suite.ROOT, "docs", "LANGUAGE.md")
 FAULTS = os.path.join(suite.ROOT, "crates", "cyc_words", "src", "fault.rt")
-ADVICE = os.path.join(suite.ROOT, "crates", "cyc_terminal", "src", "advice.rt")
-PAGES = os.path.join(suite.ROOT, "crates", "cyc_terminal", "src", "pages.rt")
-# The parts of the pages, each with the first number that is no longer a code's of it, and with which codes it has.
+ADVICE = os.path.join(suite.ROOT, "crates", "cyc_cli", "src", "advice.rt")
+NAMED = os.path.join(suite.ROOT, "crates", "cyc_rendering", "src", "named.rt")
+PAGES = os.path.join(suite.ROOT, "crates", "cyc_cli", "src", "pages.rt")
+# The parts of the pages, each with the first number after its codes, and a description of the codes.
 PARTS = {
     "syntax": (20, "the codes of tokens and of the grammar"),
     "types": (40, "the codes of the typing rules"),
@@ -33,20 +34,20 @@ PARTS = {
     "limits": (60, "the codes by which `compile` alone refuses"),
 }
 BOOK = os.path.join(suite.ROOT, "docs", "CODES.md")
-FIELDS = {"meaning", "place", "message", "hint", "text", "at", "by", "rule", "breaks", "mended"}
+FIELDS = {"meaning", "place", "message", "line", "hint", "text", "at", "by", "rule", "breaks", "mended"}
 HABITS = os.path.join(suite.ROOT, "docs", "habits.txt")
-HABITS_CODE = os.path.join(suite.ROOT, "crates", "cyc_terminal", "src", "habits.rt")
+HABITS_CODE = os.path.join(suite.ROOT, "crates", "cyc_cli", "src", "habits.rt")
 HABIT_FIELDS = {"code", "before", "at", "expected", "hint", "text", "place"}
-# What a list of words of a habit may be in place of words.
+# The kinds that may replace a list of words of a habit.
 KINDS = ("any", "number", "marked", "name", "call", "method", "wide")
-# The table of codes in docs/LANGUAGE.md, from its head to the empty line behind it.
+# The table of codes in docs/LANGUAGE.md, from its header to the empty line after it.
 HEAD = "| Code | What it means | Its place | Smallest text |\n|---|---|---|---|\n"
 PART = re.compile(r'"([^"]*)"(?: \* (\d+))?')
-# A line of a text on a page, the first of `breaks` or `mended`; and one that stands there several times.
+# A line of a text on a page, the first of `breaks` or `mended`; and a line that is repeated several times.
 LINE = "  | "
 REPEATED = re.compile(r"(.*\S) +\((\d+) times\)")
 MANY = "A line below that ends with (N times) stands N times, with the number of the copy in place of #."
-# How wide the words of a page are.
+# The width in characters of the words on a page.
 WIDTH = 78
 BOOK_HEAD = """# The codes of refusals
 
@@ -58,7 +59,7 @@ MADE = "//! They are made of `docs/codes.txt` by `python3 tests/runners/codes.py
 PAGES_HEAD = f"""//! The page of each code of a refusal, which `cyclone explain` prints: the rule, a text that breaks it, and that text mended.
 {MADE}
 ghost use Rattle.std.specs.Prelude.{{◌≡◌}};
-ghost use Rattle.cyc_terminal.specs.inside.Pages.{{page_of}};
+ghost use Rattle.cyc_cli.specs.inside.Pages.{{page_of}};
 
 use cyc_words::Code;
 
@@ -73,28 +74,28 @@ pub fn page(code: Code) -> &'static str
 
 
 class Code:
-    """A code of the table."""
+    """A code of the table in docs/codes.txt."""
 
     def __init__(self, number, name):
         self.number = int(number)
         self.name = name
-        # The lines of the text on its page that is refused, and of that text mended.
+        # The lines of the rejected text on the code's page, and of the corrected text.
         self.broken, self.whole = [], []
 
     def parts(self):
-        """The smallest text as pieces that are repeated; nothing where the table has words in its place."""
+        """Returns the smallest text as repeated pieces; empty if the table describes it in words."""
         if not self.text.startswith('"'):
             return None
         return [(piece, int(times or 1)) for piece, times in PART.findall(self.text)]
 
     def source(self):
-        """The smallest text itself."""
+        """Returns the smallest rejected text."""
         pieces = [piece.replace("#", str(copy)) if times > 1 else piece
                   for piece, times in self.parts() for copy in range(1, times + 1)]
         return "".join(pieces).encode("ascii")
 
     def page(self):
-        """What `cyclone explain` prints of it."""
+        """Returns the page that `cyclone explain` prints for the code."""
         said = [f"fault {self.number}: {self.message}", filled(f"{self.meaning}. Its place: {self.place}."), filled(self.rule)]
         if self.broken:
             refused = f"Accepted by check, and refused by compile with fault {self.number}" if self.by == "compile" else "Refused"
@@ -104,11 +105,11 @@ class Code:
         return "\n\n".join(said) + "\n"
 
     def constant(self):
-        """The name of its page in the code."""
+        """Returns the name of the constant with the code's page."""
         return re.sub(r"(?<=[a-z])(?=[A-Z])|(?<=A)(?=Place)", "_", self.name).upper()
 
     def row(self):
-        """The code's row of the table for people."""
+        """Returns the code's row of the table in docs/LANGUAGE.md."""
         parts = self.parts()
         if parts is None:
             smallest = self.text
@@ -121,17 +122,17 @@ class Code:
 
 
 class Habit:
-    """A habit of the table."""
+    """A habit of the table in docs/habits.txt."""
 
     def __init__(self, name):
         self.name = name
 
     def row(self, names):
-        """What the code's table has of it, with the names of codes by their numbers."""
+        """Returns the row that the table in the code must have for the habit, with names of codes instead of numbers."""
         return names[int(self.code)], listed(self.before), listed(self.at), listed(self.expected), self.hint
 
     def source(self):
-        """The text that is refused so."""
+        """Returns the text that is rejected because of the habit."""
         return characters(self.text).encode("utf-8")
 
 
@@ -144,7 +145,7 @@ def indented(lines):
 
 
 def repeated(lines):
-    """The source file that the lines of a text on a page stand for."""
+    """Returns the source text that the lines on a page denote, with repeated lines expanded."""
     found = []
     for line in lines:
         match = REPEATED.fullmatch(line)
@@ -153,17 +154,17 @@ def repeated(lines):
 
 
 def listed(words):
-    """A list of words of the table: each in brackets, or what stands in place of them."""
+    """Returns a list of words of the table: each in brackets, or the kind that replaces them."""
     return [words] if words in KINDS else [characters(word) for word in re.findall(r"\[(.+?)\](?= \[|$)", words)]
 
 
 def characters(words):
-    """Words with the characters whose numbers stand in them as \\u{..}."""
+    """Replaces each Unicode escape in a text by its character."""
     return re.sub(r"\\u\{(\w+)\}", lambda found: chr(int(found[1], 16)), words)
 
 
 def words_of(piece, times):
-    """A piece of a text that is repeated, for people."""
+    """Returns the description of a repeated piece of a text for readers."""
     if times == 1:
         return f"`` {piece} ``" if "`" in piece else f"`{piece}`"
     if "#" in piece:
@@ -177,7 +178,7 @@ def content(path):
 
 
 def codes():
-    """The codes of the table."""
+    """Returns the codes of the table."""
     found, lines = [], []
     for line in content(TABLE).split("\n"):
         word, _, rest = line.partition(" ")
@@ -198,7 +199,7 @@ def codes():
 
 
 def habits():
-    """The habits of the table."""
+    """Returns the habits of the table."""
     found = []
     for line in content(HABITS).split("\n"):
         word, _, rest = line.partition(" ")
@@ -214,7 +215,7 @@ def habits():
 
 
 def faults_of_habits(found, kinds):
-    """What the table in the code says otherwise than that of the habits."""
+    """Returns the differences between the table in the code and that of the habits."""
     names = {kind.number: kind.name for kind in kinds}
     code = content(HABITS_CODE)
     lines = dict(re.findall(r'^const (\w+): &str = "\\\n(.*?)";\n', code, re.M | re.S))
@@ -230,7 +231,7 @@ def faults_of_habits(found, kinds):
 
 
 def faults_of_habit(habit, program, folder):
-    """What the program says of the text of a habit otherwise."""
+    """Returns the differences between the expected and the actual diagnostics on a habit's text."""
     source = os.path.join(folder, "habit.cyc")
     with open(source, "wb") as file:
         file.write(habit.source())
@@ -240,7 +241,7 @@ def faults_of_habit(habit, program, folder):
 
 
 def faults_of_docstrings(found):
-    """What the docstrings in the code say otherwise."""
+    """Returns the differences between docs/codes.txt and the doc comments in the code."""
     body = content(FAULTS).split("pub enum Code {\n")[1].split("\n}\n")[0]
     written, words = {}, []
     for line in body.split("\n"):
@@ -256,24 +257,24 @@ def faults_of_docstrings(found):
 
 
 def faults_of_advice(found):
-    """What the program's words say otherwise."""
+    """Returns the differences between docs/codes.txt and the program's messages and hints."""
     faults = []
-    for function, field in (("meaning", "message"), ("hint", "hint")):
-        body = content(ADVICE).split(f"fn {function}(")[1].split("\n}\n")[0]
+    for path, function, field in ((ADVICE, "meaning", "message"), (ADVICE, "hint", "hint"), (NAMED, "named", "line")):
+        body = content(path).split(f"fn {function}(")[1].split("\n}\n")[0]
         written = dict(re.findall(r'Code::(\w+) =>\s*"([^"]*)",', body))
-        faults += differences({code.name: getattr(code, field) for code in found}, written)
+        faults += differences({code.name: getattr(code, field) for code in found if hasattr(code, field)}, written)
     return faults
 
 
 def differences(wanted, written):
-    """The names at which two tables differ."""
+    """Returns the names for which two tables differ."""
     names = sorted(wanted.keys() | written.keys())
     pairs = [(name, wanted.get(name), written.get(name)) for name in names]
     return [suite.difference(*pair) for pair in pairs if pair[1] != pair[2]]
 
 
 def table_of(text):
-    """The table of codes in a document: what stands before it, the table, and what stands behind it."""
+    """Splits a document at its table of codes: the text before, the table, and the text after."""
     before, behind = text.split(HEAD)
     rows, rest = behind.split("\n\n", 1) if "\n\n" in behind else (behind[:-1], None)
     return before, HEAD + rows + "\n", "" if rest is None else "\n" + rest
@@ -284,7 +285,7 @@ def table_for(found):
 
 
 def faults_of_language(found):
-    """What docs/LANGUAGE.md says otherwise."""
+    """Returns the differences between docs/codes.txt and docs/LANGUAGE.md."""
     _, table, _ = table_of(content(LANGUAGE))
     wanted, got = table_for(found).split("\n"), table.split("\n")
     faults = [suite.difference("a row", one, other) for one, other in zip(wanted, got) if one != other]
@@ -292,7 +293,7 @@ def faults_of_language(found):
 
 
 def faults_of_text(code, text, place, program, folder):
-    """What the program says otherwise of a text that is refused with a code at a place; or, where no place is given, accepted."""
+    """Returns a fault unless a text is rejected with a code at a place, or accepted if no place is given."""
     source = os.path.join(folder, "text.cyc")
     with open(source, "wb") as file:
         file.write(text)
@@ -308,7 +309,7 @@ def faults_of_text(code, text, place, program, folder):
 
 
 def faults_of_code(code, program, folder):
-    """What the program says of the texts of a code otherwise, and of its page."""
+    """Returns the faults of the texts of a code and of its page."""
     wanted, got = (code.page().encode("ascii"), "done", 0), suite.answer([program, "explain", str(code.number)])
     faults = [] if wanted == got else [suite.difference("explain", wanted, got)]
     if code.parts() is not None:
@@ -323,12 +324,12 @@ def literal(text):
 
 
 def part_of(code):
-    """The part of the pages that a code's page stands in."""
+    """Returns the part of the pages that contains a code's page."""
     return next(part for part, (end, _) in PARTS.items() if code.number < end)
 
 
 def pages_in_code(found):
-    """The files of the pages in the program, by their paths."""
+    """Returns the files with pages in the program, by path."""
     modules = [f"mod {part};\n" for part in sorted(PARTS)]
     arms = [f"        Code::{code.name} => {part_of(code)}::{code.constant()},\n" for code in found]
     files = {PAGES: PAGES_HEAD + "".join(modules) + PAGES_FUNCTION + "".join(arms) + "    }\n}\n"}
@@ -339,19 +340,20 @@ def pages_in_code(found):
 
 
 def book(found):
-    """The document of the pages."""
+    """Returns the document with all pages."""
     return BOOK_HEAD + "".join(f"\n## {code.number}: {code.message}\n\n{indented(code.page().splitlines())}\n" for code in found)
 
 
 def faults_of_file(path, wanted):
-    """What a file that is made of the table says otherwise."""
+    """Returns the difference between a generated file and the table."""
     lines, wanted = content(path).split("\n"), wanted.split("\n")
     faults = [suite.difference("a line", one, other) for one, other in zip(wanted, lines) if one != other]
     return faults[:1] or ([] if len(wanted) == len(lines) else ["the pages are not of one length"])
 
 
 def faults_of_version(program):
-    """What the program says otherwise of the logic of the toolchain that proved and built it. Kits with one logic prove the same."""
+    """Returns a fault unless the program names the logic of the toolchain that proved and built it. Toolchains with one logic prove the
+    same."""
     told = subprocess.run(["rt", "--version"], check=True, capture_output=True, text=True).stdout
     wanted = re.search(r"logic \w+", told)[0]
     got = subprocess.run([program, "--version"], capture_output=True, text=True).stdout

@@ -1,23 +1,24 @@
 #!/usr/bin/env python3
-"""Random programs, checked, compiled and run, beside what tests/references/reference.py says of them, and gcc of some.
+"""Checks, compiles and runs random programs, and compares the results with tests/references/reference.py and some with gcc.
 
-    python3 tests/runners/differential.py [--program PATH] [--count N] [--profile NAME] [--seed N] [--check] [--texts FOLDER]
+    python3 tests/runners/differential.py [--program PATH] [--count N] [--profile NAME] [--seed N] [--check] [--one-store]
+                                          [--texts FOLDER]
 
-The profiles are ints, pointers, heap, exceptions, unique and regions, each of which has what those before it have, chars,
-which has ints and chars alone, and bytes, which has all. Each program is made so that it is mostly accepted and ends soon.
-One that is accepted is run on two inputs, with just as many calls and pages as it needs and fewer, and with a small budget
-of steps, which has to give a prefix of the whole output. The first run's report has to name just these calls and pages. Each of these runs but the last is made over both stores too
-(`crates/cyc_runner`, `--runner`), which have to come to the same end after the same count of instructions. One of chars and bytes becomes C too (tests/references/in_c.py),
-which gcc builds; it is run in the same ways and has to answer the same. One of its functions is filled up with locals until
-its frame has 256 words, which changes nothing, and 257, which is refused. Beside it stand texts that were refused, and the
-program with one thing changed: what is checked of each is the code and its place.
+The profiles are ints, pointers, heap, exceptions, unique and regions, each of which includes those before it; chars, with only ints and
+chars; and bytes, which includes all. Programs are generated so that most are accepted and end soon. An accepted program is run on two
+inputs, with exactly the calls and pages that it needs and with fewer. It is also run with a small budget of steps, which must give a prefix
+of the whole output. The first run's report must name exactly these calls and pages. Each of these runs except the last uses both stores
+(`run --store`) unless --one-store is given; both must end in the same way after equally many instructions. A program of chars or bytes is
+also translated to C (tests/references/in_c.py), compiled with gcc, and run in the same ways with the same results. One of its functions is
+filled with locals until its frame has 256 words, which changes nothing, and 257, which is rejected. For rejected texts, and for the program
+with one change, the code and the place are compared.
 
-No run may come to what is closed or freed: then the reference itself is wrong, or the language's rules are. The same seed
-gives the same programs. Of each kind of difference the shortest text is made smaller for as long as the two answers differ in that
-way, and shown. The last line is `N passed, M failed`, of programs: `--count` of ints, and a quarter of that of each other profile.
+No run may access a closed region or a freed object: then the reference or the language's rules are wrong. The same seed gives the same
+programs. For each kind of difference, the shortest text is minimized as long as the two results differ in that way, and printed. The last
+line is `N passed, M failed`, of programs: `--count` of ints, and a quarter of that of each other profile.
 
---check only asks what `check` says. --texts writes the programs to a folder, and each in C beside it. As `--program
-tests/references/in_c.py` answers like the program itself, the expectations for every profile can be held against gcc.
+--check only compares the results of `check`. --texts writes the programs and their C translations to a folder. With `--program
+tests/references/in_c.py --one-store`, the expectations for every profile are compared with gcc.
 """
 import json
 import os
@@ -25,7 +26,7 @@ import random
 import subprocess
 import tempfile
 
-import suite  # first: it says where the references and the generators are
+import suite  # first: it makes the references and the generators importable
 import broken_texts
 import in_c
 import int_makers
@@ -35,20 +36,20 @@ import shrink
 from bounded import parts_of
 from language import values
 
-# A program whose evaluation takes more calls and passes of loops than this is not used.
+# A program whose evaluation takes more calls and iterations of loops than this is not used.
 STEPS_AT_MOST = 10_000
-# More instructions than a run takes of a program that is used.
+# An instruction budget above the need of each program that is used.
 STEPS_OF_IMAGES = "10000000"
-# How many texts that differ from a program in one thing are checked beside it.
+# The number of texts with one change that are checked for each program.
 BROKEN_TEXTS = 4
-# Of how many kinds of differences a text is shown, and the seconds in which it is made smaller.
+# The number of kinds of differences for which a text is printed, and the seconds for minimizing it.
 KINDS_SHOWN = 3
 SHRINKING = 60
 
 
 class FramedRun(reference.Run):
-    """A run that tells how deep calls were of functions that call or have loops: those have frames, and others may stand in the place of
-    their calls."""
+    """A run that records the depth of calls of functions that contain calls or loops. These functions have frames, since calls of them are
+    not inlined."""
 
     def __init__(self, program, given, *limits, **more):
         super().__init__(program, given, *limits, **more)
@@ -65,12 +66,12 @@ class FramedRun(reference.Run):
         return super().call(name, arguments)
 
     def peaks(self):
-        """The most calls and pages, as a report has them where each call has a frame."""
+        """Returns the most calls and pages, as a report states them if each call has a frame."""
         return {"most_calls": self.deepest, "most_pages": self.store.most}
 
 
 class Wanted:
-    """A program, the ways to run it, and what each has to give: output, last line and exit status; and texts with their verdicts."""
+    """A program, the ways to run it, the expected results (output, last line and exit status), and texts with their verdicts."""
 
     def __init__(self, profile, seed, number):
         numbers = random.Random(f"{seed} {number}" if profile == "ints" else f"{profile} {seed} {number}")
@@ -91,7 +92,7 @@ class Wanted:
             self.judge(broken_texts.broken(self.text, numbers))
 
     def fill(self, numbers):
-        """The program with a full frame, and with one that is too full."""
+        """Returns the program with a full frame, and with a frame that is too large."""
         name = numbers.choice(sorted(set(self.program.functions) & {"f0", "f1", "f2", "main"}))
         free = reference.FRAME_AT_MOST - reference.frame_words(self.program.functions[name])
         self.full, self.too_full = (self.text.replace(int_makers.filling(name), "{int z;} " * count) for count in (free, free + 1))
@@ -99,7 +100,7 @@ class Wanted:
         self.refusal = f"fault 51 at {line}:{column}"
 
     def made(self, numbers):
-        """Makes a program, and says whether it is of use: it is accepted, its frames are small enough and its runs end soon."""
+        """Generates a program. Returns true if it is usable: it is accepted, its frames are small enough and its runs end soon."""
         self.text = makers.PROFILES[self.profile](numbers).text()
         try:
             self.program = reference.Program(self.text)
@@ -114,7 +115,7 @@ class Wanted:
         return all(self.evaluated(given).line != "budget spent" for given in self.inputs)
 
     def judge(self, text):
-        """Keeps the verdict on a text. One that is accepted is run too, on nothing: its run must not be dead or wrong."""
+        """Records the verdict on a text. An accepted text is also run on empty input: the run must not be dead or wrong."""
         verdict = reference.verdict(text)
         self.verdicts.append((text, verdict))
         if verdict == "done":
@@ -131,7 +132,7 @@ class Wanted:
 
     @staticmethod
     def ended(run, text):
-        """How a run ends; what is accepted is never dead or wrong."""
+        """Returns how a run ends; a run of an accepted program is never dead or wrong."""
         try:
             return run.end()
         except (values.Dead, values.Wrong) as error:
@@ -143,22 +144,23 @@ class Wanted:
 
 
 def kind_of(expected, got):
-    """The kind of a difference: what the last lines say, without the values and places, and whether the outputs are the same."""
+    """Returns the kind of a difference: the last lines without values and places, and whether the outputs are equal."""
     heads = [line.split(" at ")[0].split()[:2] for _, line, _ in (expected, got)]
     return [head[:1] if head[:1] == ["returned"] else head for head in heads], expected[0] == got[0]
 
 
 class Useless(Exception):
-    """A text of which the same cannot be asked."""
+    """A text for which the same question cannot be asked."""
 
 
 class Tried:
-    """A program's answers, of which the first that is otherwise than wanted is kept."""
+    """The results of a program; only the first difference from the expectation is stored."""
 
-    def __init__(self, program, folder, runner=None):
-        self.program, self.runner = program, runner
-        self.source, self.image, self.built, self.report = (os.path.join(folder, name) for name in ("main.cyc", "main.elf", "main", "main.json"))
-        # the first difference, its kind, the text that shows it, and what asks the same of another text
+    def __init__(self, program, folder, is_one=True):
+        self.program, self.is_one = program, is_one
+        names = ("main.cyc", "main.elf", "main", "main.json")
+        self.source, self.image, self.built, self.report = (os.path.join(folder, name) for name in names)
+        # the first difference, its kind, the text that shows it, and the function that repeats the comparison for another text
         self.fault, self.kind, self.text, self.again = None, None, None, None
 
     def want(self, what, expected, got, again):
@@ -199,8 +201,8 @@ class Tried:
         self.want(f"run {' '.join(options)} on {given}", expected, got, lambda text: self.run_again(text, given, options))
 
     def counted(self, given, run):
-        """The most calls and pages of a run, as its report has them; None of who answers as the program does, but makes no reports. A report
-        may have one call less where no call that deep is of a function that surely has a frame."""
+        """Returns the most calls and pages of a run from its report; None for a program that makes no reports. A report may state one call
+        less if no call at the greatest depth is of a function that certainly has a frame."""
         if self.answer("run", self.image, "--report", self.report, "--peaks", given=given)[1] == "usage":
             return None
         with open(self.report, encoding="ascii") as file:
@@ -220,15 +222,15 @@ class Tried:
         return (b"", str(done.peaks()), 0), (b"", str(self.counted(given, done)), 0)
 
     def over_stores(self, given, options):
-        """A run over both stores: each has its output, its end and its count of instructions from `cyc_runner`."""
-        limits = dict(zip(options[::2], options[1::2]))
-        words = [limits["--pages"], limits["--calls"], STEPS_OF_IMAGES, self.image]
-        return tuple(suite.answer([self.runner, store, *words], given) for store in suite.STORES)
+        """Returns the results of a run over both stores: the output, the end, and the report with the count of instructions."""
+        runs = suite.over_stores(self.program, [self.image, *options, "--steps", STEPS_OF_IMAGES], given)
+        return tuple((output, f"{line}, {report}", status) for output, line, status, report in runs)
 
     def run_over_stores(self, given, options):
-        if self.runner:
+        if not self.is_one:
             one, other = self.over_stores(given, options)
-            self.want(f"over both stores, run {' '.join(options)} on {given}", one, other, lambda text: self.stores_again(text, given, options))
+            again = lambda text: self.stores_again(text, given, options)
+            self.want(f"over both stores, run {' '.join(options)} on {given}", one, other, again)
 
     def stores_again(self, text, given, options):
         self.run_again(text, given, options)
@@ -242,7 +244,7 @@ class Tried:
 
     @staticmethod
     def evaluated(text, given, options):
-        """Another program, and what its run has to give, if it is accepted and ends soon."""
+        """Returns another program with the expected result of its run, if it is accepted and ends soon."""
         program = reference.Program(text)
         program.hold_to_sizes()
         limits = {name[2:]: int(number) for name, number in zip(options[::2], options[1::2])}
@@ -253,7 +255,7 @@ class Tried:
         return program, (bytes(done.output), line, status)
 
     def run_in_c(self, program, ways):
-        """The program in C, as gcc builds it, on each of these ways to run it."""
+        """Runs the program in C, compiled by gcc, in each of these ways."""
         in_c.build(program, None, self.built)
         for given, options, expected in ways:
             again = lambda text, given=given, options=options: self.run_in_c_again(text, given, options)
@@ -265,7 +267,7 @@ class Tried:
         return expected, suite.answer([self.built, *options], given)
 
     def run_some(self, given, steps, expected):
-        """A run with a budget of steps, which ends as the whole run does or has printed a prefix of what that prints."""
+        """Checks a run with a budget of steps. It ends as the whole run does, or its output is a prefix of the whole output."""
         got = self.answer("run", self.image, "--steps", str(steps), given=given)
         if not self.is_part(got, expected):
             self.want(f"run --steps {steps} on {given}", expected, got, lambda text: self.run_some_again(text, given, steps))
@@ -280,7 +282,7 @@ class Tried:
         return got[1:] == ("budget spent", 7) and expected[0].startswith(got[0])
 
     def asked_again(self, text):
-        """What is wanted of another text, where the answer was otherwise than wanted, and what it gives; None where that cannot be asked."""
+        """Repeats a failed comparison for another text. Returns the expected and the actual result, or None if that is impossible."""
         with open(self.source, "w", encoding="latin-1") as file:
             file.write(text)
         try:
@@ -289,18 +291,18 @@ class Tried:
             return None
 
     def shows(self, text):
-        """Whether another text has a difference of the same kind."""
+        """Returns true if another text shows a difference of the same kind."""
         answers = self.asked_again(text)
         return answers is not None and answers[0] != answers[1] and kind_of(*answers) == self.kind
 
     def shrunk(self, seconds):
-        """A small text with a difference of the same kind, and the difference."""
+        """Returns a small text with a difference of the same kind, and the difference."""
         text = shrink.shrunk(self.text, self.shows, seconds)
         return text, suite.difference("the two answers", *self.asked_again(text))
 
 
 def try_program(tried, wanted, only_check):
-    """Checks a program and those beside it, and compiles and runs it in each way."""
+    """Checks a program and its variants, and compiles and runs it in each way."""
     for text, line in wanted.verdicts:
         tried.check(text, line)
     if only_check:
@@ -320,7 +322,7 @@ def try_program(tried, wanted, only_check):
 
 
 def write(wanted, path):
-    """The program, in C too, each run with what it has to give, and the texts beside it with their verdicts."""
+    """Writes the program, also in C, with the expected result of each run, and the variants with their verdicts."""
     texts = [(".cyc", wanted.text)] + [(f".{number}.cyc", text) for number, (text, _) in enumerate(wanted.verdicts)]
     for ending, text in [*texts, (".c", in_c.text_in_c(wanted.program))]:
         with open(path + ending, "w", encoding="latin-1") as file:
@@ -333,18 +335,18 @@ def write(wanted, path):
 
 
 def programs_of(options):
-    """Each program's profile and number."""
+    """Returns the profile and the number of each program."""
     for profile in [options.profile] if options.profile else makers.PROFILES:
         count = options.count if profile == "ints" or options.profile else options.count // 4
         yield from ((profile, number) for number in range(count))
 
 
-def try_all(options, program, runner):
-    """The numbers of programs that pass and that fail."""
+def try_all(options, program):
+    """Returns the numbers of programs that pass and that fail."""
     passed, failed, shortest = 0, 0, {}
     with tempfile.TemporaryDirectory(prefix="cyclone-random-") as folder:
         for profile, number in programs_of(options):
-            wanted, tried = Wanted(profile, options.seed, number), Tried(program, folder, runner)
+            wanted, tried = Wanted(profile, options.seed, number), Tried(program, folder, options.one_store)
             if options.texts:
                 write(wanted, os.path.join(options.texts, f"{profile}.{number:04}"))
             try_program(tried, wanted, options.check)
@@ -362,7 +364,7 @@ def try_all(options, program, runner):
 
 
 def show_shrunk(name, tried):
-    """Shows what is left of a text that fails, and the whole that it is of."""
+    """Prints the minimized text of a failure, and the original text."""
     text, difference = tried.shrunk(SHRINKING)
     print(f"shrunk from {len(tried.text.splitlines())} lines of {name} (--texts FOLDER writes all programs):")
     print("\n".join("    " + line for line in text.splitlines()))
@@ -370,19 +372,18 @@ def show_shrunk(name, tried):
 
 
 def main():
-    parser = suite.command_line(__doc__)
+    parser = suite.command_line_of_runs(__doc__)
     parser.add_argument("--count", type=int, default=200)
     parser.add_argument("--profile", choices=makers.PROFILES)
     parser.add_argument("--seed", type=int, default=1)
     parser.add_argument("--check", action="store_true")
     parser.add_argument("--texts")
-    parser.add_argument("--runner", metavar="PATH")
     options = parser.parse_args()
     program = suite.program_of(options, len(list(programs_of(options))))
     suite.need([] if options.check else ["gcc"], len(list(programs_of(options))))
     if options.texts:
         os.makedirs(options.texts, exist_ok=True)
-    suite.end(*reference.with_room(lambda: try_all(options, program, suite.runner_of(options, len(list(programs_of(options)))))))
+    suite.end(*reference.with_room(lambda: try_all(options, program)))
 
 
 if __name__ == "__main__":

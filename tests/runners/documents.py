@@ -1,16 +1,14 @@
 #!/usr/bin/env python3
-"""Looks over the documents: their lines, their code spans, the files that they name, and what they have from data.
+"""Checks the documents: their lines, their code spans, the files that they name, and the tables and numbers from data.
 
     python3 tests/runners/documents.py [--write]
 
-Outside of tables and programs a line of a document has at most 120 characters, a code span ends on its line, and a path
-in a code span that begins with a folder of the repository leads to a file or a folder. In the document of a crate all
-paths do, those from the crate's own folders and names of files that stand behind a path among them (`places.py`). What
-documents have from data, tables and numbers, is that of the data (`facts.py`). --write puts it there, fills the lines
-of the documents up to 120 characters, so that no code span is broken, and looks for nothing. Beside the documents it is
-asked whether crates stand on others for nothing, whether definitions name their sources, whether each name of a lemma
-has one statement (`lemmas.py`), and whether the lines of imports can be read (`house.py`). The last line is `N passed,
-M failed`, of the documents and of these.
+Outside of tables and programs a line of a document has at most 120 characters, and a code span ends on its line. A path in a code span that
+begins with a folder of the repository names an existing file or folder. In the document of a crate all paths must exist, also those
+relative to the crate's folders (`places.py`). Tables and numbers must equal those computed from data (`facts.py`). --write updates them,
+wraps the lines of the documents at 120 characters without breaking code spans, and checks nothing. It is also checked that no crate has an
+unused dependency, that definitions name their sources, that each name of a lemma has one statement (`lemmas.py`), and that import lines are
+short enough to read (`house.py`). The last line is `N passed, M failed`, of the documents and these checks.
 """
 import argparse
 import os
@@ -24,14 +22,14 @@ import suite
 from facts import content
 
 WIDTH = 120
-FOLDERS = ("crates", "docs", "tests", "examples", "bench", "editors", "tools")
-# What the gate makes, and a clean clone has not.
+FOLDERS = ("crates", "docs", "tests", "examples", "lib", "bench", "editors", "tools")
+# Paths that the gate creates and a fresh clone lacks.
 MADE = re.compile(r"crates/\w+/out\b")
 ITEM = re.compile(r" *(- |\d+\. )")
 
 
 def documents():
-    """The documents of the repository, by their paths from its top."""
+    """Returns the documents of the repository, by their paths from its root."""
     found = []
     for folder, folders, names in os.walk(suite.ROOT):
         folders[:] = [name for name in folders if name != "out" and not name.startswith(".")]
@@ -40,7 +38,7 @@ def documents():
 
 
 def code_spans(line):
-    """The code spans of a line, and what is left of it where one does not end."""
+    """Returns the code spans of a line, and the rest of the line if a span does not end."""
     spans, rest = [], line
     while "`" in rest:
         opening = re.search("`+", rest)
@@ -53,7 +51,7 @@ def code_spans(line):
 
 
 def faults_of_line(line):
-    """What is wrong with a line."""
+    """Returns the faults of a line."""
     faults = []
     if len(line) > WIDTH and not line.startswith("|"):
         faults.append(f"has {len(line)} characters")
@@ -68,7 +66,7 @@ def faults_of_line(line):
 
 
 def faults_of_programs(lines):
-    """The programs that stand behind an item of a list as deep as others: they are text of the item then."""
+    """Returns the faults of programs after a list item that are indented like other items: they would be text of the item."""
     faults, is_in_list, is_behind = [], False, False
     for number, line in enumerate(lines, 1):
         if is_in_list and is_behind and re.match(" {4,5}(?! )", line) and not ITEM.match(line):
@@ -79,7 +77,7 @@ def faults_of_programs(lines):
 
 
 def faults_of(path, text):
-    """What is wrong with a document. A program is indented by four spaces, or by six in a list."""
+    """Returns the faults of a document. A program is indented by four spaces, or by six in a list."""
     lines = text.split("\n")
     faults = [f"line {number}: {fault}" for number, line in enumerate(lines, 1)
               if not line.startswith("    ") for fault in faults_of_line(line)]
@@ -87,23 +85,23 @@ def faults_of(path, text):
 
 
 def is_text(line):
-    """Whether a line is one of a paragraph, and no head, table, program or empty line."""
+    """Returns true if a line belongs to a paragraph: it is no heading, table, program or empty line."""
     return line.strip() != "" and not line.startswith(("#", "|", "    "))
 
 
 def goes_on(line, rest):
-    """Whether a line goes on with a paragraph whose lines begin with `rest`."""
+    """Returns true if a line continues a paragraph whose lines begin with `rest`."""
     return line.startswith(rest) and is_text(line[len(rest):]) and not ITEM.match(line)
 
 
 def pieces_of(text):
-    """The words of a text with their code spans whole."""
+    """Returns the words of a text, with code spans unbroken."""
     pattern = re.compile(r"(?:(?P<ticks>`+)(?!`)(?:.|\n)*?(?<!`)(?P=ticks)(?!`)|[^\s`])+")
     return [" ".join(found.group().split()) for found in pattern.finditer(text)]
 
 
 def filled(text, first, rest):
-    """A paragraph, whose first line begins with `first` and whose others begin with `rest`."""
+    """Returns a wrapped paragraph whose first line begins with `first` and whose other lines begin with `rest`."""
     lines, line = [], None
     for piece in pieces_of(text):
         if line is None:
@@ -117,7 +115,7 @@ def filled(text, first, rest):
 
 
 def filled_document(text):
-    """A document with its lines filled up."""
+    """Returns a document with its paragraphs wrapped."""
     lines, done, at = text.split("\n"), [], 0
     while at < len(lines):
         line = lines[at]

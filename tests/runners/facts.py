@@ -1,7 +1,8 @@
-"""What documents have from the repository's data: tables, whole or in part, and numbers in their sentences.
+"""Computes the parts of documents that come from data: tables, whole or in part, and numbers in sentences.
 
-The data are `crates.txt`, the heads of the crates' own documents, their files, the cases of wrong bodies, the programs in `tests/sound`,
-and what the makers of images and of programs make. `tests/runners/documents.py` compares the documents with them, and puts them there.
+The data are `crates.txt`, the first lines of the crates' own documents, their files, the cases of wrong bodies, the programs in
+`tests/sound`, and the generated images and programs. `tests/runners/documents.py` compares the documents with them, and updates the
+documents.
 """
 import collections
 import functools
@@ -9,7 +10,7 @@ import os
 import random
 import re
 
-import suite  # first: it says where the references and the generators are
+import suite  # first: it makes the references and the generators importable
 import house
 import image_makers
 import in_trees
@@ -19,9 +20,9 @@ import stores
 import wrong
 
 FOLDERS = (("src", ".rt"), ("specs", ".antt"), ("proofs", ".antt"))
-# Numbers that stand in a sentence as words.
+# Numbers that sentences spell as words.
 WORDS = "no one two three four five six seven eight nine ten eleven twelve thirteen fourteen fifteen sixteen".split()
-# What the first lines of a crate's document say, in this order; what a crate of tests or figures has not is left out.
+# The fields in the first lines of a crate's document, in this order; a crate of tests or figures may lack some.
 FIELDS = ("Definitions", "Contract", "Proved")
 
 Head = collections.namedtuple("Head", ("what", *FIELDS))
@@ -36,7 +37,7 @@ def content(path):
 
 
 def crates():
-    """The crates, in the order of the pipeline."""
+    """Returns the crates, in the order of the pipeline."""
     return list(wrong.stands_on(suite.ROOT))
 
 
@@ -45,7 +46,7 @@ def document_of(crate):
 
 
 def head_of(crate):
-    """What the head of a crate's document says: `# NAME: what it is`, and a list of what its fields are."""
+    """Returns the first lines of a crate's document: `# NAME: description`, and a list of its fields."""
     text = content(document_of(crate))
     title = re.match(rf"# {crate}: (.+)\n\n", text)
     items = text[title.end():].split("\n\n")[0] if title else ""
@@ -58,18 +59,11 @@ def head_of(crate):
 def rows_of_architecture():
     for crate in crates():
         head = head_of(crate)
-        yield f"`{crate}`", head.what, head.Definitions, head.Contract
-
-
-def rows_of_promises():
-    for crate in crates():
-        head = head_of(crate)
-        if head.Proved:
-            yield f"`{crate}`", head.Proved, head.Contract
+        yield f"`{crate}`", head.what, head.Proved or "none", head.Definitions, head.Contract
 
 
 def lines_in(crate, folder, ending):
-    """The lines of a folder's files, tests apart."""
+    """Counts the lines of a folder's files, without tests."""
     count = 0
     for where, _, names in os.walk(os.path.join(suite.ROOT, "crates", crate, folder)):
         for name in names:
@@ -79,7 +73,7 @@ def lines_in(crate, folder, ending):
 
 
 def rows_of_sizes():
-    """Of each crate the lines of its code, definitions and proofs, and its wrong bodies; and of all together."""
+    """Returns for each crate the lines of its code, definitions and proofs, and its number of wrong bodies; and the sums."""
     bodies = collections.Counter(case.crate for case in wrong.all_cases())
     total = [0] * (len(FOLDERS) + 1)
     for crate in crates():
@@ -89,30 +83,13 @@ def rows_of_sizes():
     yield "all", *(f"{number:,}" for number in total)
 
 
-def rows_of_wrong_bodies():
-    for case in wrong.all_cases():
-        yield case.name.replace("_", " "), f"`{case.crate}`", case.tests.replace("|", "\\|")
-
-
-def rows_of_decisions():
-    """Each part of the decisions, with what is decided there in its own words: those that stand in bold."""
-    for part in re.split(r"^##+ ", content("docs/DECISIONS.md"), flags=re.M)[1:]:
-        name, _, rest = part.partition("\n")
-        leads = [" ".join(lead.split()).rstrip(".") for lead in re.findall(r"^- \*\*((?:.|\n)+?)\*\*", rest, re.M)]
-        if leads:
-            yield name, "; ".join(leads)
-
-
-# A table by its first line, and its rows.
+# A table, by its first line, and its rows.
 Table = collections.namedtuple("Table", "document head rows")
 TABLES = [
-    Table("README.md", "| Crate | Proved | Contract |", rows_of_promises),
-    Table("docs/ARCHITECTURE.md", "| Crate | What it is | Definitions (`specs/`) | Contract |", rows_of_architecture),
+    Table("docs/ARCHITECTURE.md", "| Crate | What it is | Proved | Definitions (`specs/`) | Contract |", rows_of_architecture),
     Table("docs/FIGURES.md", "| Crate | Code | Definitions | Proofs | Wrong bodies |", rows_of_sizes),
     Table("docs/FIGURES.md", "| What a change meets | How many |", house.rows),
-    Table("docs/DECISIONS.md", "| About | What is decided |", rows_of_decisions),
     Table("CONTRIBUTING.md", "| Change | One that is there | Files in `crates/` |", house.rows_of_changes),
-    Table("docs/WRONG_BODIES.md", "| Wrong body | Crate | What it would break |", rows_of_wrong_bodies),
 ]
 
 
@@ -120,7 +97,7 @@ TABLES = [
 
 
 def wrong_rules():
-    """How many wrong rules of types and flow the theorem on dead accesses is tried over."""
+    """Returns the number of wrong rules of types and flow for which the theorem on dead accesses is tried."""
     return sum(case.crate == "cyc_soundness" and "cyc_types" in case.changed() for case in wrong.all_cases())
 
 
@@ -133,12 +110,12 @@ def small_images():
 
 
 def random_images():
-    """How many random images a gate tries."""
+    """Returns the number of random images that the gate tries."""
     return int(re.search(r'"--count", type=int, default=([\d_]+)', content("tests/runners/images.py"))[1])
 
 
 def has_open_end(made):
-    """Whether an image's run comes to where a store may choose how it goes on."""
+    """Returns true if an image's run reaches a point at which a store may choose how it continues."""
     try:
         machine.Run(machine.Image(made.file), made.given, made.pages, made.calls, made.steps).end()
     except machine.ImageFault:
@@ -162,11 +139,10 @@ def files_in(folder, ending):
     return sum(name.endswith(ending) for name in os.listdir(os.path.join(suite.ROOT, folder)))
 
 
-# A number in a sentence: its document, the words that it stands among, as a pattern with its place, and what it is.
+# A number in a sentence: its document, a pattern of the words around it, and the function that computes it.
 Number = collections.namedtuple("Number", "document pattern count")
 GUARANTEES, SOUNDNESS, FIGURES = "docs/GUARANTEES.md", document_of("cyc_soundness"), "docs/FIGURES.md"
 NUMBERS = [
-    Number("README.md", r"The code stands in (\w+) crates", lambda: len(crates())),
     Number(GUARANTEES, r"(\w+) programs that the rules refuse, by premises", lambda: programs_of_sound("refused")),
     Number(GUARANTEES, r"and (\w+) accepted ones to end", lambda: programs_of_sound("accepted")),
     Number(GUARANTEES, r"(\w+) wrong rules are each put in the place", wrong_rules),
@@ -186,14 +162,14 @@ NUMBERS = [
 
 
 def spelled(number, before):
-    """A number as it stands in a sentence, in words if it stands there in words and they are known."""
+    """Returns a number as a sentence spells it: in words if the sentence has a word and the number has one."""
     if before.isalpha() and number < len(WORDS):
         return WORDS[number].capitalize() if before[0].isupper() else WORDS[number]
     return f"{number:,}"
 
 
 def with_number(text, number):
-    """A text with a number put in its place, between whatever spaces and ends of lines."""
+    """Returns a text with a number replaced, whatever spaces and line ends surround it."""
     pattern = re.compile(number.pattern.replace(" ", r"\s+"))
     found = pattern.findall(text)
     if len(found) != 1:
@@ -203,7 +179,7 @@ def with_number(text, number):
 
 
 def with_table(text, table):
-    """A text with the rows of a table put in their place."""
+    """Returns a text with the rows of a table replaced."""
     parts = re.split(f"^{re.escape(table.head)}\n(?:\\|.*\n)+", text, flags=re.M)
     if len(parts) != 2:
         raise ValueError(f"{table.document} has {len(parts) - 1} tables that begin with {table.head}")
@@ -213,7 +189,7 @@ def with_table(text, table):
 
 
 def with_facts(path, text):
-    """The text of a document with all that it has from data."""
+    """Returns the text of a document with all parts from data updated."""
     for table in TABLES:
         if table.document == path:
             text = with_table(text, table)
@@ -224,7 +200,7 @@ def with_facts(path, text):
 
 
 def faults_of(path, text):
-    """What a document says otherwise than the data."""
+    """Returns the differences between a document and the data."""
     try:
         wanted, got = with_facts(path, text).split("\n"), text.split("\n")
     except ValueError as fault:
@@ -233,18 +209,19 @@ def faults_of(path, text):
               for number, (one, other) in enumerate(zip(wanted, got), 1) if one != other]
     if len(wanted) != len(got):
         faults.append(f"it has {len(got)} lines, and would have {len(wanted)}")
-    # One line too many or too few makes all that follow differ.
+    # A missing or extra line makes all following lines differ.
     return faults[:3]
 
 
-# The crates whose definitions a person reads against a public source, how a head names one, and the files that define nothing.
-DEFINING = ("cyc_syntax", "cyc_types", "cyc_meaning", "cyc_isa", "cyc_elf", "cyc_store", "cyc_machine")
+# The crates whose definitions are compared with a public source, the form in which a first comment names one, and the files without
+# definitions.
+DEFINING = ("cyc_syntax", "cyc_types", "cyc_meaning", "cyc_isa", "cyc_elf", "cyc_store", "cyc_machine_model", "cyc_machine")
 SOURCE = re.compile(r"own\s+choice|[Mm]anual|Grossman|System\s+V|MIPS32\s+architecture|C\s+and\s+Cyclone")
 DEFINES_NOTHING = re.compile(r"(Lib|\w*View|\w*Examples|Readings|[a-z_]+)\.antt")
 
 
 def faults_of_sources():
-    """The definitions that name no source in their comments."""
+    """Returns the definitions whose comments name no source."""
     paths = [os.path.relpath(os.path.join(where, name), suite.ROOT)
              for crate in DEFINING for where, _, names in os.walk(os.path.join(suite.ROOT, "crates", crate, "specs")) for name in names]
     defining = [path for path in sorted(paths) if not DEFINES_NOTHING.fullmatch(os.path.basename(path))]
@@ -253,7 +230,7 @@ def faults_of_sources():
 
 
 def names_in(crate):
-    """The words of a crate's code, definitions and proofs, comments among them."""
+    """Returns the words of a crate's code, definitions and proofs, including comments."""
     found = set()
     for folder, ending in FOLDERS:
         for where, _, names in os.walk(os.path.join(suite.ROOT, "crates", crate, folder)):
@@ -264,13 +241,13 @@ def names_in(crate):
 
 
 def idle_edges(graph):
-    """What crates stand on and no file of theirs names: the crate is proved anew with it for nothing."""
+    """Returns the dependencies of crates that no file of theirs names: each causes needless proofs."""
     return [f"{crate} stands on {below}, which no file of it names"
             for crate, belows in graph.items() for names in [names_in(crate)] for below in belows if below not in names]
 
 
 def faults_of_crates():
-    """What `crates.txt` says otherwise than the folders, and what it has crates stand on for nothing."""
+    """Returns the differences between `crates.txt` and the folders, and the unused dependencies in it."""
     listed = crates()
     there = [name for name in os.listdir(os.path.join(suite.ROOT, "crates"))
              if os.path.exists(os.path.join(suite.ROOT, "crates", name, "src"))]

@@ -1,21 +1,22 @@
-"""Tries what measures: the table of what the gate costs, pairs of programs, and what texts cost for their length."""
+"""Tests the measuring scripts: the table of the gate's costs, pairs of programs, and the costs of texts by length."""
 import os
 import struct
 import subprocess
 import sys
 
-import suite  # first: it says where the references and the generators are
+import suite  # first: it makes the references and the generators importable
 import facts
 import gate_table
 import growth
+import jobs
 import shapes
 
 BENCH = os.path.join(suite.ROOT, "bench")
 sys.path.insert(0, BENCH)
 import pairs as bench_pairs
 
-# Three looks at a gate, a second apart: two checks of a crate side by side, with a helper; a wrong body; a proof that ends, and
-# another whose parent has ended; and a check of somebody else.
+# Three samples during a gate, a second apart. They contain two checks of a crate side by side, one with a helper process, and a wrong body.
+# They also contain a proof that ends, another one whose parent has ended, and an unrelated check.
 LOOKS = """\
 100 1 5 0.2 python3 /usr/local/bin/rt ci
 101 100 10 3.0 /opt/bin/rattle build --crate-name low src/lib.rt -o /x/low.rlib
@@ -46,21 +47,52 @@ Seconds of processors, and in brackets those on the clock while such a check ran
 The whole gate: 1.0 processor minutes in 0.5 minutes, on 4 processors, 2026-01-01."""
 
 
+# The second sample has no memory figures; the others give the peaks in MB. The two processes of the proof of `low` take more than its
+# tests.
+SIZES = {101: 600 << 20, 102: 200 << 20, 103: 500 << 20, 106: (900 << 20) + 1, 900: 5000 << 20}
+MEMORY = "low 800\ntop 901\n"
+
+
 def is_table_right():
     account = gate_table.Account(100)
-    for look in LOOKS.split("\n\n"):
-        account.take([gate_table.process_of(line) for line in look.split("\n")], 1.0)
+    for number, look in enumerate(LOOKS.split("\n\n")):
+        processes = [gate_table.process_of(line) for line in look.split("\n")]
+        account.take(processes, 1.0, None if number == 1 else lambda pid: SIZES.get(pid, 0))
     wholes = [
-        {"name": "proofs", "processors": 20.0, "clock": 20.0, "checks": account.rows()},
-        {"name": "suite", "processors": 40.0, "clock": 10.0, "checks": []},
+        {"name": "proofs", "processors": 20.0, "clock": 20.0, "checks": account.rows(), "memory": account.sizes()},
+        {"name": "suite", "processors": 40.0, "clock": 10.0, "checks": [], "memory": {}},
     ]
-    lines = "\n".join(gate_table.table(wholes, 4, "2026-01-01"))
-    if lines != COSTS:
-        print(f"the table of costs is\n{lines}\nand should be\n{COSTS}")
-    return lines == COSTS
+    got = "\n".join(gate_table.table(wholes, 4, "2026-01-01")), gate_table.memory(wholes)
+    wanted = COSTS, gate_table.MEMORY_HEAD + MEMORY
+    if got != wanted:
+        print(suite.difference("the tables of costs and of memory", wanted, got))
+    return got == wanted
 
 
-# What a gate leaves, and what may stand there in the place of a part of it, where its table is not published.
+# Peaks of crates, and how many crates are proved in parallel with so many processors and megabytes. The crate `new` was not measured. The
+# crates of a chain are never proved in parallel.
+PEAKS = {"low": 1000, "middle": 2000, "top": 4000}
+CHAIN = {"low": [], "middle": ["low"], "top": ["middle"], "beside": ["low"]}
+SIDE_BY_SIDE = [
+    (PEAKS, {}, 4, 100_000, 3), (PEAKS, {}, 2, 100_000, 2), (PEAKS, {}, 4, 7_800, 3), (PEAKS, {}, 4, 7_700, 2), (PEAKS, {}, 2, 6_600, 1),
+    (PEAKS, {}, 4, 100, 1), ({"low", "middle"}, {}, 4, 3_400, 2), ({"low", "new"}, {}, 4, 5_500, 1), ({"low", "new"}, {}, 4, 5_600, 2),
+    ({"low"}, {}, 1, 100_000, 1), (PEAKS, CHAIN, 3, 4_500, 3), (PEAKS, CHAIN, 3, 4_400, 1), ({*PEAKS, "beside"}, CHAIN, 2, 8_800, 1),
+    ({*PEAKS, "beside"}, CHAIN, 2, 8_900, 2),
+]
+
+
+def are_jobs_right():
+    """Returns true if as many crates are proved in parallel as their measured peaks allow."""
+    right = True
+    for crates, graph, cores, megabytes, wanted in SIDE_BY_SIDE:
+        got = jobs.jobs(crates, graph, cores, megabytes, PEAKS)
+        if got != wanted:
+            print(f"of {sorted(crates)}, with {cores} processors and {megabytes} MB, {got} are proved at once, and {wanted} should be")
+            right = False
+    return right and jobs.jobs_here(jobs.peaks(), {}) >= 1
+
+
+# The files of a finished gate, and variants of a part for which no table is published.
 GATE_LEFT = f"""{COSTS}
 The commit: Words wrap
 1234 passed, 0 failed
@@ -69,7 +101,7 @@ UNPUBLISHED = [("| | Proof", "Not finished.\n\n| | Proof"), (" 0 failed", " 1 fa
 
 
 def is_gate_published():
-    """Whether docs/FIGURES.md has a place for a gate's table, and takes that of a whole gate of one commit alone."""
+    """Returns true if docs/FIGURES.md has a place for the gate's table and accepts only the table of a whole gate of one commit."""
     part = gate_table.published(GATE_LEFT)
     right = part is not None and '"Words wrap"' in part and "1,234 passed" in part and COSTS.split("\n\n")[0] in part
     right = right and not any(gate_table.published(GATE_LEFT.replace(*change)) for change in UNPUBLISHED)
@@ -79,8 +111,8 @@ def is_gate_published():
     return right
 
 
-# Stand-ins for the program and for gcc where bench/pairs.py compiles and runs pairs. An image is the number of its instructions, the
-# last line of its run, and what it prints; a source file in C has one for each level, behind the level's name.
+# Stand-ins for the program and for gcc when bench/pairs.py compiles and runs pairs. An image is its number of instructions, the last line
+# of its run, and its output. A C source file has one image for each level, after the level's name.
 PAIRS_PROGRAM = """#!/bin/sh
 case "$1" in
 compile) cp "$2" "$4";;
@@ -99,8 +131,8 @@ sed -n "s/^$1 //p" "$source" > "$image"
 """
 PAIRS_GXX = PAIRS_GCC.replace("$1", "checked")
 
-# The programs here, with -O0, with -O1, and with all tests if that is another one, of pairs that are equal, and of others. Each line of an
-# image ends at a `|`.
+# The programs in Cyclone, with -O0, with -O1, and with all tests if that differs, of equal pairs, and of others. Each line of an image ends
+# at a `|`.
 EQUAL_PAIRS = {
     "one": ("9|returned 7|a|b|", "3|returned 7|a|b|", "1|returned 7|a|b|"),
     "two": ("1001|returned 0|c|", "3003|returned 0|c|", "1001|returned 0|c|"),
@@ -116,7 +148,7 @@ UNEQUAL_PAIRS = {
     "has_no_end": ("2000000000|returned 7|", "2000000000|returned 7|", "2000000000|returned 7|"),
 }
 
-# 9 / 3 is 3 and 1,001 / 3,003 a third, so their geometric mean is 1; that of 9 / 1 and 1,001 / 1,001 is the root of 9.
+# 9 / 3 is 3 and 1,001 / 3,003 is a third, so their geometric mean is 1; that of 9 / 1 and 1,001 / 1,001 is the square root of 9.
 PAIRS_TABLE = """\
 instructions that equal programs execute, compiled here and by gcc
 | Program | `cyclone compile` | `gcc -O0` | `gcc -O1` | checked -O1 | To `-O0` | To `-O1` | To checked -O1 |
@@ -139,9 +171,9 @@ def write_pair(folder, name, images):
 
 
 def are_words_counted(folder):
-    """Whether of an image the words of what is loaded and is code are counted, and no others."""
+    """Returns true if exactly the words of an image's loaded code are counted."""
     header = b"\0" * 28 + struct.pack(">I", 52) + b"\0" * 10 + struct.pack(">HH", 32, 4) + b"\0" * 6
-    # Notes, code, data, and code once more: kind, offset, two addresses, lengths in the file and in memory, flags and alignment.
+    # Notes, code, data, and code again: kind, offset, two addresses, lengths in the file and in memory, flags and alignment.
     segments = [(4, 0, 0, 0, 8, 8, 4, 4), (1, 0, 0, 0, 40, 40, 5, 4), (1, 0, 0, 0, 16, 16, 6, 4), (1, 0, 0, 0, 8, 8, 1, 4)]
     image = os.path.join(folder, "words.elf")
     with open(image, "wb") as file:
@@ -153,7 +185,7 @@ def are_words_counted(folder):
 
 
 def are_pairs_right(folder):
-    """Whether pairs of equal programs have their figures, and others have none and fail."""
+    """Returns true if pairs of equal programs have figures, and the others have none and fail."""
     pairs = os.path.join(folder, "pairs")
     os.mkdir(pairs)
     words = [sys.executable, os.path.join(BENCH, "pairs.py"), "--pairs", pairs]
@@ -178,7 +210,7 @@ def are_pairs_right(folder):
     return right
 
 
-# A shape of texts, what they cost by their tokens, where the usual text costs 1,000 a token, the last line, and what is said against it.
+# A shape of texts, its cost for a number of tokens if the usual text costs 1,000 for each token, the last line, and the expected faults.
 GROWING, BEHIND_MUCH = shapes.Shape("a b ", "c d # ", "e"), shapes.Shape("a " * 500, "c ", "e")
 WITH_FAULT = shapes.Shape("", "c ", "e", checked="fault 20")
 COSTS_OF_TEXTS = [
@@ -193,7 +225,7 @@ COSTS_OF_TEXTS = [
     (WITH_FAULT, lambda tokens: 10500 * tokens, "fault 20 at 1:1", ["for each part"]),
     (WITH_FAULT, lambda tokens: 1000 * tokens, "done", ["the last line"]),
     (WITH_FAULT, lambda tokens: 2 * tokens * tokens, "fault 20 at 1:1", ["twice as long"]),
-    # What stands before the forms does not grow, and each token has its part of what that takes.
+    # The part before the forms does not grow, and each token is charged its share of that part's cost.
     (BEHIND_MUCH, lambda tokens: 1000 * tokens + 400_000, "done", []),
     (BEHIND_MUCH, lambda tokens: 1000 * tokens + 600_000, "done", ["for each part"]),
     (BEHIND_MUCH, lambda tokens: 500_000 + (tokens - 500) ** 2, "done", ["twice as long"]),
@@ -201,7 +233,7 @@ COSTS_OF_TEXTS = [
 
 
 class Planted(growth.Meter):
-    """A meter of texts whose costs are made up, beside those of the usual text and of the program of one line."""
+    """A meter with invented costs of texts, of the usual text, and of the program of one line."""
 
     def __init__(self, cost, said):
         super().__init__("no program")
@@ -215,7 +247,7 @@ class Planted(growth.Meter):
 
 
 def is_growth_judged(folder):
-    """Whether what texts cost is judged as it should be, and counted on a stand-in."""
+    """Returns true if the costs of texts are judged as expected, and are counted on a stand-in."""
     right = True
     for shape, cost, said, wanted in COSTS_OF_TEXTS:
         faults = growth.faults_of(shape, "check", growth.figures_of(Planted(cost, said), shape, "check", 1000))
@@ -235,5 +267,5 @@ def is_growth_judged(folder):
 
 
 def tried(folder):
-    """Whether each of that is as it should be."""
-    return [is_table_right(), are_words_counted(folder), are_pairs_right(folder), is_gate_published(), is_growth_judged(folder)]
+    """Yields whether each tested script works as expected."""
+    return [is_table_right(), are_jobs_right(), are_words_counted(folder), are_pairs_right(folder), is_gate_published(), is_growth_judged(folder)]

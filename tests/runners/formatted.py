@@ -1,24 +1,25 @@
 #!/usr/bin/env python3
-"""What `cyclone format` makes of texts, beside a second reading of tokens and comments (tests/references/language/texts.py).
+"""Compares the output of `cyclone format` with an independent reader of tokens and comments (tests/references/language/texts.py).
 
     python3 tests/runners/formatted.py [--program PATH] [--count N] [--seed N] [--part NAME]
 
-Each example is answered as it is, also where the blanks within its lines are others. Of N random programs of all profiles, 200 where it
-is left out, and of examples and such programs whose blanks, ends of lines, comments or tokens are changed at random, the tokens and the
-comments stay, in order; what is answered is answered as it is; no line of it ends with a blank, and no two empty lines stand together.
-Hostile texts are answered or refused in time. The same seed gives the same texts. The last line is `N passed, M failed`, of texts.
+Each example is unchanged by formatting, also if the blanks within its lines are changed first. Further texts are N random programs of all
+profiles (200 by default), and examples and such programs with random changes of blanks, line ends, comments or tokens. Their tokens and
+comments must stay, in order. Formatting the result must not change it, no line may end with a blank, and no two empty lines may be
+adjacent. Hostile texts must be formatted or rejected in time. The same seed gives the same texts. The last line is `N passed, M failed`, of
+texts.
 """
 import os
 import random
 import re
 import tempfile
 
-import suite  # first: it says where the references and the generators are
+import suite  # first: it makes the references and the generators importable
 import makers
 from language import texts
 
 EXAMPLES = os.path.join(suite.ROOT, "examples")
-# A part of a text as this test changes it: a run of blanks, a comment, or a token.
+# A part of a text that this test changes: a run of blanks, a comment, or a token.
 PART = re.compile(
     r"(?P<blanks>[ \t\r\n]+)|(?P<comment>/\*.*?\*/|//[^\n]*)"
     r"|(?P<other>'(?:\\.|[^'\n])'|`?[A-Za-z_0-9]+|:=:|&&|\|\||[=!<>]=|<<|>>|->|.)",
@@ -29,17 +30,17 @@ OTHER_TOKENS = ["(", ")", "{", "}", ";", "if", "else", "case", ":", ",", "*", "<
 
 
 def parts_of(text):
-    """The parts of a text, each with its kind."""
+    """Returns the parts of a text, each with its kind."""
     return [(match.lastgroup, match.group()) for match in PART.finditer(text)]
 
 
 def tokens_of(text):
-    """The tokens of a text, without their places."""
+    """Returns the tokens of a text, without their places."""
     return [(token.kind, token.text) for token in texts.tokens_of(text)]
 
 
 def comments_of(text):
-    """The comments of a text, each without the blanks round its lines."""
+    """Returns the comments of a text, each without the blanks around its lines."""
     return [[line.strip(" \t\r") for line in part.split("\n")] for kind, part in parts_of(text) if kind == "comment"]
 
 
@@ -51,7 +52,7 @@ def outside_comments(text):
 
 
 def other_blanks(text, numbers, is_short):
-    """The text with other blanks within its lines, where no comment follows."""
+    """Returns the text with different blanks within its lines, unless a comment follows."""
     parts, found = parts_of(text), []
     for number, (kind, part) in enumerate(parts):
         follows = parts[number + 1][0] if number + 1 < len(parts) else "other"
@@ -64,19 +65,19 @@ def other_blanks(text, numbers, is_short):
 
 
 def is_needed(last, first):
-    """Whether two tokens would be another one without a blank between."""
+    """Returns true if two tokens would form another token without a blank between."""
     return re.match(r"[A-Za-z_0-9`]", last[-1:]) and re.match(r"[A-Za-z_0-9]", first) or last[-1:] + first[:1] in (
         "&&", "||", "==", "!=", "<=", ">=", "<<", ">>", "->", ":=", "//", "/*")
 
 
 def on_one_line(text, numbers):
-    """The text with a space in the place of all blanks."""
+    """Returns the text with each run of blanks replaced by a space."""
     return "".join(("\n" if number and parts[number - 1][1].startswith("//") else " ") if kind == "blanks" else part
                    for parts in [parts_of(text)] for number, (kind, part) in enumerate(parts))
 
 
 def spread(text, numbers):
-    """The text with blanks and ends of lines at random, also where none stood."""
+    """Returns the text with random blanks and line ends, also where the text had none."""
     found, last = [], ""
     for kind, part in parts_of(text):
         if kind == "blanks" or numbers.random() < 0.2 and not last.startswith("//"):
@@ -89,7 +90,7 @@ def spread(text, numbers):
 
 
 def with_inserted(text, numbers):
-    """The text with comments and empty lines between its parts."""
+    """Returns the text with comments and empty lines between its parts."""
     found = []
     for kind, part in parts_of(text):
         if numbers.random() < 0.08 and (not found or not found[-1].startswith("//")):
@@ -99,7 +100,7 @@ def with_inserted(text, numbers):
 
 
 def with_other_tokens(text, numbers):
-    """The text with some tokens taken out, and others put in their places: no program any more."""
+    """Returns the text with some tokens removed or replaced, which is usually no program."""
     found = []
     for kind, part in parts_of(text):
         if kind == "other" and numbers.random() < 0.05:
@@ -111,11 +112,11 @@ def with_other_tokens(text, numbers):
 CHANGES = [on_one_line, spread, with_inserted, with_other_tokens]
 
 
-# --- What is tried ---
+# --- Tests ---
 
 
 class Text:
-    """A text, and what it is to be answered with, where that is known."""
+    """A text, and the expected result of formatting it, if known."""
 
     def __init__(self, name, text, wanted=None):
         self.name, self.text, self.wanted = name, text, wanted
@@ -129,7 +130,7 @@ def examples():
 
 
 def fixed_texts(numbers):
-    """The examples as they are, and with other blanks in their lines."""
+    """Returns the examples, unchanged and with different blanks in their lines."""
     for name, text in examples():
         yield Text(name, text, text)
         yield Text(f"{name} with few blanks", other_blanks(text, numbers, True), text)
@@ -145,7 +146,7 @@ def is_lexed(text):
 
 
 def random_texts(numbers, count):
-    """Random programs of each profile in turn, and examples and such programs changed in one way or in two."""
+    """Returns random programs of each profile in turn, and examples and such programs with one or two changes."""
     profiles, given = list(makers.PROFILES), [text for _, text in examples()]
     for number in range(count):
         profile = profiles[number % len(profiles)]
@@ -160,7 +161,7 @@ def random_texts(numbers, count):
 
 
 def printed(program, place, text):
-    """The standard output, the last line on standard error and the status of the command for a text."""
+    """Returns the standard output, the last line on standard error and the status of the command for a text."""
     with open(place, "w", encoding="latin-1", newline="") as file:
         file.write(text)
     output, last, status = suite.answer([program, "format", place])
@@ -190,7 +191,7 @@ def faults_of(program, place, thing):
 
 
 class Hostile:
-    """A text, the last line and the status of its answer, and what is printed where that is known."""
+    """A text, the expected last line and status, and the expected output, if known."""
 
     def __init__(self, name, text, last="done", status=0, output=None):
         self.name, self.text, self.last, self.status, self.output = name, text, last, status, output

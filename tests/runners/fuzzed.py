@@ -1,16 +1,17 @@
 #!/usr/bin/env python3
-"""Texts and images that are changed at random, kept where they come to code of the program that none came to before, and changed again.
+"""Fuzzes the program with texts and images: mutates them at random, keeps those that reach new code of the program, and mutates these
+again.
 
     python3 tests/runners/fuzzed.py [--program PATH] [--minutes N] [--lanes N] [--seed N] [--keep FOLDER]
 
-A text is checked, and compiled; what was compiled of it is listed, and run with a small budget. An image is listed and run. No command
-may be ended by a signal, take more than half a second of processor time or 512 MB of memory, or end with a status that is not its own.
-What it writes is cut: a listing is as long as an image of some hundred bytes says that its segments are.
-Which blocks of the program a command executes is told by `qemu-x86_64`: what comes to a new one joins those that are changed. The first
-ones are the examples, the texts of `tests/sound` and of the cases, and the images of `generators/image_makers.py`.
+A text is checked and compiled; its image is listed, and run with a small budget. An image is listed and run. No command may be ended by a
+signal, take more than half a second of processor time or 512 MB of memory, or end with an undocumented status. The output is cut, since a
+small image may describe large segments. `qemu-x86_64` reports the blocks of the program that a command executes: an input that reaches a
+new block joins the pool. The initial inputs are the examples, the texts of `tests/sound` and of the cases, and the images of
+`generators/image_makers.py`.
 
-What breaks a rule is left in the folder of `--keep`, with the command that breaks it. The last line is `N passed, M failed`; each command
-is one.
+An input that breaks a rule is stored in the folder of `--keep`, with the command that breaks the rule. The last line is `N passed, M
+failed`; each command is one.
 """
 import collections
 import glob
@@ -30,19 +31,19 @@ import image_makers
 import in_trees
 
 MINUTES = 1
-# A text or an image is cut to so many bytes, and what is copied in it comes so often at most.
+# The maximum size of a text or an image; it also limits the number of copies of a part.
 MOST_BYTES = 200_000
 MOST_COPIES = 3_000
 MOST_CHANGES = 6
 SECONDS, MEMORY = 0.5, 512 * 1024 * 1024
-# So many bytes of a file it can write: behind them it is refused for what it writes to.
+# The maximum size of a written file in bytes: a write beyond it fails.
 MOST_WRITTEN = 16 * 1024 * 1024
-# So long a command is waited for, and so many MB of address space it has.
+# The time limit of a command in seconds, and its address space in MB.
 WAITED = 20
 STEPS = "200000"
-# What a command may end with, beside a status that a program of this language returned.
+# The statuses of faults, and those that a program of this language may return.
 REFUSED, OWN = range(1, 9), range(0, 256)
-# `qemu-x86_64` puts a program that may lie anywhere here; what is above is of the libraries.
+# `qemu-x86_64` loads a position-independent program at this address; the libraries are above it.
 BASE, SIZE = 0x4000000000, 0x10000000
 TRACED = re.compile(rb"^IN:.*\n0x([0-9a-f]+):", re.M)
 TOKENS = (
@@ -53,7 +54,7 @@ TOKENS = (
 
 
 class Pool:
-    """What is changed, the blocks that it came to, and what broke a rule."""
+    """The inputs to mutate, the blocks reached so far, and the inputs that broke a rule."""
 
     def __init__(self, options, folder):
         self.program, self.folder, self.keep = options.program, folder, options.keep
@@ -66,14 +67,14 @@ class Pool:
         self.faults = []
 
     def grow(self, kind, content, blocks):
-        """Takes what came to a new block."""
+        """Adds an input that reached a new block."""
         with self.lock:
             if blocks - self.blocks:
                 self.blocks |= blocks
                 self.seeds[kind].append(content)
 
     def note(self, what, command, content, seconds):
-        """Counts a command, and keeps what it was given where it broke a rule."""
+        """Counts a command, and stores its input if it broke a rule."""
         with self.lock:
             self.tried += 1
             self.slowest = max(self.slowest, (seconds, " ".join(command)))
@@ -84,11 +85,11 @@ class Pool:
                         file.write(content)
 
 
-# ---- the first ones
+# ---- initial inputs
 
 
 def texts():
-    """Programs, and texts that are none."""
+    """Returns programs, and texts that are no programs."""
     for path in sorted(glob.glob(os.path.join(suite.ROOT, "examples", "*.cyc"))):
         with open(path, "rb") as file:
             yield file.read()
@@ -101,18 +102,19 @@ def images():
     yield image_makers.DOUBLED
 
 
-# ---- changes
+# ---- mutations
 
 
 def cut(content, rng):
-    """Two places of a text or an image, the first before the second."""
+    """Returns two positions in a text or an image, the first before the second."""
     one, other = rng.randrange(len(content) + 1), rng.randrange(len(content) + 1)
     one, other = min(one, other), max(one, other)
     return one, min(other, one + rng.choice((1, 4, 16, 64, 1024)))
 
 
 def changed_once(content, others, rng, tokens):
-    """With one thing changed: a byte, a bit, a word of the language, or a part that is taken out, copied or taken from another."""
+    """Returns the input with one mutation: a byte, a bit or a word of the language is changed, or a part is removed, copied, or taken from
+    another input."""
     at, end = cut(content, rng)
     part, way = content[at:end], rng.randrange(8)
     if way == 0:
@@ -151,7 +153,7 @@ def confine():
 
 
 def ended(words, given):
-    """The status of a command, negative where a signal ended it, and its processor time. What never ends is killed."""
+    """Returns the status of a command, negative if a signal ended it, and its processor time. A command that does not end is killed."""
     with tempfile.TemporaryFile() as source, tempfile.TemporaryFile() as written:
         source.write(given)
         source.seek(0)
@@ -165,7 +167,7 @@ def ended(words, given):
 
 
 def blocks_of(words, given, log):
-    """The blocks of the program that a command comes to, each as it is translated; none where that takes too long."""
+    """Returns the blocks of the program that a command reaches, as they are translated; none after a timeout."""
     filtered = ["qemu-x86_64", "-d", "in_asm", "-D", log, "-dfilter", f"{BASE:#x}+{SIZE:#x}"]
     try:
         subprocess.run(filtered + words, input=given, stdout=subprocess.DEVNULL, stderr=subprocess.DEVNULL, timeout=WAITED, check=False)
@@ -176,7 +178,7 @@ def blocks_of(words, given, log):
 
 
 def fault_of(status, seconds, allowed):
-    """The rule that a command breaks, if any."""
+    """Returns the rule that a command breaks, if any."""
     if status < 0:
         return f"ended by {signal.Signals(-status).name}"
     if seconds > SECONDS:
@@ -185,7 +187,7 @@ def fault_of(status, seconds, allowed):
 
 
 def commands_on(kind, path, image):
-    """The commands that a text or an image is given to, with the statuses that each may end with."""
+    """Returns the commands for a text or an image, with the statuses that each may return."""
     if kind == "text":
         yield ["check", path], (0, *REFUSED)
         yield ["compile", path, "-o", image], (0, *REFUSED)
@@ -195,7 +197,7 @@ def commands_on(kind, path, image):
 
 
 def try_one(pool, kind, content, rng, lane):
-    """Gives one text or image to its commands."""
+    """Tries one text or image with all of its commands."""
     path, image, log = (os.path.join(pool.folder, f"{lane}.{name}") for name in ("given", "image", "log"))
     with open(path, "wb") as file:
         file.write(content)
@@ -213,22 +215,22 @@ def try_one(pool, kind, content, rng, lane):
 
 
 def work(pool, lane, seed):
-    """Changes and tries until the time is over."""
+    """Mutates and tries inputs until the time is over."""
     rng = random.Random(seed)
     try:
         while time.monotonic() < pool.until:
             kind = rng.choice(("text", "text", "image"))
             with pool.lock:
                 seeds = list(pool.seeds[kind])
-            # What came last came to what is new: it is changed more often.
+            # The newest inputs reached new code, so they are mutated more often.
             first = max(0, len(seeds) - 50) if rng.random() < 0.5 else 0
             try_one(pool, kind, changed(seeds[rng.randrange(first, len(seeds))], seeds, rng, TOKENS), rng, lane)
-    except Exception as problem:  # a lane that ends is a fault, and is not silent
+    except Exception as problem:  # a lane that ends is a fault, and must be reported
         pool.note(f"the lane ended by {problem!r}", ["lane", str(lane)], b"", 0.0)
 
 
 def begin(pool):
-    """Tries the first ones as they are."""
+    """Tries the initial inputs unchanged."""
     rng = random.Random(0)
     for kind, contents in (("text", texts()), ("image", images())):
         for content in contents:

@@ -1,16 +1,16 @@
 #!/usr/bin/env python3
-"""Whether what a text or an image costs grows with its length alone, whatever it is made of.
+"""Checks that the cost of a text or an image grows linearly with its length, whatever its form.
 
     python3 tests/runners/growth.py [--program PATH] [--tokens N] [--table] [NAME ..]
 
-Each shape of `generators/shapes.py` is checked and compiled, and each of `generators/image_shapes.py` run and listed, or those that are
-named: one form over and over, at two lengths, of which one is twice the other. What is counted is the host's instructions (`valgrind`),
-without those of a program of one line. For each token, byte or step one takes at most so many times what the usual text, image or step
-takes as its shape says, and one twice as long MOST_GROWTH times as many; and it takes no more memory than MOST_MEMORY, and says no more
-than MOST_SAID. Where a text is compiled to more code than the usual one of its length, it is that for each byte of the image.
+Each shape of `generators/shapes.py` is checked and compiled, and each of `generators/image_shapes.py` run and listed, or the named ones:
+one form repeated, at two lengths, the second twice the first. The host's instructions are counted (`valgrind`), without those for a program
+of one line. The cost for each token, byte or step is at most the factor of the shape times the usual cost. Doubling the length multiplies
+the cost by at most MOST_GROWTH. Memory is at most MOST_MEMORY, and the diagnostics have at most MOST_SAID bytes. If a text is compiled to
+more code than the usual text of its length, the cost for each byte of the image is compared.
 
-The longer text has so many tokens as N says, or as many more as four forms have. With --table the figures are printed as tables, with
-the memory that is taken at most. The last line is `N passed, M failed`; each shape is one.
+The longer text has N tokens, or more if four forms have more. --table prints the figures as tables, with the peak of memory. The last line
+is `N passed, M failed`; each shape is one.
 """
 import collections
 import concurrent.futures
@@ -27,37 +27,37 @@ import shapes
 
 TOKENS = 15_000
 MOST_GROWTH = 2.1
-# In MB of 2^20 bytes; and in bytes, which 22 messages may have.
+# In MB of 2^20 bytes; and in bytes, the maximum of 22 messages.
 MOST_MEMORY, MOST_SAID = 256, 22 * 4096
-# As many forms as a text has at least.
+# The minimum number of forms in a text.
 FORMS = 4
-# The seconds of processor after which a command is not waited for.
+# The processor seconds after which a command is abandoned.
 SECONDS = 120
 COUNTER = ["valgrind", "--tool=cachegrind", "--cache-sim=no", f"--cachegrind-out-file={os.devnull}"]
 COUNTED = re.compile(r"I +refs: +([\d,]+)")
 BEHIND = {"check": [], "compile": ["-o", "image"], "run": [], "disasm": []}
 KINDS = {"Text": shapes.TEXTS, "Image": image_shapes.IMAGES, "Loop": image_shapes.LOOPS}
 
-# What a command costs on a file: instructions, or None where it came to no end; MB of memory at most; bytes on standard error, and the last
-# line there; and how long the image is that it made. And what the files of a shape cost: how many times what the usual one takes, and how
-# many times what half as many parts take.
+# The cost of a command on a file: instructions (None if it did not end), the peak of memory in MB, the bytes and the last line on standard
+# error, and the size of the image that it made. And the cost of a shape's files: the ratio to the usual file, and the ratio to half as many
+# parts.
 Cost = collections.namedtuple("Cost", ("instructions", "memory", "length", "said", "made"))
 Figures = collections.namedtuple("Figures", ("share", "growth", "cost"))
 
 
 class Meter:
-    """Counts what the program does."""
+    """Counts the instructions of the program."""
 
     def __init__(self, program, counter=COUNTER):
         self.program, self.counter, self.known = program, counter, {}
 
     def cost(self, command, content, options):
-        """What a command costs on a file."""
+        """Returns the cost of a command on a file."""
         with tempfile.TemporaryDirectory(prefix="cyclone-growth-") as folder:
             with open(os.path.join(folder, "given"), "wb") as file:
                 file.write(content)
             log = os.path.join(folder, "log")
-            # what a run may have is no option of a listing
+            # the limits of a run are no options of a listing
             words = [self.program, command, "given", *(options if command == "run" else ()), *BEHIND[command]]
             ended([*self.counter, f"--log-file={log}", *words], folder)
             with open(log, encoding="utf-8") as file:
@@ -68,7 +68,7 @@ class Meter:
             return Cost(int(counted[1].replace(",", "")) if counted else None, memory / 1024, len(error), suite.last_line(error), made)
 
     def known_cost(self, command, given):
-        """The same, counted once."""
+        """Returns the cost of a command on a file, measured only once."""
         content, _, options = given
         key = command, content, *options
         if key not in self.known:
@@ -77,7 +77,7 @@ class Meter:
 
 
 def ended(words, folder):
-    """What a command says on standard error, and the KB of memory that it took at most. One that a signal ends says which."""
+    """Returns a command's standard error, and its peak of memory in KB. For a command ended by a signal, names the signal."""
 
     def confine():
         resource.setrlimit(resource.RLIMIT_CPU, (SECONDS, SECONDS))
@@ -91,13 +91,13 @@ def ended(words, folder):
 
 
 def counts_of(shape, length):
-    """How many parts the shortest file of a shape has, the shorter one and the longer one."""
+    """Returns the number of parts of the shortest file of a shape, of the shorter one and of the longer one."""
     more = max(shape.count(length) - 1, FORMS - 2) // 2
     return 1, 1 + more, 1 + 2 * more
 
 
 def figures_of(meter, shape, command, length):
-    """What the files of a shape cost."""
+    """Returns the figures of a shape's files."""
     files = [shape.given(count) for count in counts_of(shape, length)]
     first, shorter, longer = (meter.cost(command, content, options) for content, _, options in files)
     if None in (first.instructions, shorter.instructions, longer.instructions):
@@ -111,7 +111,7 @@ def figures_of(meter, shape, command, length):
 
 
 def faults_of(shape, command, figures):
-    """What is otherwise than it should be."""
+    """Returns the violations of the limits."""
     cost = figures.cost
     if not cost.said.startswith(shape.said[command]):
         return [suite.difference(f"the last line of {command}", shape.said[command], cost.said)]
@@ -126,13 +126,13 @@ def faults_of(shape, command, figures):
 
 
 def chosen(names):
-    """The shapes of these names, or all, in their order."""
+    """Returns the shapes of these names, or all, in their order."""
     found = {name: shape for kind in KINDS.values() for name, shape in kind.items()}
     return {name: found[name] for name in names or found}
 
 
 def row_of(name, figures):
-    """A line of a table."""
+    """Returns a line of a table."""
     cells = []
     for one in figures.values():
         cells += [f"{one.share:.2f}", f"{one.growth:.2f}"] if one.share is not None else [f"over {SECONDS} s", ""]
@@ -141,7 +141,7 @@ def row_of(name, figures):
 
 
 def show_tables(meter, length, found):
-    """Prints the figures as tables, with the costs of what is usual."""
+    """Prints the figures as tables, with the usual costs."""
     for kind, them in KINDS.items():
         rows = [row_of(name, found[name]) for name in them if name in found]
         if not rows:
@@ -158,7 +158,7 @@ def show_tables(meter, length, found):
 
 
 def measured(meter, names, length):
-    """The figures of the shapes of these names, by command."""
+    """Returns the figures of the shapes of these names, by command."""
     asked = chosen(names)
     for shape in asked.values():
         for command in shape.said:

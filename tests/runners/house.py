@@ -1,19 +1,19 @@
-"""How much of the repository a change meets: what stands more than once, what is long, what nobody needs, and what has no words.
+"""Measures how easy the repository is to change: duplicates, long files, unused lemmas and imports, and items without comments.
 
-`facts.py` has these numbers for the documents. A lemma is a name with a type in `proofs/`; what it speaks of is told by the imports of
-its file.
+`facts.py` has these numbers for the documents. A lemma is a name with a type in `proofs/`; the imports of its file determine which crates
+its statement mentions.
 """
 import collections
 import functools
 import os
 import re
 
-import suite  # first: it says where the tools are
+import suite  # first: it makes the tools importable
 from sources import stands_on
 
 LONG_FILE, LONG_IMPORT = 600, 300
 CRATES = os.path.join(suite.ROOT, "crates")
-# A name with its type, at the left end or in a module that has parameters; what follows is set further in.
+# A name with its type, at the left margin or in a module with parameters; continuation lines are indented further.
 SIGNATURE = re.compile(r"^( {0,2})(pub )?([A-Za-z_][\w'-]*) : (.*(?:\n(?:\1 +\S.*|\s*))*)", re.M)
 WORD = re.compile(r"[^\W\d][\w'-]*")
 IMPORT = re.compile(r"^(?:ghost )?use (.+)$", re.M)
@@ -24,7 +24,7 @@ Lemma = collections.namedtuple("Lemma", ("crate", "path", "name", "statement"))
 
 @functools.cache
 def sources(folder="", ending=""):
-    """The files of all crates in a folder of theirs, by path, without what is built."""
+    """Returns the files in a folder of each crate, by path, without build output."""
     found = {}
     for where, folders, names in os.walk(CRATES):
         folders[:] = sorted(name for name in folders if name != "out")
@@ -43,17 +43,17 @@ def without_comments(text):
 
 @functools.cache
 def lemmas():
-    """All lemmas, with their statements in one line each."""
+    """Returns all lemmas, each with its statement in one line."""
     found = []
     for path, text in sources("proofs", ".antt").items():
         if path.endswith("Answers.antt"):
             continue
         for match in SIGNATURE.finditer(without_comments(text)):
-            # What a module has as a parameter is declared, and has no equation.
+            # A parameter of a module is declared and has no equation.
             if not re.search(rf"^{match[1]}{re.escape(match[3])}(?![\w'-])(?! :)", text[match.start():], re.M):
                 continue
             lines = match[4].split("\n")
-            # The equations of what was just declared, and whatever comes behind an empty line, are no part of it.
+            # Removes the equations of the last declaration; lines after an empty line belong to the next one.
             kept = [lines[0]]
             for line in lines[1:]:
                 if not line.strip() or re.match(rf" *{re.escape(match[3])}\b.* = ", line):
@@ -64,7 +64,7 @@ def lemmas():
 
 
 def imported(text):
-    """The names that a file imports, each with the root of where it is from: `std`, or a crate."""
+    """Returns the names that a file imports, each with the root of its module: `std`, or a crate."""
     found = {}
     for line in IMPORT.findall(text):
         root = line.removeprefix("Rattle.").split(".")[0]
@@ -74,7 +74,7 @@ def imported(text):
 
 
 def of_std(lemma):
-    """Whether a lemma's statement has names from nowhere but std, and what it binds itself."""
+    """Returns true if a lemma's statement mentions only names of std and its own variables."""
     names = imports_of(lemma.path)
     bound = set(re.findall(r"[({]([\w' -]+) :", lemma.statement))
     bound = {word for group in bound for word in group.split()}
@@ -88,14 +88,14 @@ def imports_of(path):
 
 
 def lemmas_of_std():
-    """Lemmas of std alone that do not stand in the lowest crate, of those that stand on it."""
+    """Returns the lemmas about std only that are not in the lowest crate, in crates that depend on it."""
     graph = stands_on(suite.ROOT)
     return [lemma for lemma in lemmas() if "cyc_words" in graph[lemma.crate] and of_std(lemma)]
 
 
 @functools.cache
 def asked_for():
-    """What files ask of others by name: module and name, as imports of definitions and hints beside functions have it."""
+    """Returns the names that files refer to: module and name, from imports and from hints beside functions."""
     found = set()
     for text in sources().values():
         for module, names in re.findall(r"^(?:ghost |pub )*use Rattle\.([\w.]+)\.\{(.*)\}$", text, re.M):
@@ -111,7 +111,8 @@ def asked_for():
 
 
 def without_lemma(text, name):
-    """A file without a lemma's statement and equations: these go on in lines that are set further in, or begin with the name again."""
+    """Returns a file without a lemma's statement and equations: their continuation lines are indented further, or begin with the name
+    again."""
     kept, inside, margin = [], False, 0
     for line in without_comments(text).split("\n"):
         head = re.match(rf"^( {{0,2}})(?:pub )?{re.escape(name)} : ", line)
@@ -125,12 +126,12 @@ def without_lemma(text, name):
     return "\n".join(kept)
 
 
-# Files that are read for themselves: programs that are worked through, and what laws rest on by name.
+# Files that are read on their own: worked examples, and lemmas that laws name.
 READ_ALONE = re.compile(r"Examples|examples/|Programs\.antt|Texts\.antt|/laws/|KeyFields|LaterRegions|ReadsFirst|/(Answers|Invariants|Proof)\.antt")
 
 
 def lemmas_that_nothing_names():
-    """Lemmas that neither their own file nor another one asks for, beside what is worked through for a reader."""
+    """Returns the lemmas that no file uses, except in worked examples."""
     found = []
     for path, text in sources("proofs", ".antt").items():
         if READ_ALONE.search(path):
@@ -143,7 +144,7 @@ def lemmas_that_nothing_names():
 
 
 def items_without_words():
-    """Public items with no comment for who reads the documents: `path:line`."""
+    """Returns the public items without a doc comment: `path:line`."""
     found = []
     for path, text in sources("src", ".rt").items():
         lines = text.split("\n")
@@ -157,7 +158,7 @@ def items_without_words():
 
 
 def hints():
-    """What is said to the prover beside a function."""
+    """Counts the hints to the prover beside functions."""
     return sum(len(re.findall(r"#\[tactic\([^\]]*\b(?:using|unfolding)\(", text)) for text in sources("src", ".rt").values())
 
 
@@ -166,21 +167,23 @@ def long_files():
 
 
 def long_imports(files=None):
-    """A line for each file, of these or of all, with an import that is too long to be read: its names may stand in two of the same module."""
+    """Returns a line for each file, of these or of all, with an import that is too long to read: its names may be split over two imports.
+    """
     return [f"{path}: an import has more than {LONG_IMPORT} characters" for path, text in (files or sources()).items()
             if any(len(line) > LONG_IMPORT for line in text.split("\n") if re.match(r"(pub |ghost )*use ", line))]
 
 
 def files_with(word):
-    """The files of all crates that a form of the language stands in, by the name of its variant."""
+    """Returns the files of all crates that mention a form of the language, by the name of its variant."""
     return sum(bool(re.search(rf"\b{word}\b", text)) for text in sources().values())
 
 
-# What is added to the language, with one that is there and the name of its variant.
+# Additions to the language, each with an existing form and the name of its variant.
 FORMS = (
     ("a construct that a typing rule gives a meaning", "`char(e)`", "LowByteOf"),
     ("an operator", "`~`", "Complement"),
     ("a node of its own", "`numelts(e)`", "NumberOfElements"),
+    ("a statement", "`p :=: q`", "Swap"),
 )
 
 

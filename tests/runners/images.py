@@ -1,28 +1,25 @@
 #!/usr/bin/env python3
-"""Images that hardly a compiler writes, run and listed, beside what tests/references/machine.py says; and instructions beside qemu-mips
-and objdump.
+"""Runs and lists unusual images and compares the results with tests/references/machine.py, and instructions with qemu-mips and objdump.
 
-    python3 tests/runners/images.py [--program PATH] [--runner PATH] [--count N] [--seed N] [--part NAME]
+    python3 tests/runners/images.py [--program PATH] [--count N] [--seed N] [--part NAME] [--one-store]
                                     [--without-qemu] [--without-objdump]
 
-Four parts, of which --part takes one alone:
+The test has four parts; --part selects one:
 
-- spoiled: four small images, cut at each length, and with each byte set to 00, 7f and ff;
-- random: words of instructions, calls of a store of few pages, changed and random headers, with limits and without; `--count` of them,
-  and the same seed gives the same images;
-- compiled: the examples, as the program compiles them, and each with some of its words changed;
-- instructions: each one of the table with edge operands, and random programs of them, run by qemu-mips as Linux programs too, and listed
-  by mips-linux-gnu-objdump. Where one of these is not there the test fails, but where it is left out by name: then the last line says so.
+- spoiled: four small images, cut at each length, and with each byte set to 00, 7f and ff; - random: words of instructions, calls of a store
+of few pages, changed and random headers, with limits and without; `--count` of them, and the same seed gives the same images; - compiled:
+the examples, as the program compiles them, and each with some of its words changed; - instructions: each one of the table with edge
+operands, and random programs of them, run by qemu-mips as Linux programs too, and listed by mips-linux-gnu-objdump. If one of these tools
+is missing, the test fails unless an option excludes it; then the last line says so.
 
-Each answer has to be one that the manual names, in its time, and no crash. Output, last line and status have to be the reference's,
-with just as many steps as the reference counts and with one less; and so each line of a listing. Where an answer hangs on what a store
-is free to choose, which the reference says, the output has to begin as the reference's does. A listing too long to be read is broken off.
+Each command must end in time with a documented answer, without a crash. Output, last line and status must equal the reference's, with
+exactly the number of steps that the reference counts and with one less. The same holds for each line of a listing. If the result depends on
+a choice of the store, as the reference reports, the output must begin as the reference's does. A very long listing is cut off.
 
-Each image, those of instructions apart, is run over both stores too, by the program of `crates/cyc_runner` (`--runner`; of another
-`--program` than the one that is built, only where it is named): output, end and count are the same, or, where they hang on what a store
-is free to choose, both outputs begin as the reference's does.
+Each image, except those of instructions, is run over both stores (`run --store`). Output, end and count must be equal, or both outputs must
+begin as the reference's if they depend on a choice of the store.
 
-The last line is `N passed, M failed`, of images, and behind it stands what was left out.
+The last line is `N passed, M failed`, of images, followed by the excluded tools.
 """
 import collections
 import concurrent.futures
@@ -32,29 +29,29 @@ import random
 import re
 import subprocess
 import tempfile
-import threading
 
-import suite  # first: it says where the references and the generators are
+import suite  # first: it makes the references and the generators importable
 import image_makers
 import instruction_makers
 import machine
 import objdump
 import stores
+from with_library import whole
 
-# A run of a thousand steps takes some milliseconds, a listing of LISTED_AT_MOST words too.
+# A run of a thousand steps takes some milliseconds of processor time, and so does a listing of LISTED_AT_MOST words.
 SECONDS = 20
 LISTED_AT_MOST = 5_000
-# So many images are tried by a process in turn.
+# The number of images that one process tries in sequence.
 SHARE = 25
 EXAMPLES = os.path.join(suite.ROOT, "examples")
-# What instructions are held against, beside the reference.
+# The tools with which instructions are compared, in addition to the reference.
 QEMU = "qemu-mips"
 BESIDE = (QEMU, objdump.OBJDUMP)
 INSTRUCTIONS_AT_MOST = 10_000_000
 CAUSES = [
     "reserved instruction", "unpredictable", "misaligned", "no such address", "dead cell", "write to text", "break", "bad service",
 ]
-# The last lines that the manual names, by command, with their status; None is that of the number in the line.
+# The documented last lines, by command, with their status; None stands for the number in the line.
 NAMED = {
     "run": [
         (r"returned (-?\d+)", None), (r"uncaught \d+ -?\d+", 4), ("full", 5), (f"trap ({'|'.join(CAUSES)})", 6), ("budget spent", 7),
@@ -65,9 +62,9 @@ NAMED = {
 
 
 def unnamed(command, line, status):
-    """What is wrong with an end of which nothing more is known, or None."""
+    """Returns the fault of an undocumented end, or None."""
     if status is None:
-        return f"{command}: no end within {SECONDS} seconds"
+        return f"{command}: no end within {SECONDS} seconds of processor"
     if status < 0:
         return f"{command}: crashed with signal {-status}"
     for pattern, wanted in NAMED[command]:
@@ -78,7 +75,8 @@ def unnamed(command, line, status):
 
 
 def fault_of(command, wanted, got):
-    """What is otherwise than wanted, or None. An answer is an output, a last line and a status; a wanted one without a line is open."""
+    """Returns the difference from the expected answer, or None. An answer is an output, a last line and a status; an expected one without a
+    line is open."""
     output, line, status = got
     fault = unnamed(command, line, status)
     if fault or wanted == got or wanted[1] is None and output.startswith(wanted[0]):
@@ -87,12 +85,9 @@ def fault_of(command, wanted, got):
 
 
 def asked(words, given=b"", most=None):
-    """The answer of a program, of which at most so many bytes are read; the status is None where it had to be ended."""
+    """Returns the answer of a program, of which at most so many bytes are read; the status is None if the program was killed."""
     with subprocess.Popen(words, stdin=subprocess.PIPE, stdout=subprocess.PIPE, stderr=subprocess.PIPE) as process:
-        late = threading.Event()
-        clock = threading.Timer(SECONDS, lambda: (late.set(), process.kill()))
-        clock.start()
-        try:
+        with suite.Watch(process, SECONDS) as watch:
             if most is None:
                 output, error = process.communicate(given)
             else:
@@ -100,31 +95,27 @@ def asked(words, given=b"", most=None):
                 process.stdout.close()
                 error = process.stderr.read()
             status = process.wait()
-        finally:
-            clock.cancel()
-    return output, suite.last_line(error), None if late.is_set() else status
+    return output, suite.last_line(error), None if watch.late else status
 
 
 class Tried:
-    """An image in a file, and the ends that it came to."""
+    """An image in a file, and the ends of its runs."""
 
-    def __init__(self, program, runner, path, made):
-        self.program, self.runner, self.path, self.made, self.end = program, runner, path, made, None
-        self.limits = (machine.PAGES, machine.CALLS)
+    def __init__(self, program, path, made, is_one):
+        self.program, self.path, self.made, self.is_one, self.end, self.printed = program, path, made, is_one, None, b""
         with open(path, "wb") as file:
             file.write(made.file)
 
     def fault(self):
-        """The first fault, or None."""
-        return self.fault_of_run() or self.fault_of_stores() or self.fault_of_listing()
+        """Returns the first fault, or None."""
+        return self.fault_of_run() or not self.is_one and self.fault_of_stores() or self.fault_of_listing()
 
     def run(self, steps):
-        """What the reference says of a run: its answer, and how many instructions it counts."""
+        """Returns the reference's answer to a run, and its count of instructions."""
         try:
             run = machine.Run(machine.Image(self.made.file), self.made.given, self.made.pages, self.made.calls, steps)
         except machine.ImageFault as fault:
             return (b"", str(fault), 3), None
-        self.limits = (run.pages, run.calls)
         try:
             line, status = run.end()
         except stores.Open:
@@ -145,14 +136,13 @@ class Tried:
         return fault and f"{' '.join(options)} on {self.made.given}: {fault}"
 
     def fault_of_stores(self):
-        """What the two stores do otherwise than each other, or None."""
-        if not self.runner:
-            return None
-        words = [str(number) for number in (*self.limits, self.made.steps)] + [self.path]
-        answers = [asked([self.runner, store, *words], self.made.given) for store in suite.STORES]
-        for store, (output, line, status) in zip(suite.STORES, answers):
-            if status != 0 or not output.startswith(self.printed):
-                return f"{store} {' '.join(words[:-1])}: {line!r} with status {status}"
+        """Returns the difference between the two stores, or None."""
+        words = [self.path, *self.made.options(self.made.steps)]
+        answers = suite.over_stores(self.program, words, self.made.given)
+        for store, (output, line, status, _) in zip(suite.STORES, answers):
+            fault = unnamed("run", line, status)
+            if fault or not output.startswith(self.printed):
+                return f"over the store {store}, {' '.join(words[1:])}: {fault or suite.difference('output', self.printed, output)}"
         return None if self.end == "open" or answers[0] == answers[1] else suite.difference("plain and paged", *answers)
 
     def fault_of_listing(self):
@@ -169,11 +159,14 @@ class Tried:
 
 
 def compiled(program, seed):
-    """The examples that have an output beside them, with what they are run on there, and with words changed."""
+    """Returns the examples with an expected output, with their inputs, and with changed words."""
     with tempfile.TemporaryDirectory(prefix="cyclone-image-") as folder:
         for name in sorted(name[:-4] for name in os.listdir(EXAMPLES) if name.endswith(".out")):
             source, path = os.path.join(EXAMPLES, name), os.path.join(folder, "image.elf")
-            answer = suite.answer([program, "compile", source + ".cyc", "-o", path])
+            text = os.path.join(folder, "whole.cyc")
+            with open(text, "w", encoding="latin-1") as file:
+                file.write(whole(source + ".cyc"))
+            answer = suite.answer([program, "compile", text, "-o", path])
             if answer != (b"", "done", 0):
                 raise SystemExit(f"{source}.cyc is not compiled: {answer}")
             given = b""
@@ -185,31 +178,31 @@ def compiled(program, seed):
 
 
 def named(program, part, options):
-    """The images of a part, each with its name; those of `random` are made where they are tried."""
+    """Returns the images of a part, each with its name; those of `random` are generated where they are tried."""
     if part != "random":
         return [(made.family, made) for made in (image_makers.spoiled() if part == "spoiled" else compiled(program, options.seed))]
     return [(f"image {number}, seed {options.seed}", None) for number in range(options.count)]
 
 
-def try_some(program, runner, seed, names):
-    """The end of each image, and what fails, with the image."""
+def try_some(program, options, names):
+    """Returns the end of each image, and the failures with their images."""
     tried = []
     with tempfile.TemporaryDirectory(prefix="cyclone-image-") as folder:
         for number, (name, made) in names:
-            made = made or image_makers.made(random.Random(f"image {seed} {number}"))
-            image = Tried(program, runner, os.path.join(folder, "image.elf"), made)
+            made = made or image_makers.made(random.Random(f"image {options.seed} {number}"))
+            image = Tried(program, os.path.join(folder, "image.elf"), made, options.one_store)
             fault = image.fault()
             kind = re.sub(r" -?\d.*", "", image.end) if image.end.startswith(("returned", "uncaught")) else image.end
             tried.append((kind, fault and f"{name} ({made.family}): {fault}\n  {made.file.hex()}"))
     return tried
 
 
-def try_images(program, runner, part, options, workers):
-    """Tries the images of a part side by side, and gives what fails."""
+def try_images(program, part, options, workers):
+    """Tries the images of a part in parallel, and returns the failures."""
     names = list(enumerate(named(program, part, options)))
     shares = [names[start:start + SHARE] for start in range(0, len(names), SHARE)]
     ends, faults = collections.Counter(), []
-    for tried in workers.map(try_some, itertools.repeat(program), itertools.repeat(runner), itertools.repeat(options.seed), shares):
+    for tried in workers.map(try_some, itertools.repeat(program), itertools.repeat(options), shares):
         ends.update(end for end, _ in tried)
         faults += [fault for _, fault in tried if fault]
     print(f"{part}, {len(names)} images: " + ", ".join(f"{end} {count}" for end, count in ends.most_common()))
@@ -217,7 +210,7 @@ def try_images(program, runner, part, options, workers):
 
 
 def try_program(program, beside, name, body):
-    """A program of instructions by the reference, by the program and by what stands beside them, and its fault if they differ."""
+    """Runs a program of instructions by the reference, the program and the other tools. Returns its fault if they differ."""
     output, words = instruction_makers.results(body), instruction_makers.ours(body)
     listed = "".join(machine.line_of(word, machine.TEXT + 4 * number) for number, word in enumerate(words))
     files = {"linux": instruction_makers.executable(instruction_makers.linux(body)), "ours": instruction_makers.executable(words)}
@@ -241,7 +234,7 @@ def try_program(program, beside, name, body):
 
 
 def try_instructions(program, beside, workers):
-    """Tries each program of instructions, beside these commands."""
+    """Tries each program of instructions with these commands."""
     programs = list(instruction_makers.programs())
     faults = list(workers.map(try_program, itertools.repeat(program), itertools.repeat(beside), *zip(*programs)))
     others = " and ".join(beside) or "nothing"
@@ -253,11 +246,10 @@ PARTS = ["spoiled", "random", "compiled", "instructions"]
 
 
 def main():
-    parser = suite.command_line(__doc__)
+    parser = suite.command_line_of_runs(__doc__)
     parser.add_argument("--count", type=int, default=2_000)
     parser.add_argument("--seed", type=int, default=1)
     parser.add_argument("--part", choices=PARTS)
-    parser.add_argument("--runner", metavar="PATH")
     parser.add_argument("--without-qemu", dest="left_out", action="append_const", const=QEMU, default=[])
     parser.add_argument("--without-objdump", dest="left_out", action="append_const", const=objdump.OBJDUMP)
     options = parser.parse_args()
@@ -266,14 +258,13 @@ def main():
     beside = [command for command in BESIDE if command not in options.left_out]
     if "instructions" in parts:
         suite.need(beside, options.count)
-    runner = suite.runner_of(options, options.count)
     tried, failed = 0, 0
     with concurrent.futures.ProcessPoolExecutor() as workers:
         for part in parts:
             if part == "instructions":
                 count, faults = try_instructions(program, beside, workers)
             else:
-                count, faults = try_images(program, runner, part, options, workers)
+                count, faults = try_images(program, part, options, workers)
             tried, failed = tried + count, failed + len(faults)
             print("\n".join(f"FAILED {fault}" for fault in faults), end="\n" if faults else "")
     suite.end(tried - failed, failed, " and ".join(options.left_out))

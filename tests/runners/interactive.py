@@ -1,10 +1,10 @@
 #!/usr/bin/env python3
-"""Programs that ask and are answered, over a pipe into which an answer is written only when its question has come.
+"""Tests interactive programs over a pipe: each answer is written only after its question was printed.
 
     python3 tests/runners/interactive.py [--program PATH] [--seconds N] [DIALOG ..]
 
-Each `interactive/NAME.dialog` is a run of one program, a line for each thing that happens, in order; a line that is empty or begins with `#`
-says nothing:
+Each `interactive/NAME.dialog` describes a run of one program, one event on each line, in order. Empty lines and lines that begin with `#`
+are ignored:
 
     program PATH         the program's text, from the top of the repository: it is compiled, and the image is run
     shows TEXT           just this is printed, and then no more: only then the next line is done
@@ -13,7 +13,7 @@ says nothing:
     left TEXT            when the run has ended, this is still in the pipe, and no more
     ends STATUS LINE     the run ends, with this exit status, and with this last line on standard error; nothing else is printed
 
-Lines above the first `shows` are done before the program is started. In a text `\\n` and the like stand for bytes, and the last line is
+Lines before the first `shows` take effect before the program starts. In a text, escapes such as `\\n` stand for bytes. The last line is
 `N passed, M failed`.
 """
 import os
@@ -24,36 +24,38 @@ import tempfile
 import time
 
 import suite
+from with_library import whole
 
 FOLDER = os.path.join(suite.TESTS, "interactive")
 SUFFIX = ".dialog"
-# So many seconds are waited for what must come, where nothing else is asked for, and for what must not.
-SOON = 30
+# The seconds to wait for expected output unless given otherwise, and for output that must not appear. Expected output comes at once unless
+# the processors are busy.
+SOON = suite.CLOCK * suite.SECONDS
 QUIET = 0.1
-# What a pipe holds.
+# The capacity of a pipe in bytes.
 MOST = 65536
 
 
 class Wrong(Exception):
-    """What a program does otherwise than its dialog says."""
+    """A difference between a program and its dialog."""
 
 
 def bytes_of(text):
-    """The bytes of a text with escapes, and so many copies where it says how many."""
+    """Returns the bytes of a text with escapes, repeated if the line says so."""
     found = re.fullmatch(r"(.*) \* ([0-9]+)", text)
     text, copies = (found[1], int(found[2])) if found else (text, 1)
     return text.encode("latin-1").decode("unicode_escape").encode("latin-1") * copies
 
 
 def lines_of(path):
-    """The lines of a dialog, each as its first word and what stands behind it."""
+    """Returns the lines of a dialog, each as its first word and the rest."""
     with open(path, encoding="latin-1") as file:
         lines = [line.rstrip("\n") for line in file]
     return [(line.partition(" ")[0], line.partition(" ")[2]) for line in lines if line and not line.startswith("#")]
 
 
 def comes(stream, count, seconds):
-    """Up to `count` bytes that come within so many seconds."""
+    """Returns up to `count` bytes that arrive within so many seconds."""
     got, ends = b"", time.monotonic() + seconds
     while len(got) < count:
         ready, _, _ = select.select([stream], [], [], max(0, ends - time.monotonic()))
@@ -65,7 +67,7 @@ def comes(stream, count, seconds):
 
 
 class Talk:
-    """A run of an image, and what was said so far."""
+    """A run of an image, and the dialog so far."""
 
     def __init__(self, words, seconds):
         self.words = words
@@ -78,7 +80,7 @@ class Talk:
             self.process = subprocess.Popen(self.words, stdin=self.reads, stdout=subprocess.PIPE, stderr=subprocess.PIPE, close_fds=True)
 
     def is_shown(self, text):
-        """Reads what must be printed now, and sees that there is no more."""
+        """Reads the output that is expected now, and checks that there is no more."""
         self.begin()
         shown, wanted = self.process.stdout.fileno(), bytes_of(text)
         got = comes(shown, len(wanted), self.seconds)
@@ -97,7 +99,7 @@ class Talk:
             self.writes = None
 
     def ended(self, text):
-        """Sees how it ends, with nothing printed that was not shown."""
+        """Checks the end of the run, and that no unexpected output was printed."""
         self.begin()
         status, _, line = text.partition(" ")
         shown, said = self.process.communicate(timeout=self.seconds)
@@ -106,7 +108,7 @@ class Talk:
             raise Wrong(suite.difference("how it ends: what it prints yet, its last line, and its status", wanted, got))
 
     def is_left(self, text):
-        """Sees what nobody has read."""
+        """Checks the input that nobody has read."""
         self.close()
         got, wanted = comes(self.reads, MOST, self.seconds), bytes_of(text)
         if got != wanted:
@@ -121,12 +123,15 @@ class Talk:
 
 
 def talk(program, path, folder, seconds):
-    """Does a dialog, line by line."""
+    """Performs a dialog, line by line."""
     lines = lines_of(path)
     if [word for word, _ in lines].count("ends") != 1 or not lines or lines[0][0] != "program":
         raise Wrong("it does not begin with its program, or does not say how that ends")
     image = os.path.join(folder, "image.elf")
-    made = suite.answer([program, "compile", os.path.join(suite.ROOT, lines[0][1]), "-o", image])
+    text = os.path.join(os.path.dirname(image), "whole.cyc")
+    with open(text, "w", encoding="latin-1") as file:
+        file.write(whole(os.path.join(suite.ROOT, lines[0][1])))
+    made = suite.answer([program, "compile", text, "-o", image])
     if made != (b"", "done", 0):
         raise Wrong(suite.difference("compile", (b"", "done", 0), made))
     run = Talk([program, "run", image], seconds)
@@ -139,7 +144,7 @@ def talk(program, path, folder, seconds):
 
 
 def faults_of(program, path, seconds):
-    """What a program does otherwise than its dialog says."""
+    """Returns the differences between a program and its dialog."""
     with tempfile.TemporaryDirectory() as folder:
         try:
             talk(program, path, folder, seconds)

@@ -1,11 +1,11 @@
 #!/usr/bin/env python3
-"""Lists the names of lemmas that mean more than one thing: those with different statements in different files of proofs.
+"""Lists the ambiguous names of lemmas: those with different statements in different files of proofs.
 
     python3 tests/runners/lemmas.py [CRATE ..]
 
-There are none: `documents.py` asks for that. A lemma is what stands at the left margin of a file in `proofs` with its statement behind a colon, but for the answers and the invariants of
-functions, whose names the prover gives, and for definitions. Two statements are the same where they are the same words. With crates named,
-those names are listed that a lemma of theirs has.
+There must be none: `documents.py` checks that. A lemma is a name at the left margin of a file in `proofs`, followed by a colon and its
+statement. Answers and invariants of functions, whose names the prover gives, and definitions are no lemmas. Two statements are equal if
+they consist of the same words. If crates are given, only names of their lemmas are listed.
 """
 import collections
 import os
@@ -14,20 +14,20 @@ import sys
 
 import suite
 
-# What the prover names, and what names no lemma.
+# Files whose names the prover gives, and names of no lemmas.
 GIVEN = ("Answers.antt", "Invariants.antt", "Proof.antt", "Lib.antt")
-# A name with its statement, which goes on in the lines that are indented behind it.
+# A name with its statement, which continues in the following indented lines.
 LEMMA = re.compile(r"^(?:pub )?([^\s:]+) : ((?:.|\n(?=[ \t]+\S))*)", re.M)
 COMMENT = re.compile(r"^ *--.*\n", re.M)
 
 
 def lemmas_in(text):
-    """The lemmas of a file, each with its statement in one line."""
+    """Returns the lemmas of a file, each with its statement in one line."""
     return [(name, " ".join(statement.split())) for name, statement in LEMMA.findall(COMMENT.sub("", text))]
 
 
 def files_of_proofs(root):
-    """The files of lemmas below a folder, by their paths from there."""
+    """Returns the files with lemmas below a folder, by their relative paths."""
     found = []
     for folder, _, names in os.walk(root):
         path = os.path.relpath(folder, root)
@@ -37,7 +37,7 @@ def files_of_proofs(root):
 
 
 def meanings(root):
-    """The names of lemmas, each with its statements, and for each of these the files that it stands in."""
+    """Returns the names of lemmas, each with its statements, and for each statement the files that contain it."""
     found = collections.defaultdict(lambda: collections.defaultdict(list))
     for path in files_of_proofs(root):
         with open(os.path.join(root, path), encoding="utf-8") as file:
@@ -47,12 +47,12 @@ def meanings(root):
 
 
 def ambiguous(root=os.path.join(suite.ROOT, "crates")):
-    """The names with more than one statement."""
+    """Returns the names with more than one statement."""
     return {name: statements for name, statements in meanings(root).items() if len(statements) > 1}
 
 
 def faults(crates=(), root=os.path.join(suite.ROOT, "crates")):
-    """A line for each such name that a lemma of these crates has, or of any."""
+    """Returns a line for each ambiguous name of a lemma of these crates, or of any crate."""
     found = {name: sorted(path for files in statements.values() for path in files) for name, statements in sorted(ambiguous(root).items())}
     return [f"{name}: {len(meanings(root)[name])} statements, in {', '.join(paths)}"
             for name, paths in found.items() if not crates or any(path.split(os.sep)[0] in crates for path in paths)]

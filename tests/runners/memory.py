@@ -1,62 +1,63 @@
 #!/usr/bin/env python3
-"""Runs the largest stores, and what the largest and the most hostile images ask for, under a limit of memory.
+"""Runs the largest stores, and the largest and most hostile images, under a memory limit.
 
-    python3 tests/runners/memory.py [--program PATH] [--bench PATH]
+    python3 tests/runners/memory.py [--program PATH]
 
-The pages of the largest store are 256 MB of 2^20 bytes, and what is kept of them 17 more. Under a limit of 304 MB a run makes blocks
-until no page is left, and crates/cyc_bench makes, fills and drops three such stores, one behind the other. Under a limit of 256 MB
-each has no memory before it begins.
+The pages of the largest store are 256 MB of 2^20 bytes, and the data about them takes 17 MB more. Under a limit of 304 MB a run allocates
+blocks until no page is left. Another run, of a program that opens regions, reports where it stopped. For that the program is run again over
+a second store of the same size, which fits only if the first was freed. Under a limit of 256 MB both runs end with no memory before they
+begin.
 
-Images whose headers name far more bytes than they have, or that fill the whole text range, are run for an instruction: each
-under 5 times its length, what the program takes of any image, and, where it is loaded, 160 MB: of these 140 are for its text, and 8
-for its data range and stack. The program is asked what they are, too, under the same limits but
-that it loads none; those that are not loaded have no word to list, and are listed so. Each takes no more than PROCESSOR_SECONDS. The
-last line is `N passed, M failed`; each command is one.
+Images whose headers name far more bytes than they have, or that fill the whole text range, are run for an instruction: each under a limit
+of 5 times its length, the memory for any image, and, if it is loaded, 160 MB: 140 MB for its text, and 8 MB for its data range and stack.
+`info` and `disasm` run under the same limits without the 160 MB; images that cannot be loaded have no words to list. No command takes more
+than PROCESSOR_SECONDS. The last line is `N passed, M failed`; each command is one.
 """
 import os
 import resource
 import struct
-import subprocess
 import sys
 import tempfile
 
 import run
 import suite
 
-BENCH = os.path.join(suite.ROOT, "crates", "cyc_bench", "out", "cyc_bench")
 MB = 1024 * 1024
 PAGES = "65536"
-# In a loop a block of 1,000 words is made in the heap, and its address written to its first word.
+# A loop allocates a block of 1,000 words in the heap, and writes its address to its first word.
 BLOCKS = "24040001 240503e8 24020009 0000000c ac420000 1000fffa 00000000"
+# A text that opens regions until no page is left, and the place where that happens.
+REGIONS = "int main() {\n  while (1) { let NewDynamicRegion {<`k> key} = new_ukey(); }\n  return 0;\n}\n"
+PLACE = ":2:38: "
 ENOUGH, TOO_LITTLE = 304, 256
-# What the program takes of any image, in MB: its own code and stack, and a store of 1,024 pages.
+# The memory in MB for any image: the program's own code and stack, and a store of 1,024 pages.
 ANY, PROCESSOR_SECONDS = 16, 2
-# What loading an image takes beside, in MB, where the whole text range is filled.
+# The additional memory in MB for loading an image that fills the whole text range.
 LOADED = 160
 TEXT, TEXT_SIZE, ELSEWHERE, ADDRESSES = 0x400000, 0x1C00000, 0x20000000, 1 << 32
 
 
 class Command:
-    """The words of a command, its limit in bytes, the status that it ends with, and how much of the processor it may take."""
+    """The words of a command, its memory limit in bytes, its expected status, its limit of processor time, and its expected last line."""
 
-    def __init__(self, words, limit, status, seconds=suite.SECONDS):
-        self.words, self.limit, self.status, self.seconds = words, limit, status, seconds
+    def __init__(self, words, limit, status, seconds=suite.SECONDS, said=""):
+        self.words, self.limit, self.status, self.seconds, self.said = words, limit, status, seconds, said
 
 
 def elf(entry, loads, behind=b""):
-    """A file of such loadable headers, each an offset, an address, and a size in the file and in memory."""
+    """Returns a file with these loadable headers, each an offset, an address, and a size in the file and in memory."""
     head = bytes.fromhex("7f454c46010201") + bytes(9)
     head += struct.pack(">HHIIIIIHHHHHH", 2, 8, 1, entry, 52, 0, 0, 52, 32, len(loads), 0, 0, 0)
     return head + b"".join(struct.pack(">8I", 1, at, to, to, size, memory, 5, 4) for at, to, size, memory in loads) + behind
 
 
 def side_by_side(count, base, size, at=0):
-    """So many headers of segments of one size, each behind the one before it, that name the same bytes of the file."""
+    """Returns this many headers of adjacent segments of one size, which name the same bytes of the file."""
     return [(at, base + number * size, size, size) for number in range(count)]
 
 
 def hostile_images():
-    """Each hostile image by what it is, with the status of a run of one instruction."""
+    """Returns each hostile image by its description, with the status of a run of one instruction."""
     table = 52 + 32 * 8192
     part = TEXT_SIZE // 8192
     most = (ADDRESSES - ELSEWHERE) // 65535 // 4 * 4
@@ -72,7 +73,7 @@ def hostile_images():
 
 
 def on_images(program, folder):
-    """The commands on hostile images."""
+    """Returns the commands on hostile images."""
     found = []
     for name, content, ran in hostile_images():
         path = os.path.join(folder, f"{name}.elf".replace(" ", "_"))
@@ -86,15 +87,20 @@ def on_images(program, folder):
     return found
 
 
-def on_stores(program, bench, folder):
-    """The commands on stores of the most pages."""
-    image = os.path.join(folder, "blocks.elf")
-    with open(image, "wb") as file:
+def on_stores(program, folder):
+    """Returns the commands on stores of the most pages."""
+    path = lambda name: os.path.join(folder, name)
+    with open(path("blocks.elf"), "wb") as file:
         file.write(run.image_of(BLOCKS.split()))
-    fill = [program, "run", "--pages", PAGES, image]
-    drop = [bench, "paged", "fill", "3"]
-    ends = [(fill, ENOUGH, 5), (fill, TOO_LITTLE, 8), (drop, ENOUGH, 0), (drop, TOO_LITTLE, 1)]
-    return [Command(words, limit * MB, status) for words, limit, status in ends]
+    with open(path("regions.cyc"), "w", encoding="ascii") as file:
+        file.write(REGIONS)
+    made = suite.answer([program, "compile", path("regions.cyc"), "-o", path("regions.elf"), "--places", path("places")])
+    if made != (b"", "done", 0):
+        raise SystemExit(f"regions.cyc is not compiled: {made}")
+    fill = [program, "run", "--pages", PAGES, path("blocks.elf")]
+    twice = [program, "run", "--pages", PAGES, "--places", path("places"), path("regions.elf")]
+    ends = [(fill, ENOUGH, 5, ""), (fill, TOO_LITTLE, 8, ""), (twice, ENOUGH, 5, PLACE), (twice, TOO_LITTLE, 8, "")]
+    return [Command(words, limit * MB, status, said=said) for words, limit, status, said in ends]
 
 
 def name_of(command):
@@ -103,30 +109,27 @@ def name_of(command):
 
 
 def faults_of(command):
-    """What is otherwise than it should be of a command under its limit."""
+    """Returns the differences from the expected result of a command under its limit."""
     confine = lambda: resource.setrlimit(resource.RLIMIT_AS, (command.limit, command.limit))
     before = resource.getrusage(resource.RUSAGE_CHILDREN)
-    done = subprocess.run(command.words, capture_output=True, timeout=suite.SECONDS, preexec_fn=confine)
+    done = suite.run(command.words, preexec_fn=confine)
     after = resource.getrusage(resource.RUSAGE_CHILDREN)
     taken = after.ru_utime + after.ru_stime - before.ru_utime - before.ru_stime
     if done.returncode != command.status:
         return [suite.difference("the status", command.status, done.returncode), suite.last_line(done.stderr)]
+    if command.said.encode("ascii") not in done.stderr:
+        return [suite.difference("what is said", command.said, done.stderr)]
     if taken > command.seconds:
         return [f"{taken:.2f} seconds of processor, and no more than {command.seconds} are wanted"]
     return []
 
 
 def main():
-    parser = suite.command_line(__doc__)
-    parser.add_argument("--bench", default=BENCH)
-    options = parser.parse_args()
+    options = suite.command_line(__doc__).parse_args()
     count = 4 + 2 * len(hostile_images()) + sum(ran == 3 for _, _, ran in hostile_images())
     program = suite.program_of(options, count)
-    if not os.access(options.bench, os.X_OK):
-        print(f"there is no program {options.bench}: `rt ci` builds it")
-        suite.end(0, count)
     with tempfile.TemporaryDirectory(prefix="cyclone-memory-") as folder:
-        commands = on_stores(program, os.path.abspath(options.bench), folder) + on_images(program, folder)
+        commands = on_stores(program, folder) + on_images(program, folder)
         suite.try_each(commands, name_of, faults_of)
 
 

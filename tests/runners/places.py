@@ -1,8 +1,9 @@
 """The files that the document of a crate names by their paths from the crate's folder, or from `src`, `specs` or `proofs` in it.
 
-A path in a code span leads to a file or a folder of the crate, or of a crate that the same paragraph names. A name behind a path and a
-comma, or an `and`, is a file beside it or elsewhere in the crate, as `Formed` in "`proofs/layout/Counts` and `Formed`". So are the names
-in the first cells of a table of the files of a folder, and of the definitions in the crate's head.
+Checks the files that a crate's document names. A path in a code span must name a file or a folder of the crate, or of a crate that the same
+paragraph names. A name after a path and a comma, or an `and`, is a file beside it or elsewhere in the crate, as `Formed` in
+"`proofs/layout/Counts` and `Formed`". The same holds for names in the first cells of a table of a folder's files, and for the definitions
+in the first lines.
 """
 import glob
 import os
@@ -13,10 +14,10 @@ import suite
 DOCUMENT = re.compile(r"crates/(\w+)/README\.md")
 CRATE = re.compile(r"`(cyc_\w+|cyclone)`")
 SPAN = re.compile(r"(?<!`)`([^`]+)`(?!`)")
-# What looks like a path: parts between strokes, or the name of a file of code. A star, or two points at its end, stand for any letters.
+# A path: parts between slashes, or the name of a source file. A star, or two points at its end, stand for any letters.
 PATH = re.compile(r"[\w*-]+(/[\w*-]+)+(\.rt|\.antt|\.md|\.\.)?|([\w*-]+/)+|[\w*-]+\.rt")
 NAME = re.compile(r"[A-Z]\w*(\.\.)?")
-# What stands between a path and a name of the same list.
+# The text between a path and a name of the same list.
 BETWEEN = re.compile(r",? (and |or )?")
 PARTS = ("", "src", "specs", "proofs")
 FILES_OF = re.compile(r"\| File of `(\w+)/` \|")
@@ -24,7 +25,7 @@ DEFINITIONS = "- Definitions: "
 
 
 def is_there(crate, path):
-    """Whether a path leads to something in a crate, from its folder or from one of the parts."""
+    """Returns true if a path exists in a crate, relative to its folder or to one of its parts."""
     path = path.replace("..", "*").rstrip("/")
     for part in PARTS:
         whole = os.path.join(suite.ROOT, "crates", crate, part, path)
@@ -34,13 +35,13 @@ def is_there(crate, path):
 
 
 def is_below(crate, name):
-    """Whether a file of a crate has this name, wherever it stands there."""
+    """Returns true if some file of a crate has this name."""
     whole = os.path.join(suite.ROOT, "crates", crate, "**", name.replace("..", "*"))
     return any(glob.glob(whole + ending, recursive=True) for ending in ("", ".rt", ".antt"))
 
 
 def paragraphs(text):
-    """The paragraphs, list items and rows of tables of a document, with their first lines' numbers, programs left out."""
+    """Returns the paragraphs, list items and table rows of a document, with the numbers of their first lines, without programs."""
     found = []
     for number, line in enumerate(text.split("\n"), 1):
         goes_on = found and found[-1][1] and line.strip() and not re.match(r" *(- |\d+\. )|[|#]", line) and found[-1][1][0] not in "|#"
@@ -54,7 +55,7 @@ def paragraphs(text):
 
 
 def named(paragraph, files_of):
-    """The paths and the names of files in a paragraph. In a table of the files of a folder the first cell has names of these."""
+    """Returns the paths and the names of files in a paragraph. In a table of a folder's files, the first cell contains names."""
     paths, names = [], []
     first_cell = paragraph.split(" | ")[0] if files_of and paragraph.startswith("| ") else ""
     at, is_behind = 0, False
@@ -73,7 +74,7 @@ def named(paragraph, files_of):
 
 
 def faults_of(document, text):
-    """The files that the document of a crate names and that are not there."""
+    """Returns the missing files that the document of a crate names."""
     found = DOCUMENT.fullmatch(document)
     if not found:
         return []

@@ -1,13 +1,12 @@
 #!/usr/bin/env python3
-"""Refuses each allocation of the program in turn, and looks at how it ends.
+"""Makes each allocation of the program fail in turn, and checks how the program ends.
 
-    python3 tests/runners/refused.py [--program PATH] [--runner PATH] [--examples]
+    python3 tests/runners/refused.py [--program PATH] [--examples]
 
-Commands are run once with all the memory that they ask for, and then once for each allocation with that one refused, by
-tests/runners/refuse.c. Either the program does without it, and all is as before; or it says `no memory` with status 8, its output is
-the beginning of what it was, and the file that it was to write holds what it held. Runs over each of the two stores, of
-crates/cyc_runner, end as they did, or with `Memory`. With --examples each example is compiled and run too, which takes
-some minutes. The last line is `N passed, M failed`; each command is one.
+Each command is run once with all the memory that it needs. Then it is run once for each allocation, which tests/runners/refuse.c makes
+fail. Either the program does without the memory, with the same result; or it prints `no memory` with status 8. In that case its output is a
+prefix of the full output, and the file to be written has its former contents. One image is run over each of the two stores. With --examples
+each example is compiled and run too, which takes some minutes. The last line is `N passed, M failed`; each command is one.
 """
 import os
 import subprocess
@@ -16,6 +15,7 @@ import tempfile
 
 import run
 import suite
+from with_library import whole
 
 HERE = os.path.dirname(os.path.abspath(__file__))
 EXAMPLES = os.path.join(suite.ROOT, "examples")
@@ -28,7 +28,7 @@ int main() {
   if (i == 0) return twice(i) / 1; else { return twice(most) % 5; }
 }
 """
-# A text of nearly every form.
+# A text with nearly every form of the language.
 WHOLE = """\
 datatype exn { Bad(int); };
 struct List<`r> { int head; struct List<`r> *`r tail; };
@@ -48,15 +48,16 @@ int main() {
   return *shared;
 }
 """
-# Two that are refused and explained: by a region that does not outlive another, and by a variable that was moved.
+# Two texts that are rejected with an explanation: by a region that does not outlive another, and by a moved variable.
 SHORTER = WHOLE.replace("shared = new 5;", "shared = &l->head;")
 MOVED = WHOLE.replace("free_ukey(key);", "ufree(u);")
-# 40 times a block of 1,000 words is made and its last word written, a region is opened and closed, and an A printed; then 7 is returned.
+# 40 times a block of 1,000 words is allocated and its last word written, a region is opened and closed, and an A printed; then 7 is
+# returned.
 STORE = """
 24100028 24020009 24040001 240503e8 0000000c ac500f9c 24020007 0000000c 00402021 24020008
 0000000c 24040041 24020002 0000000c 2610ffff 1e00fff1 00000000 24020003 24040007 0000000c
 """
-# Worked texts: output; arrays and exceptions; throws out of calls and regions; unique pointers.
+# Test programs: output; arrays and exceptions; throws out of calls and regions; unique pointers.
 PRINTS = "int main(){ putchar(72); return 7; }"
 ARRAYS = """\
 int main(){ int ?p = new {for i < 3 : 65 + i}; putchar(p[2]); int ?q = p + 5; putchar(48 + numelts(q));
@@ -81,15 +82,14 @@ TEXTS = {
     "main.cyc": SOURCE, "whole.cyc": WHOLE, "shorter.cyc": SHORTER, "moved.cyc": MOVED,
     "prints.cyc": PRINTS, "arrays.cyc": ARRAYS, "throws.cyc": THROWS, "swaps.cyc": SWAPS,
 }
-# One segment, which ends with 3 after five instructions.
+# An image of one segment, which ends with 3 after five instructions.
 SMALL = "24040001 10000002 24840002 24840004 24020003 0000000c"
-# The limits of a run of THROWS, and as many instructions as no run here takes.
-PAGES, CALLS, STEPS = "8", "32", "1000000000"
+# The limits of a run of THROWS.
+PAGES, CALLS = "8", "32"
 OLD = b"what was there"
-# The last line and the status where memory is wanting. The runner says nothing where it is wanting before a run begins.
-BY_PROGRAM = [("no memory", 8)]
-BY_RUNNER = [("Memory", 0), ("", 1)]
-# So many faults of a command are shown.
+# The last line and the status if memory runs out.
+WANTING = "no memory", 8
+# The number of faults of a command that are printed.
 SHOWN = 3
 
 
@@ -103,8 +103,8 @@ def read(path):
         return file.read()
 
 
-def commands(program, runner, folder):
-    """What is run: the words of each command, the file that it writes, and what it says where memory is wanting, with its status."""
+def commands(program, folder):
+    """Yields the words of each command, and the file that it writes."""
     path = lambda name: os.path.join(folder, name)
     for name, text in TEXTS.items():
         write(path(name), text.encode("ascii"))
@@ -117,46 +117,46 @@ def commands(program, runner, folder):
     run_or_listed = [
         [program, "run", path("main.elf")],
         [program, "run", path("store.elf")],
-        [program, "run", path("throws.elf"), *limits],
+        *([program, "run", path("throws.elf"), *limits, "--store", store] for store in suite.STORES),
         [program, "disasm", path("main.elf")],
         [program, "disasm", path("small.elf")],
         [program, "explain", "22"],
     ]
-    yield from ((words, None, BY_PROGRAM) for words in checked + run_or_listed)
+    yield from ((words, None) for words in checked + run_or_listed)
     for name in ("main", "prints", "arrays", "throws", "swaps"):
         yield compiled(program, path(f"{name}.cyc"), path("new.elf"))
-    for store in ("plain", "paged"):
-        yield [runner, store, PAGES, CALLS, STEPS, path("throws.elf")], None, BY_RUNNER
 
 
 def compiled(program, source, image):
-    return [program, "compile", source, "-o", image], image, BY_PROGRAM
+    return [program, "compile", source, "-o", image], image
 
 
 def commands_of_examples(program, folder):
-    """The examples that have an output beside them, compiled; and run, on no input."""
+    """Returns commands that compile the examples with an expected output, and run them on empty input."""
     for name in sorted(name[:-4] for name in os.listdir(EXAMPLES) if name.endswith(".out")):
-        source, image = os.path.join(EXAMPLES, f"{name}.cyc"), os.path.join(folder, f"{name}.elf")
+        source, image = os.path.join(folder, f"{name}.cyc"), os.path.join(folder, f"{name}.elf")
+        with open(source, "w", encoding="latin-1") as file:
+            file.write(whole(os.path.join(EXAMPLES, f"{name}.cyc")))
         subprocess.run([program, "compile", source, "-o", image], check=True, capture_output=True)
         yield compiled(program, source, os.path.join(folder, "new.elf"))
-        yield [program, "run", image, "--steps", "10000"], None, BY_PROGRAM
+        yield [program, "run", image, "--steps", "10000"], None
 
 
 class Refusals:
-    """One command, with one allocation refused or none."""
+    """A command, run with at most one failing allocation."""
 
-    def __init__(self, library, folder, words, written, wanting):
-        self.library, self.words, self.written, self.wanting = library, words, written, wanting
+    def __init__(self, library, folder, words, written):
+        self.library, self.words, self.written = library, words, written
         self.count_file = os.path.join(folder, "count")
         self.whole = self.outcome(0)
         self.count = int(read(self.count_file))
 
     def outcome(self, number):
-        """The output, the last line, the status, and what is in the file that is written."""
+        """Returns the output, the last line, the status, and the contents of the written file."""
         if self.written:
             write(self.written, OLD)
         environment = {"LD_PRELOAD": self.library, "REFUSE_AT": str(number), "REFUSE_COUNT": self.count_file}
-        done = subprocess.run(self.words, input=b"", capture_output=True, timeout=suite.SECONDS, env=environment)
+        done = suite.run(self.words, env=environment)
         content = read(self.written) if self.written and os.path.exists(self.written) else None
         return done.stdout, suite.last_line(done.stderr), done.returncode, content
 
@@ -164,9 +164,9 @@ class Refusals:
         return f"{' '.join(map(os.path.basename, self.words))}: {self.count} allocations"
 
     def is_fair(self, outcome):
-        """Whether the program may end so where an allocation is refused."""
+        """Returns true if this outcome is allowed when an allocation fails."""
         output, line, status, content = outcome
-        gives_up = (line, status) in self.wanting and self.whole[0].startswith(output)
+        gives_up = (line, status) == WANTING and self.whole[0].startswith(output)
         return outcome == self.whole or (gives_up and content == (OLD if self.written else None))
 
     def faults(self):
@@ -180,18 +180,14 @@ class Refusals:
 
 def main():
     parser = suite.command_line(__doc__)
-    parser.add_argument("--runner", default=suite.RUNNER)
     parser.add_argument("--examples", action="store_true")
     options = parser.parse_args()
-    program = suite.program_of(options, 16)
-    if not os.access(options.runner, os.X_OK):
-        print(f"there is no program {options.runner}: `rt run` in its crate proves and builds it")
-        suite.end(0, 16)
-    suite.need(["cc"], 16)
+    program = suite.program_of(options, 15)
+    suite.need(["cc"], 15)
     with tempfile.TemporaryDirectory(prefix="cyclone-refused-") as folder:
         library = os.path.join(folder, "refuse.so")
         subprocess.run(["cc", "-shared", "-fPIC", "-O1", "-o", library, os.path.join(HERE, "refuse.c")], check=True)
-        tried = list(commands(program, os.path.abspath(options.runner), folder))
+        tried = list(commands(program, folder))
         if options.examples:
             tried += commands_of_examples(program, folder)
         suite.try_each([Refusals(library, folder, *command) for command in tried], Refusals.name, Refusals.faults)

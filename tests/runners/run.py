@@ -1,17 +1,17 @@
 #!/usr/bin/env python3
-"""Runs the built program on the cases in tests/cases and says which of them it fails.
+"""Runs the built program on the cases in tests/cases and reports those that fail.
 
-    python3 tests/runners/run.py [--program PATH] [--runner PATH] [--whole] [--quick] [FILE.cases ..]
+    python3 tests/runners/run.py [--program PATH] [--whole] [--quick] [--one-store] [FILE.cases ..]
 
-The last line is `N passed, M failed`. A case is a few lines; tests/README.md has the format. With --whole the cases are those of
-the whole language, in tests/whole. With --quick those with a file of more than 8,192 bytes, and those that are marked as slow, are left
-out, and it says how many.
+The last line is `N passed, M failed`. A case is a few lines; tests/README.md has the format. With --whole the cases are those of the whole
+language, in tests/whole. With --quick those with a file of more than 8,192 bytes, and those that are marked as slow, are skipped, and their
+number is printed.
 
-A case that could not fail, since it runs nothing, does not say how a command ends or has a name that nothing sets, is none: the test
-fails then, and where a command of tests/tools.txt that the cases run is not there.
+The test fails if a case could not fail: it runs nothing, does not state how a command ends, or uses a name that nothing sets. The test also
+fails if a command of tests/tools.txt that the cases run is missing.
 
-Each image that a case runs is run over both stores too, by the program of crates/cyc_runner (`--runner`; of another program than the
-default one only where it is named): they do the same.
+Each image that a case runs is run over both stores too (`run --store`), unless --one-store is given: both runs must end in the same way
+after equally many instructions.
 """
 import os
 import re
@@ -24,20 +24,20 @@ import suite
 
 CASES = os.path.join(suite.TESTS, "cases")
 WHOLE = os.path.join(suite.TESTS, "whole")
-# What a run is given where it has no such option, and the image carries no limits.
-LIMITS = {"--pages": "1024", "--calls": "4096", "--steps": str(2**64 - 1)}
-# The file that holds the text of a line `? LINE | TEXT`.
+# The options of a run that take a word, and those that are kept when the run is repeated over both stores.
+LIMITS = {"--pages", "--calls", "--steps", "--at-most-pages", "--at-most-calls"}
+# The file that contains the text of a line `? LINE | TEXT`.
 TEXT_FILE = "text.cyc"
-# What is long for --quick, in bytes.
+# The size in bytes above which --quick skips a file's case.
 LONG = 8192
-# The names that the commands of a case find in their environment.
+# The environment variables that the commands of a case may use.
 ENVIRONMENT = {"CYCLONE", "ROOT", "PATH", "PWD", "TMPDIR"}
-# A command of a shell's line: its first word, or one behind what ends another.
+# A command in a shell line: the first word, or a word after a separator of commands.
 COMMAND = re.compile(r"(?:^|[|;&(])\s*([\w.-]+)")
 
 
 class BadCase(Exception):
-    """A line of a case file that means nothing, or a case that cannot fail."""
+    """A line of a case file without a meaning, or a case that cannot fail."""
 
     def __init__(self, fault, line=None):
         super().__init__(fault)
@@ -45,7 +45,7 @@ class BadCase(Exception):
 
 
 def unescaped(text):
-    r"""The bytes that a text means, where `\n`, `\t`, `\r`, `\\`, `\"` and `\xNN` are escapes."""
+    r"""Returns the bytes that a text denotes, where `\n`, `\t`, `\r`, `\\`, `\"` and `\xNN` are escapes."""
     names = {"n": "\n", "t": "\t", "r": "\r", "\\": "\\", '"': '"'}
 
     def one(match):
@@ -60,7 +60,7 @@ def unescaped(text):
 
 
 def image_of(words):
-    """An image with one segment of text at 00400000, and its entry there."""
+    """Returns an image with one segment of text at 00400000, and its entry there."""
     text = b"".join(bytes.fromhex(word) for word in words)
     header = bytes.fromhex("7f454c46010201") + bytes(9)
     header += struct.pack(">HHIIIIIHHHHHH", 2, 8, 1, 0x400000, 52, 0, 0, 52, 32, 1, 0, 0, 0)
@@ -69,7 +69,7 @@ def image_of(words):
 
 
 class Step:
-    """One command of a case, and what is expected of it."""
+    """One command of a case, and its expected results."""
 
     def __init__(self, line, words, is_program):
         self.line = line
@@ -87,7 +87,7 @@ class Step:
 
 
 class Case:
-    """A name, and the actions that make files, run steps and look at files, in order."""
+    """A name, and the actions that make files, run steps and examine files, in order."""
 
     def __init__(self, path, line, name):
         self.place = f"{os.path.relpath(path)}:{line}"
@@ -96,7 +96,7 @@ class Case:
         self.actions = []
         self.longest = 0
         self.is_slow = False
-        # the names that a shell is to know, each with its line, and those that the case sets for it
+        # the names that the shell must know, each with its line, and those that the case sets
         self.asked = []
         self.set = set()
 
@@ -104,7 +104,7 @@ class Case:
         return [action for action in self.actions if isinstance(action, Step)]
 
     def hold(self):
-        """Refuses a case that runs nothing, does not say how a command ends, or has a name that nothing sets."""
+        """Rejects a case that runs nothing, does not state how a command ends, or uses a name that nothing sets."""
         if not self.steps():
             raise BadCase("the case runs no command", self.line)
         for step in self.steps():
@@ -116,7 +116,7 @@ class Case:
 
 
 def repeated(value):
-    """What a `let` means: `"TEXT"`, `"TEXT" * N` with `#` for the number of each copy, or plain text up to the line's end."""
+    """Returns the value of a `let`: `"TEXT"`, `"TEXT" * N` with `#` for the number of each copy, or plain text up to the line's end."""
     match = re.fullmatch(r'"((?:[^"\\]|\\.)*)"(?:\s*\*\s*(\d+))?', value)
     if not match:
         return value
@@ -140,7 +140,7 @@ class Reader:
         self.step = None
 
     def block(self, is_of_shell=False):
-        """The indented lines that follow, without their indentation and with names put in."""
+        """Returns the following indented lines, without their indentation and with names replaced by their values."""
         lines = []
         while self.at < len(self.lines) and self.lines[self.at].startswith("    "):
             lines.append(self.lines[self.at][4:])
@@ -148,7 +148,8 @@ class Reader:
         return self.with_names("\n".join(lines), is_of_shell)
 
     def with_names(self, text, is_of_shell=False):
-        """A text with names put in. Other names may stand in it where a shell reads it, and the case or its environment sets them."""
+        """Replaces the names in a text by their values. Other names may remain if a shell reads the text, and the case or its environment
+        sets them."""
         names, line = {**self.shared, **self.own}, self.at
 
         def one(match):
@@ -164,7 +165,7 @@ class Reader:
         return re.sub(r"\$(?:\{([A-Z][A-Z0-9_]*)\}|([A-Z][A-Z0-9_]*))", one, text)
 
     def read(self):
-        """The cases, of which there is one at least."""
+        """Reads the cases, of which there must be at least one."""
         try:
             while self.at < len(self.lines):
                 line = self.lines[self.at]
@@ -211,7 +212,7 @@ class Reader:
             self.expect(word, rest)
 
     def check_text(self, rest):
-        """Makes a file of a text, and a step that checks it."""
+        """Adds an action that writes a text to a file, and a step that checks it."""
         said, bar, text = rest.partition("|")
         if not bar:
             raise BadCase("a text is checked by a line `? LINE | TEXT`")
@@ -245,7 +246,7 @@ class Reader:
 
 
 def made(reader, rest, content):
-    """An action that makes a file."""
+    """Returns an action that creates a file."""
     path = rest
     case = reader.cases[-1]
     case.longest = max(case.longest, len(content))
@@ -263,7 +264,7 @@ def make_bytes(reader, rest):
 
 
 def changed(path, change):
-    """An action that changes the bytes of a file."""
+    """Returns an action that changes the bytes of a file."""
 
     def act(folder):
         path_there = os.path.join(folder, path)
@@ -310,7 +311,7 @@ def look_holds(reader, rest):
     return act
 
 
-# The words that make, change or look at a file, and what each does.
+# The words that create, change or examine a file, and their actions.
 FILES = {
     "file": lambda reader, rest: made(reader, rest, reader.block(is_of_shell=True).encode("latin-1")),
     "bytes": make_bytes,
@@ -325,7 +326,7 @@ FILES = {
 
 
 def run_step(step, folder, program):
-    """The status, standard output and standard error of a step."""
+    """Returns the status, standard output and standard error of a step."""
     words = ([program] if step.is_program else []) + step.words
     streams = [f"{number}>&-" for name, number in (("in", 0), ("out", 1), ("err", 2)) if name in step.closed]
     if step.full:
@@ -336,14 +337,12 @@ def run_step(step, folder, program):
         reading, output = os.pipe()
         os.close(reading)
     try:
-        return subprocess.run(
+        return suite.run(
             shell + words,
+            step.input,
             cwd=folder,
-            input=step.input,
             stdout=output,
-            stderr=subprocess.PIPE,
-            timeout=suite.SECONDS,
-            # another program may run this one, and find the files of the repository
+            # the command of a step may run the program, and read files of the repository
             env={**os.environ, "LC_ALL": "C", "CYCLONE": program, "ROOT": suite.ROOT},
         )
     finally:
@@ -352,11 +351,11 @@ def run_step(step, folder, program):
 
 
 def faults_of_step(step, folder, program, act):
-    """What a step does otherwise than expected, in words."""
+    """Returns the differences between a step's results and the expected ones, in words."""
     try:
         done = act(step, folder, program)
     except subprocess.TimeoutExpired:
-        return [f"took longer than {suite.SECONDS} seconds"]
+        return [f"took more than {suite.SECONDS} seconds of processor"]
     faults = []
 
     def want(what, wanted, got):
@@ -379,40 +378,39 @@ def faults_of_step(step, folder, program, act):
 
 
 def words_of_run(step):
-    """The pages, the calls, the steps and the file of a step that runs one, or None."""
+    """Returns the words of a step that runs an image with no options except limits, or None."""
     if not step.is_program or step.words[:1] != ["run"] or step.closed or step.full or step.broken:
         return None
-    files, limits, words = [], dict(LIMITS), iter(step.words[1:])
+    files, limits, words = [], [], iter(step.words[1:])
     for word in words:
-        if word in limits:
-            limits[word] = next(words, "")
+        if word in LIMITS:
+            limits += [word, next(words, "")]
         else:
             files.append(word)
-    if len(files) != 1 or not all(limit.isdecimal() for limit in limits.values()):
+    if len(files) != 1 or files[0].startswith("-") or not all(word in LIMITS or word.isdecimal() for word in limits):
         return None
-    return [*limits.values(), files[0]]
+    return [*limits, files[0]]
 
 
-def faults_of_stores(step, folder, runner):
-    """What the two stores do otherwise than each other with the image that a step runs, in words."""
+def faults_of_stores(step, folder, program):
+    """Returns the differences between the two stores for the image that a step runs, in words."""
     words = words_of_run(step)
     if words is None or not os.path.isfile(os.path.join(folder, words[-1])):
         return []
-    over = [subprocess.run([runner, store, *words], cwd=folder, input=step.input, capture_output=True, timeout=suite.SECONDS) for store in suite.STORES]
-    answers = [(done.returncode, done.stdout, done.stderr) for done in over]
-    return [] if answers[0] == answers[1] else [suite.difference("plain and paged", *answers)]
+    one, other = suite.over_stores(program, words, step.input, folder)
+    return [] if one == other else [suite.difference(f"over the stores {' and '.join(suite.STORES)}", one, other)]
 
 
-def faults_of(case, program, act=run_step, runner=None):
-    """What a case does otherwise than expected, where `act` runs its steps, and over both stores where there is a `runner`."""
+def faults_of(case, program, act=run_step, over_stores=False):
+    """Returns the differences of a case from its expectations. `act` runs its steps; over both stores if requested."""
     faults = []
     with tempfile.TemporaryDirectory(prefix="cyclone-case-") as folder:
         for action in case.actions:
             if isinstance(action, Step):
                 name = "> " if action.is_program else "$ "
                 found = faults_of_step(action, folder, program, act)
-                if runner:
-                    found += faults_of_stores(action, folder, runner)
+                if over_stores:
+                    found += faults_of_stores(action, folder, program)
                 for fault in found:
                     faults.append(f"line {action.line}: {name}{shlex.join(action.words)}\n{fault}")
             else:
@@ -423,7 +421,7 @@ def faults_of(case, program, act=run_step, runner=None):
 
 
 def tools_of(cases):
-    """The commands of tests/tools.txt that the cases run."""
+    """Returns the commands of tests/tools.txt that the cases run."""
     steps = [step for case in cases for step in case.steps() if not step.is_program]
     lines = [step.words[-1] if step.words[0] == "sh" else step.words[0] for step in steps]
     return sorted({word for line in lines for word in COMMAND.findall(line)} & suite.packages().keys())
@@ -434,8 +432,7 @@ def case_files(folder):
 
 
 def main():
-    parser = suite.command_line(__doc__)
-    parser.add_argument("--runner", metavar="PATH")
+    parser = suite.command_line_of_runs(__doc__)
     parser.add_argument("--whole", action="store_true")
     parser.add_argument("--quick", action="store_true", help=f"leave out slow cases, and those with a file of more than {LONG} bytes")
     parser.add_argument("files", nargs="*")
@@ -452,8 +449,8 @@ def main():
         cases = short
     program = suite.program_of(options, len(cases))
     suite.need(tools_of(cases), len(cases))
-    runner = suite.runner_of(options, len(cases))
-    suite.try_each(cases, lambda case: f"{case.place}: {case.name}", lambda case: faults_of(case, program, runner=runner))
+    faults = lambda case: faults_of(case, program, over_stores=not options.one_store)
+    suite.try_each(cases, lambda case: f"{case.place}: {case.name}", faults)
 
 
 if __name__ == "__main__":

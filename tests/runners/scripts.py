@@ -1,5 +1,5 @@
 #!/usr/bin/env python3
-"""Has each script of the repository read by a checker: those of a shell by shellcheck, those in Python by pyflakes3.
+"""Checks each script of the repository: shell scripts by shellcheck, Python scripts by pyflakes3.
 
     python3 tests/runners/scripts.py [--root FOLDER]
 
@@ -14,21 +14,21 @@ import subprocess
 import suite
 
 SHELLCHECK, PYFLAKES = "shellcheck", "pyflakes3"
-# By the ending of a script, or by its first line, the command that checks it.
+# For a script's first line or its extension, the command that checks it.
 CHECKERS = ((re.compile(rb"#!.*\b(?:ba|da)?sh\b"), ".sh", SHELLCHECK), (re.compile(rb"#!.*\bpython"), ".py", PYFLAKES))
-# The hidden folder that has a script.
+# The only hidden folder with scripts.
 HIDDEN = ".ci"
 
 
 def checker_of(path):
-    """The command that checks a file; None where it is no script."""
+    """Returns the command that checks a file; None if the file is no script."""
     with open(path, "rb") as file:
         first = file.readline()
     return next((checker for pattern, ending, checker in CHECKERS if path.endswith(ending) or pattern.match(first)), None)
 
 
 def scripts(root):
-    """The scripts below a folder, each with the command that checks it."""
+    """Returns the scripts below a folder, each with the command that checks it."""
     found = []
     for folder, folders, names in os.walk(root):
         folders[:] = [name for name in folders if name != "out" and (name == HIDDEN or not name.startswith("."))]
@@ -38,7 +38,7 @@ def scripts(root):
 
 
 def faults_of(script):
-    """What its checker says of a script."""
+    """Returns the checker's output for a script."""
     path, checker = script
     done = subprocess.run([checker, path], capture_output=True, text=True)
     said = (done.stdout + done.stderr).strip()

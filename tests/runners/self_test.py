@@ -1,15 +1,13 @@
 #!/usr/bin/env python3
-"""Tries the tests' own tools: the suite's runner and that of images, on stand-ins for the program, pass and fail what they should; the
-table of what the gate costs, on looks at processes that are written here, has the sums worked by hand; wrong bodies are tried together
-where they may be, and what the prover says of them is judged as it should be; pairs of programs that do not print the same have no
-figures, and the others the right ones; documents that say something else than the data, and sessions that show something else than is
-printed, are found; what texts cost for their length is judged as it should be; a random program with a planted difference is shrunk to a
-small one that shows it; and the reference answers the cases of the whole language, in tests/whole, and those of the program that check
-texts, as they say.
+"""Tests the tests' own tools, mostly on stand-ins for the program. The runners of cases and of images pass and fail as they should. The
+gate's cost table has the sums computed by hand from given samples of processes. Wrong bodies are tried or skipped as their record says, and
+the prover's answers are judged correctly. Only pairs of programs with equal output have figures, and the right ones. Wrong documents and
+sessions are found. The growth of costs is judged correctly. A random program with a planted difference is minimized to a small one that
+shows it. The reference passes the cases in tests/whole, and those of the program that check texts.
 
     python3 tests/runners/self_test.py [TEXTS.json]
 
-A file of texts with their verdicts, a list of objects with `text` and `expect`, is held against the reference too.
+The optional file of texts with their verdicts, a list of objects with `text` and `expect`, is compared with the reference too.
 """
 import contextlib
 import json
@@ -21,9 +19,7 @@ import sys
 import tempfile
 import unittest.mock
 
-import suite  # first: it says where the references and the generators are
-import answers_tried
-import apart_tried
+import suite  # first: it makes the references and the generators importable
 import differential
 import documents
 import facts
@@ -42,15 +38,23 @@ import wrong
 import wrong_tried
 
 HERE = os.path.dirname(os.path.abspath(__file__))
-# The cases of the program that only check texts, and take little time.
-TEXT_CASES = ["flow", "parsing", "texts", "types"]
+# The cases of the program that only check texts and take little time.
+TEXT_CASES = ["flow", "parsing", "texts", "tokens", "types"]
 
+# Over both stores the stand-in does the same with each image except two: for one its output differs, and for one its count of instructions.
 STAND_IN = """#!/bin/sh
+run() {
+  cat
+  for last; do :; done
+  case "$*" in *--report*) echo '{"instructions": 1}' > "$last";; esac
+  case "$*" in *counts*plain*) echo '{"instructions": 2}' > "$last";; esac
+  case "$*" in *differs*plain*) echo other >&2;; *) echo done >&2;; esac
+}
 case "$1" in
 say) printf '%s' "$2"; echo said >&2; exit 3;;
 echo) cat 2>/dev/null || exit 8; echo done >&2;;
 make) printf '%s' "$3" > "$2"; echo done >&2;;
-run) cat; echo done >&2;;
+run) run "$@";;
 check) case "$(cat "$2")" in good*) echo done >&2;; *) echo 'fault 1 at 1:1' >&2; exit 2;; esac;;
 silent) exit 0;;
 *) echo 'first line' >&2; echo usage >&2; exit 9;;
@@ -126,13 +130,7 @@ closed in out err
 ends 0
 """
 
-# A stand-in for the program that runs an image over a store. Over both stores it does the same with each image but one.
-OVER_STORES = """#!/bin/sh
-cat
-test $# = 5 && case "$5" in differs*) echo "$1" >&2;; *) echo "$2 $3 $4" >&2;; esac
-"""
-
-# Only the last of these cases runs an image with which the stores do otherwise than each other.
+# Only the last two of these cases run an image for which the stores differ.
 STORES = r"""
 == what is no run of an image by limits
 > say run
@@ -151,6 +149,10 @@ ends 0 done
 == an image with which they do not
 bytes differs.elf x
 > run differs.elf
+ends 0 done
+== an image of which they count other instructions
+bytes counts.elf x
+> run counts.elf --calls 7
 ends 0 done
 """
 
@@ -210,37 +212,35 @@ def last_line_of_run(cases, folder, *options):
     return done.stdout.rstrip().split("\n")[-1], done.returncode, done.stdout + done.stderr
 
 
-# What is changed in a document, and has to be found there: a row of each table, numbers, paths and names of files, lines.
+# Changes of documents that must be found: a row of each table, numbers, paths and names of files, lines.
 DRIFTS = [
-    ("README.md", "| `cyc_lex` | the tokens", "| `cyc_lex` | all tokens"),
-    ("README.md", "The code stands in ", "The code stands in 1"),
+    ("docs/ARCHITECTURE.md", "| the tokens of the longest-match rule", "| all tokens of the longest-match rule"),
     ("docs/ARCHITECTURE.md", "| `cyc_lex` |", "| `cyc_lexer` |"),
     ("docs/FIGURES.md", "\n| `cyc_words` | 5", "\n| `cyc_words` | 6"),
-    ("docs/FIGURES.md", "\n| `cyc_runner` | 2", "\n| `cyc_runner` | 3"),
+    ("docs/FIGURES.md", "\n| `cyc_lex` | 6", "\n| `cyc_lex` | 7"),
     ("docs/FIGURES.md", "\n| files above 600 lines | ", "\n| files above 600 lines | 1"),
-    ("docs/WRONG_BODIES.md", "\n| reader forgets its end |", "\n| reader forgets |"),
     ("docs/GUARANTEES.md", "random programs of them: 1", "random programs of them: 2"),
     ("docs/GUARANTEES.md", " small images, one of them", " images, one of them"),
-    ("docs/GUARANTEES.md", "`tests/runners/images.py`", "`tests/runners/pictures.py`"),
+    ("docs/GUARANTEES.md", "`tests/runners/images.py`", "`tests/runners/drawings.py`"),
     ("crates/cyc_select/README.md", "`proofs/relation/Cells`", "`proofs/Cells`"),
     ("crates/cyc_select/README.md", "- Definitions: `Labelled`", "- Definitions: `Labels`"),
     ("crates/cyc_lex/README.md", "`src/runs.rt`", "`src/walks.rt`"),
     ("crates/cyc_lex/README.md", "`NameReading`", "`NamesReading`"),
-    ("crates/cyc_guard/README.md", "| `Held` |", "| `Holds` |"),
+    ("crates/cyc_soundness/README.md", "| `guard/Never` |", "| `guard/Ever` |"),
     ("crates/cyc_check/README.md", "| `functions.rt` |", "| `function.rt` |"),
     ("docs/LANGUAGE.md", "A loop that frees what it does not make again is emptier at its end than at its head:\n\n", ""),
 ]
 
 
 def are_drifts_found():
-    """Whether a document that says something else than the data, or names what is not there, has a fault, and has none as it is."""
+    """Returns true if a document has no fault unchanged, and a fault if it contradicts the data or names a missing file."""
     right = True
     for path, old, new in DRIFTS:
         text = facts.content(path)
         if text.count(old) != 1 or documents.faults_of(path, text) or not documents.faults_of(path, text.replace(old, new)):
             print(f"{path}: {old!r} stands there {text.count(old)} times, or is as well as {new!r}")
             right = False
-    # A crate that is not listed, and a definition that names none of these sources.
+    # A crate that is not listed, and a definition that names no public source.
     listed = facts.crates()
     with unittest.mock.patch.object(facts, "crates", lambda: listed[1:]), unittest.mock.patch.object(facts, "SOURCE", re.compile("System V")):
         if not facts.faults_of_crates() or not facts.faults_of_sources():
@@ -253,8 +253,8 @@ def are_drifts_found():
     return right
 
 
-# Files of proofs with their lemmas, and the names of which these have two statements: not of one that is laid out otherwise, private
-# somewhere or a comment, nor of what a definition or an answer is called.
+# Files of proofs with their lemmas, and the names that have two statements. Layout, privacy and comments make no difference, and
+# definitions and answers do not count.
 PROOFS = {
     "one/proofs/First.antt": "pub same : A\n    → B\nsame = it\n\npub other : A\n\n-- third : A\nabbrev fourth : A\n",
     "two/proofs/topic/Second.antt": "same : A → B\nother : B\nthird : B\nfourth : B\nlast : A\n",
@@ -263,7 +263,7 @@ PROOFS = {
 
 
 def are_lemmas_told_apart(folder):
-    """Whether just the names are found that have different statements in different files."""
+    """Returns true if exactly the names with different statements in different files are found."""
     root = os.path.join(folder, "crates_with_proofs")
     for path, text in PROOFS.items():
         os.makedirs(os.path.dirname(os.path.join(root, path)), exist_ok=True)
@@ -277,7 +277,7 @@ def are_lemmas_told_apart(folder):
 
 
 def are_long_imports_found():
-    """Whether just the file with an import of more characters than can be read is found, and no other line of that length."""
+    """Returns true if exactly the file with a very long import is found, and no other line of that length."""
     names = ", ".join(["name"] * 50)
     lines = {"short": "use Rattle.words.{name}\n", "long": f"ghost use Rattle.words.{{{names}}};\n", "comment": f"-- use {names}\n"}
     found = [fault.split(":")[0] for fault in house.long_imports(lines)]
@@ -286,7 +286,7 @@ def are_long_imports_found():
     return found == ["long"]
 
 
-# Lines that a session shows, and lines that are printed, with whether these are those.
+# Lines that a session shows, printed lines, and whether they match.
 SHOWN_LINES = [
     ("a", "a", True), ("a", "b", False), ("", "a", False), ("a", "", False), ("a", "a|b", False), ("a|..|d", "a|b|c|d", True),
     ("a|..|d", "a|d", True), ("a|..|d", "a|b|c", False), ("a|..|d", "b|d", False), ("..", "", True),
@@ -294,7 +294,7 @@ SHOWN_LINES = [
 
 
 def are_sessions_tried(folder):
-    """Whether what a session prints is compared, each command of a program that answers wrongly fails, and so does a document without one."""
+    """Returns true if sessions are compared: wrong answers of commands fail, and so does a document without a session."""
     right = all(sessions.is_shown(*(lines.split("|") for lines in pair)) == same for *pair, same in SHOWN_LINES)
     program = os.path.join(folder, "wrong_program")
     with open(program, "w", encoding="ascii") as file:
@@ -309,22 +309,22 @@ def are_sessions_tried(folder):
     return right
 
 
-# What the page of what must be trusted is held against, with one text changed: the file, the text, what stands in its place, and what is
-# said then.
+# Changes of a text that docs/TRUSTED.md is compared with: the file, the text, its replacement, and the expected fault.
 UNTRUSTED = [
-    ("cyc_system/specs/FullPreservation.antt", "\nuse ", "\nuse Rattle.cyc_plain.specs.inside.State.{Configuration}\nuse ", "lacks: | `cyc_plain/specs/inside/State.antt`"),
-    ("cyc_system/specs/FullPreservation.antt", "own choice", "choice", "FullPreservation.antt names no public source"),
+    ("cyc_compiler/specs/FullPreservation.antt", "\nuse ", "\nuse Rattle.cyc_plain.specs.inside.State.{Configuration}\nuse ", "lacks: | `cyc_plain/specs/inside/State.antt`"),
+    ("cyc_compiler/specs/FullPreservation.antt", "own choice", "choice", "FullPreservation.antt names no public source"),
     ("cyc_plain/specs/inside.antt", "pub mod State\n", "pub mod Status\n", None),
     ("cyc_words/specs/Seen.antt", "\nabbrev pub ", "\n" * 2_000 + "abbrev pub ", "are to be read"),
 ]
 
 
 def is_reading_watched(folder):
-    """Whether the page of what must be trusted holds as the tree stands, and not where a contract comes to mean a file of a pass, where a
-    definition names no source, or where more is to be read than may be; a list of modules alone changes nothing."""
+    """Returns true if docs/TRUSTED.md passes unchanged and fails after relevant changes. They are: a contract that refers to a file of a
+    pass, a definition that names no source, and too much to read. A list of modules alone changes nothing."""
     room = os.path.join(folder, "trusted")
     shutil.copytree(os.path.join(suite.TESTS, "runners"), os.path.join(room, "tests", "runners"))
-    for part in ("crates.txt", "docs/TRUSTED.md", *(f"crates/{crate}/{kind}" for crate in wrong.stands_on(suite.ROOT) for kind in ("src", "specs"))):
+    sources = [f"crates/{crate}/{kind}" for crate in wrong.stands_on(suite.ROOT) for kind in ("src", "specs")]
+    for part in ("crates.txt", "docs/TRUSTED.md", "tools/processes.py", *sources):
         there, here = os.path.join(suite.ROOT, part), os.path.join(room, part)
         if os.path.isdir(there):
             shutil.copytree(there, here)
@@ -352,18 +352,16 @@ def is_reading_watched(folder):
 
 
 def is_runner_right(folder):
-    for name, text in (("stand_in", STAND_IN), ("over_stores", OVER_STORES)):
-        path = os.path.join(folder, name)
-        with open(path, "w", encoding="utf-8") as file:
-            file.write(text)
-        os.chmod(path, 0o755)
+    path = os.path.join(folder, "stand_in")
+    with open(path, "w", encoding="utf-8") as file:
+        file.write(STAND_IN)
+    os.chmod(path, 0o755)
     is_right = True
-    over = ["--runner", os.path.join(folder, "over_stores")]
     for cases, options, wanted in (
         (GOOD, [], ("6 passed, 0 failed", 0)),
         (BAD, [], ("0 passed, 12 failed", 1)),
-        (STORES, [], ("3 passed, 0 failed", 0)),
-        (STORES, over, ("2 passed, 1 failed", 1)),
+        (STORES, ["--one-store"], ("4 passed, 0 failed", 0)),
+        (STORES, [], ("2 passed, 2 failed", 1)),
     ):
         line, status, all_of_it = last_line_of_run(cases, folder, *options)
         if (line, status) != wanted:
@@ -373,7 +371,7 @@ def is_runner_right(folder):
 
 
 def answered(step, folder, _):
-    """What the reference says, in this process, where the program would be run."""
+    """Returns the reference's answer, computed in this process instead of running the program."""
     with contextlib.chdir(folder):
         output, line, status = reference.answer(step.words, lambda: step.input)
     return subprocess.CompletedProcess(step.words, status, output, (line + "\n").encode("latin-1"))
@@ -386,14 +384,14 @@ def is_case_right(case):
     return not faults
 
 
-# Stand-ins that answer each image wrongly.
+# Stand-ins that give a wrong answer for each image.
 WRONG_MACHINES = {
     "a wrong output": "printf x; echo 'returned 3' >&2; exit 3",
     "a last line that is none of the manual's": "echo 'returned three' >&2; exit 3",
     "no last line": "exit 0",
     "a crash": "kill -SEGV $$",
 }
-# An answer that is wanted, what a program says, and whether that is a fault.
+# An expected answer, the program's answer, and whether that is a fault.
 ENDED, OPEN = (b"x", "returned -1", 255), (b"x", None, None)
 ANSWERS_OF_RUNS = [
     (ENDED, ENDED, False), (ENDED, (b"y", "returned -1", 255), True), (ENDED, (b"x", "returned 255", 255), True),
@@ -406,7 +404,7 @@ ANSWERS_OF_RUNS = [
 
 
 def is_judge_of_images_right(folder):
-    """Whether answers to images are judged as they should be, also those of programs that answer nothing right."""
+    """Returns true if answers for images are judged correctly, also those of programs that give no right answer."""
     right = True
     for wanted, got, is_fault in ANSWERS_OF_RUNS:
         if bool(images.fault_of("run", wanted, got)) != is_fault:
@@ -426,8 +424,8 @@ def is_judge_of_images_right(folder):
 
 
 def is_shrinker_right(folder):
-    """Whether of a random program what is left that shows a planted difference is small, and shows it. The stand-in for the program, in this
-    process, makes images in which `/` stands for each `%`."""
+    """Returns true if a random program with a planted difference is minimized to a small one that shows it. The stand-in for the program
+    makes images in which `/` replaces each `%`."""
 
     def planted(words, given=b""):
         write = lambda _, text, path: reference.write_text(None, text.replace("%", "/"), path)
@@ -439,14 +437,14 @@ def is_shrinker_right(folder):
         text, _ = tried.shrunk(differential.SHRINKING)
         is_same = tried.shows(text) and not tried.shows(text.replace("%", "-"))
     size = sum(1 for _ in shrink.tokens_of(shrink.tree_of(text)))
-    # The least program that prints or returns what an operator gives has 11 tokens.
+    # The smallest program that prints or returns an operator's result has 11 tokens.
     if not is_same or size > 40 or reference.verdict(text) != "done":
         print(f"a program with a planted difference was shrunk to {size} tokens:\n{text}")
         return False
     return True
 
 
-# A stand-in for the program, for dialogs: it compiles nothing, and runs as is put in.
+# A stand-in for the program, for dialogs: it compiles nothing, and runs the given code.
 ASKED = """#!/usr/bin/env python3
 import os, sys
 if sys.argv[1] == "compile":
@@ -457,7 +455,8 @@ value = given[0] if given else -1
 print("returned", value, file=sys.stderr)
 sys.exit(value & 255)
 """
-# What of two dialogs it does: in one all is there from the start, and most of it is left; in the other the input ends behind the prompt.
+# The behaviour in two dialogs: in one all input is there from the start, and most of it is left; in the other the input ends after the
+# prompt.
 WAYS_TO_ASK = {
     "os.write(1, b'A'); given = os.read(0, 8192)": "2 passed, 0 failed",
     "given = os.read(0, 8192); os.write(1, b'A')": "1 passed, 1 failed",
@@ -469,7 +468,7 @@ WAYS_TO_ASK = {
 
 
 def are_dialogs_judged(folder):
-    """Whether a program that asks before it reads, and reads as far ahead as it may, passes its dialogs, and others do not."""
+    """Returns true if a program that asks before it reads passes its dialogs, and other programs fail."""
     right = True
     program = os.path.join(folder, "asked")
     dialogs = [os.path.join(interactive.FOLDER, name + interactive.SUFFIX) for name in ("first", "first_end")]
@@ -477,7 +476,7 @@ def are_dialogs_judged(folder):
         with open(program, "w", encoding="utf-8") as file:
             file.write(ASKED.format(body=body))
         os.chmod(program, 0o755)
-        words = [sys.executable, os.path.join(HERE, "interactive.py"), "--program", program, "--seconds", "3", *dialogs]
+        words = [sys.executable, os.path.join(HERE, "interactive.py"), "--program", program, "--seconds", str(suite.grown(3)), *dialogs]
         done = subprocess.run(words, capture_output=True, text=True)
         if done.stdout.rstrip().split("\n")[-1] != wanted:
             print(f"{body}: interactive.py said\n{done.stdout}{done.stderr}")
@@ -486,7 +485,7 @@ def are_dialogs_judged(folder):
 
 
 def is_text_right(case):
-    """Whether the reference refuses a text as it should, with the limits of an image too."""
+    """Returns true if the reference gives a text the right verdict, also with the limits of an image."""
     try:
         reference.Program(case["text"]).hold_to_sizes()
         verdict = "done"
@@ -498,7 +497,8 @@ def is_text_right(case):
 
 
 def is_program_right(head, text):
-    """Whether the reference refuses a program as its head says, and runs it to this end where it leaves out the rules of that code."""
+    """Returns true if the reference rejects a program as its first line says, and runs it to this end if the rules of that code are
+    disabled."""
     refusal, code = in_trees.refusal_of(head)
     wanted, got = (refusal, head[1]), (reference.verdict(text), in_trees.run_of(text, code))
     if got != wanted:
@@ -517,7 +517,7 @@ def main():
         right = [is_runner_right(folder), is_judge_of_images_right(folder), are_dialogs_judged(folder)]
         right += [are_drifts_found(), are_sessions_tried(folder), are_lemmas_told_apart(folder), are_long_imports_found()]
         right += [is_reading_watched(folder), *wrong_tried.tried(folder)]
-        right += [*answers_tried.tried(folder), *apart_tried.tried(folder), *figures_tried.tried(folder)]
+        right += figures_tried.tried(folder)
         right += needs.tried(folder, os.path.join(folder, "stand_in"))
         right.append(reference.with_room(lambda: is_shrinker_right(folder)))
     right += reference.with_room(lambda: [is_case_right(case) for case in cases] + [is_text_right(case) for case in texts])

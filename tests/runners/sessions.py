@@ -1,13 +1,13 @@
 #!/usr/bin/env python3
-"""Runs the sessions that the documents show, and says where the program prints something else.
+"""Runs the sessions that the documents show, and reports different output.
 
     python3 tests/runners/sessions.py [--program PATH]
 
-A session is lines of a program's block, indented by four spaces, or of the manual's examples: behind `$ ` a command, and below it all
-that a terminal shows then. `..` alone in a line stands for any lines. A document's commands are run by the shell one after another, in
-one folder in which `examples` is the repository's, `cyclone` is the program, and `$?` is what the command before left. A file that `cat`
-shows and that is not there is made of what is shown. Each of the documents has a session, and each session runs `cyclone`. The last line
-is `N passed, M failed`, of commands.
+A session consists of lines in a block indented by four spaces, or in the manual's examples: a command after `$ `, and below it the
+terminal's output. A line with only `..` stands for any lines. A document's commands are run by the shell in sequence, in one folder. There
+`examples` is the repository's folder, `cyclone` is the program, and `$?` is the status of the previous command. A missing file that `cat`
+shows is created with the shown contents. Each of the documents has a session, and each session runs `cyclone`. The last line is `N passed,
+M failed`, of commands.
 """
 import collections
 import os
@@ -17,25 +17,25 @@ import tempfile
 
 import suite
 
-DOCUMENTS = ["README.md", "docs/LANGUAGE.md", "docs/FROM_C.md", "docs/cyclone.1"]
+DOCUMENTS = ["README.md", "docs/TUTORIAL.md", "docs/LANGUAGE.md", "docs/FROM_C.md", "docs/cyclone.1"]
 PROMPT = "$ "
 ANY = ".."
-# What the manual's escapes stand for, and the lines that begin and end its examples.
+# The characters that the manual's escapes stand for, and the lines that begin and end its examples.
 ESCAPES = {r"\-": "-", r"\(rs": "\\", r"\(aq": "'"}
 ESCAPE = re.compile(r"\\(?:\(..|.)")
 
-# A command with the line of the document that it stands in, and the lines that are shown below it.
+# A command with its line in the document, and the lines shown below it.
 Command = collections.namedtuple("Command", "line words shown")
 
 
 def lines_of_page(text):
-    """The lines of a document's blocks, each with its number; an empty line goes on with a block, and another line ends it."""
+    """Returns the lines of a document's blocks, each with its number; an empty line continues a block, and another line ends it."""
     for number, line in enumerate(text.split("\n"), 1):
         yield number, line[4:] if line.startswith("    ") else None if line else ""
 
 
 def lines_of_manual(text):
-    """The lines of the manual's examples."""
+    """Returns the lines of the manual's examples."""
     is_shown = False
     for number, line in enumerate(text.split("\n"), 1):
         if line in (".nf", ".fi"):
@@ -44,7 +44,7 @@ def lines_of_manual(text):
 
 
 def commands_of(path):
-    """The commands of a document, in order."""
+    """Returns the commands of a document, in order."""
     with open(os.path.join(suite.ROOT, path), encoding="utf-8") as file:
         text = file.read()
     found, is_open = [], False
@@ -57,14 +57,14 @@ def commands_of(path):
         elif is_open:
             found[-1].shown.append(line)
     for command in found:
-        # Empty lines behind a block stand between it and what follows.
+        # Empty lines after a block separate it from the following text.
         while command.shown and not command.shown[-1]:
             command.shown.pop()
     return found
 
 
 def is_shown(wanted, got):
-    """Whether lines are as a document shows them."""
+    """Returns true if lines are as a document shows them."""
     if ANY not in wanted:
         return wanted == got
     at = wanted.index(ANY)
@@ -86,18 +86,19 @@ class Session:
         os.symlink(program, os.path.join(folder, "bin", "cyclone"))
         self.room = os.path.join(folder, "room")
         os.mkdir(self.room)
-        os.symlink(os.path.join(suite.ROOT, "examples"), os.path.join(self.room, "examples"))
+        for name in ("examples", "lib"):
+            os.symlink(os.path.join(suite.ROOT, name), os.path.join(self.room, name))
 
     def faults(self, command):
-        """What a command shows otherwise."""
+        """Returns the differences between a command's output and the shown lines."""
         cat = re.fullmatch(r"cat ([\w./]+)", command.words)
         if cat and not os.path.exists(os.path.join(self.room, cat[1])):
             with open(os.path.join(self.room, cat[1]), "w", encoding="utf-8") as file:
                 file.write("".join(line + "\n" for line in command.shown))
         paths = os.path.join(self.folder, "bin") + os.pathsep + os.environ.get("PATH", os.defpath)
-        done = subprocess.run(
+        done = suite.run(
             ["sh", "-c", f"(exit {self.status})\n{command.words}"], cwd=self.room, env={**os.environ, "PATH": paths},
-            stdin=subprocess.DEVNULL, stdout=subprocess.PIPE, stderr=subprocess.STDOUT, timeout=suite.SECONDS)
+            stdin=subprocess.DEVNULL, stderr=subprocess.STDOUT)
         self.status = done.returncode
         got = done.stdout.decode("utf-8", "replace").split("\n")
         if got[-1] == "":
@@ -106,7 +107,7 @@ class Session:
 
 
 def things_of(path, commands, session):
-    """What is tried of a document, each with its name: its commands, or that it has none that runs the program."""
+    """Yields the tests of a document, each with its name: its commands, or that none runs the program."""
     if not any(runs_program(command) for command in commands):
         yield path, lambda: ["it has no session in which the program is run"]
     for command in commands:

@@ -1,27 +1,26 @@
-"""Makes a program's text smaller while it still shows what it is to show: functions, statements and operands are taken out.
+"""Minimizes a program's text that shows some behaviour: removes functions, statements and operands while the behaviour stays.
 
-What may go is told by brackets and marks alone, so many texts that are tried are no programs. Whoever asks says which of them still
-show it.
+Parts are found only by brackets and signs, so many candidates are no programs. The caller decides which of them still show the behaviour.
 """
 import re
 import time
 
-# Spaces, a comment, or a token.
+# A run of spaces, a comment, or a token.
 TOKEN = re.compile(r"\s+|//[^\n]*|/\*.*?\*/|(`?[A-Za-z_]\w*|0[xX]\w+|\d+|'(?:\\.|[^\\])'|:=:|->|<<|>>|[=!<>]=|&&|\|\||.)", re.S)
 CLOSING = {"(": ")", "{": "}", "[": "]"}
-# What a bracket stands right behind, and what stands for a call of a function that goes.
+# A name just before a bracket, and the replacement for a call of a removed function.
 NAME = re.compile(r"(?!(?:if|while|for|return|catch|case|throw|new)$)[A-Za-z_]\w*")
 VALUES = ("0", "NULL")
 
 
 class Group:
-    """What stands in brackets, with these."""
+    """The contents of a pair of brackets, with the brackets."""
 
     def __init__(self, first, nodes):
         self.first, self.nodes, self.last = first, nodes, CLOSING[first]
 
     def holding(self, nodes):
-        """Such brackets about something else."""
+        """Returns a group with the same brackets and other contents."""
         return Group(self.first, nodes)
 
 
@@ -30,7 +29,7 @@ def is_group(node, first):
 
 
 def tree_of(text):
-    """The tokens of a text, those in brackets in groups. None where the brackets do not match."""
+    """Returns the tokens of a text, with those in brackets as groups; None if the brackets do not match."""
     stack = [Group("{", [])]
     for token in filter(None, (match[1] for match in TOKEN.finditer(text))):
         if token in CLOSING:
@@ -46,7 +45,7 @@ def tree_of(text):
 
 
 def tokens_of(nodes):
-    """The tokens of a tree, in order."""
+    """Returns the tokens of a tree, in order."""
     for node in nodes:
         if isinstance(node, Group):
             yield node.first
@@ -57,7 +56,7 @@ def tokens_of(nodes):
 
 
 def text_of(nodes):
-    """The text of a tree, a statement in each line."""
+    """Returns the text of a tree, with one statement on each line."""
     return "\n".join(lines_of(nodes, 0)) + "\n"
 
 
@@ -84,13 +83,14 @@ def line(words, depth):
 
 
 def statements_of(nodes):
-    """Where the statements or declarations of a list begin, and where the last one ends: each ends with `;` or with a group in braces."""
+    """Returns where the statements or declarations of a list begin, and where the last one ends: each ends with `;` or with a group in
+    braces."""
     ends = [at + 1 for at, node in enumerate(nodes) if node == ";" or is_group(node, "{")]
     return [0] + ends + [len(nodes)] * (([0] + ends)[-1] != len(nodes))
 
 
 def items_of(group):
-    """The lists between the commas of a group."""
+    """Returns the lists between the commas of a group."""
     items = [[]]
     for node in group.nodes:
         if node == ",":
@@ -101,7 +101,7 @@ def items_of(group):
 
 
 def with_calls(nodes, name, made):
-    """The tree where what `made` gives of a name and the group behind it stands in the place of the two."""
+    """Returns the tree with each name and following group replaced by the result of `made` on them."""
     found = []
     for node in nodes:
         if isinstance(node, Group):
@@ -114,7 +114,7 @@ def with_calls(nodes, name, made):
 
 
 class Search:
-    """The smallest text that was found so far, as a tree, and what is tried to make it smaller, until the time is over."""
+    """The smallest text found so far, as a tree, and the ways to make it smaller, until the time is over."""
 
     def __init__(self, tree, shows, end):
         self.tree, self.shows, self.end = tree, shows, end
@@ -124,7 +124,7 @@ class Search:
         return time.monotonic() > self.end
 
     def attempt(self, tree):
-        """Whether another tree shows it, which is then the smallest."""
+        """Returns true if another tree shows the behaviour; then it is the smallest."""
         if self.is_over():
             return False
         text = text_of(tree)
@@ -147,7 +147,7 @@ class Search:
                 self.without_parameters()
 
     def in_each_list(self, way, nodes, put):
-        """Has a way make the lists of a tree smaller, the outer ones first; the list that is left. `put` makes the whole tree of it."""
+        """Applies a way to the lists of a tree, the outer ones first, and returns the remaining list. `put` rebuilds the whole tree."""
         nodes = way(nodes, put)
         for at, node in enumerate(nodes):
             if isinstance(node, Group) and not self.is_over():
@@ -156,7 +156,7 @@ class Search:
         return nodes
 
     def without_functions(self):
-        """Takes out functions, the last ones first, with a number or NULL in the place of their calls."""
+        """Removes functions, the last ones first, and replaces their calls by a number or NULL."""
         for at in reversed(range(len(statements_of(self.tree)) - 1)):
             first, end = statements_of(self.tree)[at: at + 2]
             parts = self.tree[first:end]
@@ -165,7 +165,7 @@ class Search:
                 any(self.attempt(with_calls(rest, parts[-3], lambda _, value=value: [value])) for value in VALUES)
 
     def without_parameters(self):
-        """Takes out parameters of functions, with the arguments for them, many first."""
+        """Removes parameters of functions with their arguments, many at first."""
         for name, group in [(name, group) for name, group in zip(self.tree, self.tree[1:]) if is_group(group, "(")]:
             left = count = len(items_of(group))
             while count > 0:
@@ -175,7 +175,7 @@ class Search:
                 count //= 2
 
     def without_statements(self, nodes, put):
-        """Takes out statements that stand side by side, many and the last ones first."""
+        """Removes adjacent statements, many at first and the last ones first."""
         left = len(statements_of(nodes)) - 1
         for count in sorted({left, left - 1, *(left >> part for part in range(1, 8)), 2, 1}, reverse=True):
             at = len(statements_of(nodes)) - 1 - count
@@ -188,7 +188,7 @@ class Search:
         return nodes
 
     def without_blocks(self, nodes, put):
-        """Puts what stands in a block in the place of the statement that has it."""
+        """Replaces a statement by the contents of its block."""
         for at in reversed(range(len(statements_of(nodes)) - 1)):
             first, end = statements_of(nodes)[at: at + 2]
             if is_group(nodes[end - 1], "{"):
@@ -197,8 +197,7 @@ class Search:
         return nodes
 
     def without_operands(self, nodes, put):
-        """Puts a part of a call, or of what stands in brackets, in its place; takes out tokens and groups that stand side by side; and puts
-        numbers in their place."""
+        """Replaces a call or a bracketed expression by a part of it; removes adjacent tokens and groups, or replaces them by numbers."""
         at = len(nodes)
         while at > 0:
             at -= 1
@@ -217,14 +216,14 @@ class Search:
 
 
 def without_items(group, first, end):
-    """The group without some of what stands between its commas."""
+    """Returns the group without some of its comma-separated items."""
     items = items_of(group)
     left = items[:first] + items[end:]
     return group.holding([node for item in left for node in [",", *item]][1:])
 
 
 def without_lines(text, shows, end):
-    """The text without some of its lines: one whose layout matters, or whose brackets do not match."""
+    """Returns the text without some of its lines, for a text whose layout matters or whose brackets do not match."""
     lines = text.split("\n")
     count = len(lines) // 2
     while count > 0:
@@ -238,7 +237,7 @@ def without_lines(text, shows, end):
 
 
 def shrunk(text, shows, seconds):
-    """A small text made of one of which `shows` holds, and of which that holds too: the smallest that was found in so many seconds."""
+    """Returns the smallest text found in so many seconds for which `shows` holds, derived from one for which it holds."""
     end = time.monotonic() + seconds
     tree = tree_of(text)
     if tree is None or not shows(text_of(tree)):

@@ -1,28 +1,37 @@
-"""What the tests of the program share: the program, the stack that it is given, the commands that they need, how it is run, how values that
-differ are shown, and how a test ends."""
+"""The common part of the tests: the program and its stack limit, required commands, running commands with time limits and over both stores,
+printing differences, and ending a test."""
 import argparse
+import contextlib
+import json
 import os
 import resource
 import shutil
+import signal
 import subprocess
 import sys
+import tempfile
+import threading
+import time
 
 TESTS = os.path.dirname(os.path.dirname(os.path.abspath(__file__)))
 ROOT = os.path.dirname(TESTS)
-# Who imports this finds the references, the generators and the tools too.
+# A module that imports this one can also import the references, the generators and the tools.
 sys.path += [os.path.join(TESTS, "references"), os.path.join(TESTS, "generators"), os.path.join(ROOT, "tools")]
+from processes import family  # noqa: E402 it is in one of these folders
 PROGRAM = os.path.join(ROOT, "crates", "cyclone", "out", "cyclone")
-# What runs an image over each of the two stores.
-RUNNER = os.path.join(ROOT, "crates", "cyc_runner", "out", "cyc_runner")
-STORES = ("plain", "paged")
-SECONDS = 60
-# The stack of each program that is run, in MB of 2^20 bytes: half of what a shell gives.
+# The two stores that `run` can use.
+STORES = ("plain", "pages")
+# The limit of processor seconds of a command, and the factor for wall-clock seconds: other work may have the processors meanwhile.
+SECONDS, CLOCK = 60, 20
+# The stack of each program that is run, in MB of 2^20 bytes: half of a shell's default.
 STACK = 4
-# The commands that tests run beside the program, and the packages that have them.
+# The commands that tests run in addition to the program, and their packages.
 TOOLS = os.path.join(TESTS, "tools.txt")
-# What the name of a module begins with there, and where Debian's python3 has its modules, as tools.sh knows too.
+# The prefix of a module's name in that file, and the folder of Debian's python3 modules, as in tools.sh.
 MODULE, MODULES = "python3-", "/usr/lib/python3/dist-packages"
-# A long value is shown by its two ends, and two that differ by so many bytes about the first place where they do.
+# The prefix and the folder of JavaScript modules for pages.
+LIBRARY, LIBRARIES = "libjs-", "/usr/share/javascript"
+# A long value is shown by its two ends; two different long values by so many bytes around the first difference.
 SHOWN = 400
 ABOUT = 60
 
@@ -33,31 +42,95 @@ def shown(value):
 
 
 def last_line(error):
-    """The last line on standard error, without its line feed; empty where nothing was written."""
+    """Returns the last line on standard error, without its line feed; empty if nothing was written."""
     if error and not error.endswith(b"\n"):
         return error.decode("latin-1") + " (and no line feed)"
     return error[:-1].split(b"\n")[-1].decode("latin-1")
 
 
+class Watch:
+    """A context in which a process is killed if it takes too long; `late` is set then. Wall-clock time alone kills no process."""
+
+    def __init__(self, process, seconds=SECONDS):
+        self.process, self.seconds, self.late, self.done = process, seconds, False, threading.Event()
+        self.thread = threading.Thread(target=self.look, daemon=True)
+
+    def look(self):
+        end = time.monotonic() + CLOCK * self.seconds
+        while not self.done.wait(min(1.0, self.seconds)):
+            those = family(self.process.pid)
+            if time.monotonic() > end or sum(those.values()) > self.seconds:
+                self.late = self.process.poll() is None
+                for pid in those if self.late else ():
+                    with contextlib.suppress(ProcessLookupError):
+                        os.kill(pid, signal.SIGKILL)
+                return
+
+    def __enter__(self):
+        self.thread.start()
+        return self
+
+    def __exit__(self, *_):
+        self.done.set()
+        self.thread.join()
+
+
+def run(words, given=b"", seconds=SECONDS, **options):
+    """Runs a command to its end, as `subprocess.run` does, and captures its output. Raises `TimeoutExpired` if it takes too long."""
+    streams = {"stdin": subprocess.PIPE, "stdout": subprocess.PIPE, "stderr": subprocess.PIPE}
+    with subprocess.Popen(words, **{**streams, **options}) as process:
+        with Watch(process, seconds) as watch:
+            output, error = process.communicate(given if process.stdin else None)
+        if watch.late:
+            raise subprocess.TimeoutExpired(words, seconds, output, error)
+        return subprocess.CompletedProcess(words, process.returncode, output, error)
+
+
+def grown(seconds):
+    """Returns a number of wall-clock seconds for a tool, extended by the load of the machine."""
+    return seconds * max(1, round(os.getloadavg()[0]))
+
+
 def answer(words, given=b""):
-    """The standard output, the last line on standard error, and the exit status."""
-    done = subprocess.run(words, input=given, capture_output=True, timeout=SECONDS)
+    """Returns the standard output, the last line on standard error, and the exit status."""
+    done = run(words, given)
     return done.stdout, last_line(done.stderr), done.returncode
 
 
 def said(words, given=b""):
-    """The lines on standard error."""
-    done = subprocess.run(words, input=given, capture_output=True, timeout=SECONDS)
-    return done.stderr.decode("latin-1").split("\n")[:-1]
+    """Returns the lines on standard error."""
+    return run(words, given).stderr.decode("latin-1").split("\n")[:-1]
+
+
+def over_stores(program, words, given=b"", cwd=None):
+    """Runs an image over each store. Returns the output, the last line, the status and the report with the count of instructions; None if
+    nothing was run."""
+    found = []
+    with tempfile.TemporaryDirectory(prefix="cyclone-stores-") as folder:
+        report = os.path.join(folder, "report.json")
+        for store in STORES:
+            if os.path.exists(report):
+                os.remove(report)
+            done = run([program, "run", *words, "--store", store, "--report", report], given, cwd=cwd)
+            found.append((done.stdout, last_line(done.stderr), done.returncode, report_in(report)))
+    return found
+
+
+def report_in(path):
+    """Returns the contents of a report, or None if there is none."""
+    if not os.path.exists(path):
+        return None
+    with open(path, encoding="ascii") as file:
+        return json.load(file)
 
 
 def difference(what, wanted, got):
-    """What is otherwise than wanted, in words, and where that begins."""
+    """Returns the difference from the expected value, in words, with its position."""
     return f"{what}\n  wanted {shown(wanted)}\n  got    {shown(got)}{parting(wanted, got)}"
 
 
 def parting(wanted, got):
-    """What stands about the first place where two values differ; nothing where both are seen at a glance."""
+    """Returns the part around the first difference of two values; empty if both values are short."""
     if isinstance(wanted, (tuple, list)) and type(wanted) is type(got):
         lengths = f"\n  {len(wanted)} parts, and {len(got)} in place of them" if len(wanted) != len(got) else ""
         return next((parting(one, other) for one, other in zip(wanted, got) if one != other), lengths)
@@ -70,39 +143,51 @@ def parting(wanted, got):
 
 
 def command_line(doc):
-    """A parser of a test's command line, with the first line of its text."""
+    """Returns a parser of a test's command line, described by the first line of its docstring."""
     parser = argparse.ArgumentParser(description=doc.split("\n")[0])
     parser.add_argument("--program", default=PROGRAM)
     parser.add_argument("--stack", type=int, default=STACK, metavar="MB", help="a program that is not optimised needs more than 4")
     return parser
 
 
+def command_line_of_runs(doc):
+    """Returns a parser for a test that runs images over both stores."""
+    parser = command_line(doc)
+    parser.add_argument("--one-store", action="store_true", help="run images over the usual store alone")
+    return parser
+
+
 def packages():
-    """The commands that tests run beside the program, each with the packages in which Debian has it."""
+    """Returns the commands that tests run in addition to the program, each with its Debian packages."""
     with open(TOOLS, encoding="ascii") as file:
         return dict(line.strip().split(" ", 1) for line in file if not line.startswith("#"))
 
 
 def is_there(tool):
-    """Whether there is a command, or a module of Debian's python3 where the name begins so."""
+    """Returns true if a command is installed, or a module of Debian's python3 or for pages if the name has that prefix."""
     if tool.startswith(MODULE):
         return os.path.exists(os.path.join(os.environ.get("MODULES", MODULES), tool.removeprefix(MODULE)))
+    if tool.startswith(LIBRARY):
+        return os.path.exists(os.path.join(os.environ.get("LIBRARIES", LIBRARIES), tool.removeprefix(LIBRARY)))
     return shutil.which(tool) is not None
 
 
+def kind_of(tool):
+    return "module" if tool.startswith((MODULE, LIBRARY)) else "command"
+
+
 def need(tools, count):
-    """Ends the test where one of these commands or modules is missing: all `count` failed."""
+    """Ends the test if one of these commands or modules is missing: all `count` failed."""
     missing = [tool for tool in tools if not is_there(tool)]
     for tool in missing:
         there = packages().get(tool)
-        kind = "module" if tool.startswith(MODULE) else "command"
-        print(f"there is no {kind} {tool}" + (f": Debian has it in {there}" if there else ""))
+        print(f"there is no {kind_of(tool)} {tool}" + (f": Debian has it in {there}" if there else ""))
     if missing:
         end(0, count)
 
 
 def limit_stack(megabytes):
-    """Limits the stack of every program that is run from here on. One that needs more may ask for it."""
+    """Limits the stack of every program that is run after this call. A program that needs more may request it."""
     _, most = resource.getrlimit(resource.RLIMIT_STACK)
     wanted = megabytes * 1024 * 1024
     stack = wanted if most == resource.RLIM_INFINITY else min(wanted, most)
@@ -110,24 +195,13 @@ def limit_stack(megabytes):
 
 
 def program_of(options, count):
-    """The program's path, with the stack limited. Where there is no program, the test ends, and all `count` failed."""
+    """Returns the program's path, with the stack limited. If there is no program, the test ends, and all `count` failed."""
     program = os.path.abspath(options.program)
     if not os.access(program, os.X_OK):
         print(f"there is no program {program}: `make build` proves and builds it")
         end(0, count)
     limit_stack(options.stack)
     return program
-
-
-def runner_of(options, count):
-    """The path of what runs images over both stores: that of `--runner`, or of the program that is built where that is the one tried. Of
-    another program there is none but by its name. Where what is named is not there, the test ends, and all `count` failed."""
-    named = options.runner or (RUNNER if os.path.abspath(options.program) == PROGRAM else None)
-    runner = named and os.path.abspath(named)
-    if runner and not os.access(runner, os.X_OK):
-        print(f"there is no program {runner}: `make cases` builds it")
-        end(0, count)
-    return runner
 
 
 def try_each(things, name_of, faults_of):
@@ -143,7 +217,7 @@ def try_each(things, name_of, faults_of):
 
 
 def end(passed, failed, left_out=None):
-    """Ends the test: its last line, which names what was left out, and a status that says whether all passed. Where nothing was tried,
-    nothing passed."""
+    """Ends the test: prints the last line, which names excluded tools, and exits with a status that tells whether all passed. If nothing
+    was tried, nothing passed."""
     print(f"{passed} passed, {failed} failed" + (f"; left out: {left_out}" if left_out else ""))
     sys.exit(0 if passed and not failed else 1)

@@ -1,24 +1,24 @@
 #!/usr/bin/env python3
-"""What is told of a refused text behind its first fault, and what `--json` prints, beside what a person reads.
+"""Tests the diagnostics on a rejected text after its first fault, and compares the output of `--json` with the text for people.
 
     python3 tests/runners/told.py [--program PATH] [--count N]
 
-The texts are those of the cases that stand on one line (`? fault .. | TEXT`), the smallest ones of docs/codes.txt and those of
-docs/warnings.txt. Two texts that are refused stand below each other, the names of each made its own, with a `main` behind them: that is
-a text with two mistakes. The line of the first one is made blank, as by hand, and what is refused then is what must be told behind the
-first, word for word. Where nothing is told behind the first, that has to be one of a head or a token.
+The texts are those of the cases on one line (`? fault .. | TEXT`), the smallest ones of docs/codes.txt and those of docs/warnings.txt. Two
+rejected texts are concatenated, each with its own names, followed by a `main`: that is a text with two mistakes. If the first text's line
+is blanked out, the fault of the rest must be reported word for word after the first fault. If nothing is reported after the first fault,
+that fault must be one of a declaration or a token.
 
-Each text is checked with `--json` too. The objects are those of the refusals and warnings that a person reads, with the same words, the
-code's name in docs/codes.txt or the warning's in docs/warnings.txt, and the end of the token that stands there, by the reference's tokens
-(tests/references). An edit mends the text: it is refused no more, or elsewhere. --count N takes N texts of each kind from all over;
-all, where it is left out. The last line is `N passed, M failed`, of texts.
+Each text is checked with `--json` too. The objects must be those of the faults and warnings for people, with the same words. They also have
+the code's name in docs/codes.txt or the warning's in docs/warnings.txt, and the end of the token by the reference's lexer
+(tests/references). An edit repairs the text: it is accepted, or rejected at another place. --count N takes N evenly spread texts of each
+kind; all by default. The last line is `N passed, M failed`, of texts.
 """
 import json
 import os
 import re
 import tempfile
 
-import suite  # first: it says where the references and the generators are
+import suite  # first: it makes the references and the generators importable
 import codes
 import run
 import warned
@@ -28,18 +28,18 @@ ROW = re.compile(r"^\? fault (\d+) at \d+:\d+ \| (.*)$")
 KEYWORDS = set("""int char void struct datatype exn region region_t uregion_key_t open let alias NewDynamicRegion new_ukey new rnew for if else
 while return break continue throw try catch case default NULL numelts ufree free_ukey unique_region heap_region""".split())
 BEFORE = {"putchar", "getchar", "Null_Exception", "Array_bounds", "Array_size", "Div_zero"}
-# A name or a region name, or a number or a character, in which no name stands.
+# A name or a region name; or a number or a character, which contain no names.
 WORD = re.compile(r"'(?:\\.|[^'])'|[0-9][A-Za-z0-9_]*|`?[A-Za-z_][A-Za-z0-9_]*")
 HEADLINE = re.compile(r"^text\.cyc:(\d+):(\d+): (.*)$")
 FURTHER = "further, if that is mended:"
 MEMBERS = ["kind", "rule", "code", "first", "file", "line", "column", "endLine", "endColumn", "message", "detail", "hint", "edit", "related"]
 BODIES = set(range(20, 44)) - {30}
-# The tokens of the language, as docs/LANGUAGE.md has them, and what begins none.
+# The tokens of the language, as in docs/LANGUAGE.md, and a byte that begins none.
 TOKEN = re.compile(rb"`?[A-Za-z_][A-Za-z0-9_]*|0[xX][0-9a-fA-F]+|[0-9]+|'(?:\\.|[^'])'|:=:|&&|\|\||[=!<>]=|<<|>>|->|/\*|.", re.DOTALL)
 
 
 def rows():
-    """The texts of the cases that stand on one line, and the smallest texts of codes, each with its code."""
+    """Returns the one-line texts of the cases, and the smallest texts of codes, each with its code."""
     found = {}
     for name in sorted(os.listdir(CASES)):
         with open(os.path.join(CASES, name), encoding="utf-8") as file:
@@ -54,7 +54,7 @@ def rows():
 
 
 def own(text, mark):
-    """A text whose names are its own, so that it stands beside another one. The words of the language stay."""
+    """Returns a text with renamed names, so that it can be combined with another one. Keywords and built-in names stay."""
     def renamed(match):
         name = match.group(0)
         stays = name[0] in "'0123456789" or name in KEYWORDS or name in BEFORE or name in ("`H", "`U")
@@ -63,14 +63,14 @@ def own(text, mark):
 
 
 def said_of(program, text):
-    """The lines on standard error of `check`."""
+    """Returns the lines on standard error of `check`."""
     with open("text.cyc", "w", encoding="latin-1") as file:
         file.write(text)
     return suite.said([program, "check", "text.cyc"])
 
 
 class Message:
-    """A message for a person."""
+    """A diagnostic message for people."""
 
     def __init__(self, lines):
         match = HEADLINE.match(lines[0])
@@ -84,7 +84,7 @@ class Message:
 
 
 def messages_of(lines):
-    """The messages of a refused text: the first one, and those behind it."""
+    """Returns the messages on a rejected text: the first one, and the further ones."""
     found, is_noted = [], False
     for line in lines[:-1]:
         if HEADLINE.match(line) and not is_noted:
@@ -92,16 +92,16 @@ def messages_of(lines):
             is_noted = True
         elif line != FURTHER:
             found[-1].append(line)
-        # A place within a message belongs to it: the hint ends it.
+        # A place within a message belongs to the message; the hint ends it.
         is_noted = is_noted and not line.startswith("    hint: ")
     return [Message(block) for block in found]
 
 
-# ---- behind the first
+# ---- faults after the first
 
 
 class Pair:
-    """Two texts that are refused, below each other."""
+    """Two rejected texts, one after the other."""
 
     def __init__(self, one, other):
         self.codes = one[1], other[1]
@@ -111,13 +111,13 @@ class Pair:
     def faults(self, program):
         lines = said_of(program, "\n".join(self.lines))
         found = messages_of(lines)
-        # A mistake that hangs on a name of the language is none under a name of its own.
+        # A mistake in the use of a built-in name is none if that name is renamed.
         first = found[0].place[0] if found else 3
         if first > 2:
             return [], False
         mended = [line if number != first else "" for number, line in enumerate(self.lines, 1)]
         wanted = messages_of(said_of(program, "\n".join(mended)))
-        # The first one's line has further mistakes, which are gone with it.
+        # The first text's line may have further mistakes, which are blanked out with it.
         behind = [message for message in found[1:] if message.place[0] != first]
         said, due = ([self.compared(message) for message in messages] for messages in (behind, wanted))
         if not said and (self.codes[first - 1] not in BODIES or not self.is_in_body(found[0])):
@@ -125,24 +125,24 @@ class Pair:
         return ([] if said == due else [suite.difference("behind the first", due, said)]), bool(said)
 
     def compared(self, message):
-        """The lines of a message. The hint on a token goes by what stands before it too, which may be what was made blank."""
+        """Returns the lines of a message without hints that depend on preceding tokens, which may have been blanked out."""
         of_body = any(code in BODIES for code in self.codes)
         return message.lines if of_body else [line for line in message.lines if not line.startswith("    hint: ")]
 
     def is_in_body(self, message):
-        """Whether a refusal stands in the body of a function: in braces that no struct and no effect has before it."""
+        """Returns true if a fault is in the body of a function: in braces that belong to no struct and no effect."""
         line, column = message.place
         before = self.lines[line - 1][:column - 1]
         return re.search(r"\)\s*\{(?:[^{}]|\{[^{}]*\})*$", before) is not None
 
 
 def spread(things, count):
-    """So many of the things, from all of them; all, where no number is given."""
+    """Returns so many of the things, evenly spread; all if no number is given."""
     return things if count is None else things[::max(1, len(things) // count)][:count]
 
 
 def pairs(texts, count):
-    """Each text with the one behind it, of those that stand on one line, have a declaration and have no `main` to miss."""
+    """Yields each one-line text with the next one, if they have a declaration and need no `main`."""
     kept = [text for text in texts if not re.search("\n|//", text[0]) and re.search("[;{]", text[0]) and text[1] not in (4, 5, 6, 11, 30)]
     of_bodies = [text for text in kept if text[1] in BODIES]
     others = [text for text in kept if text[1] not in BODIES]
@@ -153,7 +153,7 @@ def pairs(texts, count):
 
 
 def end_of(text, place):
-    """Where the token at a place of a text ends, by a second reading of tokens."""
+    """Returns the end of the token at a place of a text, by an independent lexer."""
     line, column = place
     row = text.split("\n")[line - 1].encode("latin-1") if line <= text.count("\n") + 1 else b""
     match = TOKEN.match(row, column - 1)
@@ -161,7 +161,7 @@ def end_of(text, place):
 
 
 def mended(text, edit):
-    """A text with an edit made."""
+    """Returns a text with an edit applied."""
     lines = text.split("\n")
     line = lines[edit["line"] - 1]
     lines[edit["line"] - 1] = line[:edit["column"] - 1] + edit["text"] + line[edit["endColumn"] - 1:]
@@ -169,7 +169,7 @@ def mended(text, edit):
 
 
 class Told:
-    """A text, and what is told of it."""
+    """A text, and the diagnostics on it."""
 
     def __init__(self, text, names):
         self.name, self.text, self.names = repr(text), text, names
@@ -238,8 +238,9 @@ class Told:
         faults = [] if got == wanted else [suite.difference("warnings", wanted, got)]
         for entry in told:
             plain = (entry["kind"], entry["code"], entry["first"], entry["hint"], entry["edit"], entry["related"])
-            if plain != ("warning", None, False, None, None, []) or self.names.get(entry["message"]) != entry["rule"]:
-                faults.append(suite.difference("a warning", self.names.get(entry["message"]), entry))
+            rule = next((row.name for row in warned.rows() if row.is_said_by(entry["message"])), None)
+            if plain != ("warning", None, False, None, None, []) or rule != entry["rule"]:
+                faults.append(suite.difference("a warning", rule, entry))
             end = (entry["endLine"], entry["endColumn"])
             if end != end_of(self.text, (entry["line"], entry["column"])):
                 faults.append(suite.difference("its end", end_of(self.text, (entry["line"], entry["column"])), end))
@@ -247,7 +248,7 @@ class Told:
 
 
 class Share:
-    """How many pairs told something behind the first: so many at least."""
+    """Checks that at least so many pairs have a further diagnostic."""
 
     name = "the share of pairs of which a second refusal is told"
 
@@ -263,7 +264,7 @@ def main():
     parser.add_argument("--count", type=int, default=None)
     options = parser.parse_args()
     program = suite.program_of(options, 1)
-    names = {code.number: code.name for code in codes.codes()} | {row.words: row.name for row in warned.rows()}
+    names = {code.number: code.name for code in codes.codes()}
     texts = rows()
     told = [Told(text, names) for text, _ in spread(texts, options.count)] + [Told(row.text, names) for row in warned.rows()]
     seconds = []

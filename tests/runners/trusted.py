@@ -1,13 +1,14 @@
 #!/usr/bin/env python3
-"""Compares docs/TRUSTED.md with what the contracts of the public calls mean: the files of definitions that an auditor reads.
+"""Compares docs/TRUSTED.md with the definitions that the contracts of the public calls use: the files that an auditor must read.
 
     python3 tests/runners/trusted.py [--write]
 
-A contract means the definitions that its clauses name, by the `ghost use` lines of its file; those of the views of the types and of the
-traits in its signature; and what these files use in turn. A path through `specs.declared` or `specs.contracts` leads to a file of
-`src`, whose types and constants are read there, as the types and traits of the signature are. --write makes the tables of docs/TRUSTED.md of that. The head of each file that is read names its
-public source, or says that it is this project's own choice. A file of `specs` is one that such a contract means, or stands in
-`specs/inside`. What `compile` means has a bound. The last line is `N passed, M failed`, of calls, files, crates and that bound.
+A contract uses the definitions that its clauses name, by the `ghost use` lines of its file. It also uses those of the views of types and of
+the traits in its signature, and all definitions that these files use in turn. A path through `specs.declared` or `specs.contracts` names a
+file of `src`, whose types and constants are read there, as are the types and traits of the signature. --write generates the tables of
+docs/TRUSTED.md. The first comment of each such file must name a public source, or say that the file is this project's own choice. A file of
+`specs` outside `specs/inside` must be used by such a contract. The definitions of `compile` have a limited size. The last line is `N
+passed, M failed`, of calls, files, crates and that limit.
 """
 import argparse
 import functools
@@ -19,26 +20,27 @@ import suite
 
 PAGE = os.path.join(suite.ROOT, "docs", "TRUSTED.md")
 CRATES = os.path.join(suite.ROOT, "crates")
-# The public calls: the mark in the tables, the name, the crate, and whose method it is, if it is one.
+# The public calls: the symbol in the tables, the name, the crate, and the type of a method's receiver, if any.
 CALLS = (
-    ("a", "accept", "cyc_system", None),
-    ("c", "compile", "cyc_system", None),
-    ("c", "compile_with", "cyc_system", None),
-    ("b", "bounds", "cyc_system", None),
-    ("r", "run", "cyc_system", None),
-    ("r", "run_counting", "cyc_system", None),
-    ("r", "run_with", "cyc_system", None),
-    ("d", "disassemble", "cyc_system", None),
+    ("a", "accept", "cyc_front", None),
+    ("c", "compile", "cyc_compiler", None),
+    ("c", "compile_with", "cyc_compiler", None),
+    ("b", "bounds", "cyc_compiler", None),
+    ("r", "run", "cyc_emulator", None),
+    ("r", "run_plain", "cyc_emulator", None),
+    ("r", "run_counting", "cyc_emulator", None),
+    ("r", "run_with", "cyc_emulator", None),
+    ("d", "disassemble", "cyc_emulator", None),
     ("m", "step", "cyc_machine", "Machine"),
     ("p", "PageStore", "cyc_pagestore", None),
     ("e", "read_image", "cyc_elf", None),
     ("f", "format", "cyc_format", None),
 )
-# The crates whose public contracts `specs/` is for.
-PUBLIC = ("cyc_system", "cyc_machine", "cyc_store", "cyc_elf", "cyc_isa", "cyc_format", "cyc_bound")
-# What the program's messages take from the front end is no promise of the page: what the phases made of a text, as the code holds it.
+# The crates whose public contracts use the definitions in `specs/`.
+PUBLIC = ("cyc_front", "cyc_image", "cyc_compiler", "cyc_emulator", "cyc_system", "cyc_machine_model", "cyc_machine", "cyc_store", "cyc_elf", "cyc_isa", "cyc_format", "cyc_bound")
+# The program's messages use these results of the front end, about which the page promises nothing.
 FOR_MESSAGES = ("run_phases", "Phases", "compile_with_tokens", "Compilation", "compile_with_places", "Placed", "bounds_with_tokens", "Bounded")
-# Each public source, by the words that name it in the head of a file.
+# Each public source, with the words that name it in the first comment of a file.
 SOURCES = (
     ("Cyclone's manual", r"Cyclone (User's )?[Mm]anual|User's Manual"),
     ("Grossman et al.", r"Grossman et al\."),
@@ -48,7 +50,7 @@ SOURCES = (
     ("own choice", r"own choice"),
 )
 INSIDE = "inside"
-# What a person reads for `compile` is at most so many files and lines of definitions.
+# The maximum numbers of files and lines of definitions to be read for `compile`.
 MOST_FILES, MOST_LINES = 81, 9_700
 CALL_TABLE = "| Call | Mark | Files | Lines | Files of types | Lines |\n|---|---|---|---|---|---|\n"
 FILE_TABLE = "| File | Lines | Calls | What it says | Source |\n|---|---|---|---|---|\n"
@@ -66,7 +68,7 @@ def lines_of(path):
 
 
 def named(path):
-    """A file as the page names it."""
+    """Returns the name of a file on the page."""
     return os.path.relpath(path, CRATES)
 
 
@@ -76,13 +78,13 @@ def crate_of(path):
 
 @functools.lru_cache(maxsize=None)
 def crates():
-    """The crates in the order of crates.txt."""
+    """Returns the crates in the order of crates.txt."""
     lines = content(os.path.join(suite.ROOT, "crates.txt")).splitlines()
     return [line.split(":")[0] for line in lines if line and not line.startswith("#")]
 
 
 def files_below(folder, ending):
-    """The files with this ending in a folder and below it, in order."""
+    """Returns the files with this extension in a folder and below it, in order."""
     found = []
     for place, _, names in os.walk(folder):
         found += [os.path.join(place, name) for name in names if name.endswith(ending)]
@@ -90,13 +92,13 @@ def files_below(folder, ending):
 
 
 def spec_modules(crate):
-    """The modules of a crate's `specs`, but for those that list others."""
+    """Returns the modules of a crate's `specs`, without those that only list others."""
     folder = os.path.join(CRATES, crate, "specs")
-    return [path for path in files_below(folder, ".antt") if re.search(r"(?m)^(?!--|(pub )?mod |$)", content(path))]
+    return [path for path in files_below(folder, ".antt") if re.search(r"(?m)^(?!--|(pub )?mod |pub use [\w.]+$|$)", content(path))]
 
 
 def path_of(words, folder, ending):
-    """The longest beginning of a path that is a file in this folder."""
+    """Returns the longest prefix of a path that is a file in this folder."""
     for count in range(len(words), 0, -1):
         path = os.path.join(folder, *words[:count]) + ending
         if os.path.exists(path):
@@ -106,32 +108,42 @@ def path_of(words, folder, ending):
 
 @functools.lru_cache(maxsize=None)
 def target_of(path):
-    """The file of this repository that a path of a `use` line leads to, with what is behind it; None where it leads elsewhere."""
+    """Returns the file of this repository that a path of a `use` line names, and the rest of the path; None for other files."""
     words = path.split(".")
     if words[0] != "Rattle" or not os.path.isdir(os.path.join(CRATES, words[1])) or words[2:3] != ["specs"]:
         return None, []
     crate = os.path.join(CRATES, words[1])
     if words[3] in ("declared", "contracts"):
         return path_of(words[4:], os.path.join(crate, "src"), ".rt")
+    below = passed_on(crate, words[3])
+    if below:
+        return target_of(".".join([below] + words[4:]))
     return path_of(words[3:], os.path.join(crate, "specs"), ".antt")
+
+
+def passed_on(crate, name):
+    """Returns the path of the module of a lower crate that a crate re-exports by this name, if it does."""
+    lines = os.path.join(crate, "specs", "Lib.antt")
+    found = re.search(rf"(?m)^pub use ([\w.]+\.specs\.{name})$", content(lines)) if os.path.exists(lines) else None
+    return found and found[1]
 
 
 @functools.lru_cache(maxsize=None)
 def uses_of(text):
-    """The `use` lines for definitions in a text: the path, the names that it takes, and the name that it gets."""
+    """Returns the `use` lines for definitions in a text: the path, the imported names, and the alias."""
     pattern = r"(?m)^ *(?:pub )?(?:ghost )?use (Rattle\.[^\s{;]*?)\.?(?:\{([^}]*)\})?(?: as ([^\s;]+))?;?$"
     return [(path, [part.strip() for part in names.split(",") if part.strip()], name) for path, names, name in re.findall(pattern, text)]
 
 
 class Reading:
-    """What has to be read, as far as it is known: files of definitions, and the names that are read in files of types."""
+    """The files to be read, as far as known: files of definitions, and the names that are read in files of types."""
 
     def __init__(self):
         self.specs = set()
         self.types = {}
 
     def add(self, path, names):
-        """Adds what a `use` line leads to, and all that is used there."""
+        """Adds the target of a `use` line, and all that the target uses."""
         file, rest = target_of(path)
         if file is None:
             return
@@ -148,7 +160,7 @@ class Reading:
 
 
 class Source:
-    """A file of Rust: its items, and where its names come from."""
+    """A file of Rust: its items, and the origins of its names."""
 
     def __init__(self, path):
         self.path = path
@@ -156,7 +168,7 @@ class Source:
         self.items = self.split()
 
     def split(self):
-        """The items at the top of the file, each from its first line to the line before the next one."""
+        """Splits the file into top-level items, each from its first line to the line before the next item."""
         items, lines = [], self.text.split("\n")
         for line in lines:
             if re.match(r"(pub |ghost )?(const |unsafe )?(fn|struct|enum|trait|impl|const|use|mod|macro_rules|type)\b", line):
@@ -166,7 +178,7 @@ class Source:
         return ["\n".join(item) for item in items]
 
     def named(self, words):
-        """The items that begin with these words."""
+        """Returns the items that begin with these words."""
         return [item for item in self.items if re.match(words, item)]
 
 
@@ -177,7 +189,7 @@ def source(path):
 
 @functools.lru_cache(maxsize=None)
 def declaring(crate, name):
-    """The file of a crate that declares this type, trait or function, with the item."""
+    """Returns the file of a crate that declares this type, trait or function, with the item."""
     for path in files_below(os.path.join(CRATES, crate, "src"), ".rt"):
         for item in source(path).named(rf"pub (const |unsafe )?(struct|enum|trait|fn) {name}\b"):
             return path, item
@@ -185,7 +197,7 @@ def declaring(crate, name):
 
 
 def rust_uses(text):
-    """The crate, or None for its own, of each name that a file takes by a `use` line."""
+    """Returns the crate of each name that a file imports, or None for its own crate."""
     found = {}
     for path, names in re.findall(r"(?ms)^use ((?:\w+::)+)(\{[^}]*\}|\w+)[^;]*;", text):
         crate = path.split("::")[0]
@@ -195,7 +207,8 @@ def rust_uses(text):
 
 
 def signature_of(text):
-    """A function's signature with its clauses, without its body: it ends with a bracket on a line that is no clause, or with a semicolon."""
+    """Returns a function's signature with its clauses, without its body: it ends at a bracket on a line that is no clause, or at a
+    semicolon."""
     lines = text.split("\n")
     for count, line in enumerate(lines):
         is_clause = line.lstrip().startswith(("requires", "ensures"))
@@ -205,7 +218,7 @@ def signature_of(text):
 
 
 def functions_in(block, public):
-    """The signatures of the functions of an `impl` or a trait."""
+    """Returns the signatures of the functions of an `impl` or a trait."""
     found, lines = [], block.split("\n")
     for count, line in enumerate(lines):
         if re.match(r"    pub (const |unsafe )?fn " if public else r"    (pub )?(const |unsafe )?fn ", line):
@@ -218,7 +231,7 @@ def without_comments(text):
 
 
 def read_names(reading, text, file, extra=""):
-    """Adds what the names in a text lead to, by the `ghost use` lines of its file and of the block it stands in."""
+    """Adds the definitions of the names in a text, by the `ghost use` lines of its file and of the enclosing block."""
     words = set(re.findall(r"(?<![\w.'])[\w'-]+", without_comments(text)))
     for path, names, name in uses_of("\n".join(source(file).named("ghost use")) + "\n" + extra):
         if name:
@@ -231,7 +244,7 @@ def read_names(reading, text, file, extra=""):
 
 
 def read_contract(reading, signature, file, crate, seen, block=""):
-    """Adds what a signature with its clauses means."""
+    """Adds the definitions that a signature with its clauses uses."""
     ghost = "\n".join(line for line in block.split("\n") if line.lstrip().startswith("ghost use"))
     read_names(reading, signature, file, ghost)
     takes = rust_uses(source(file).text)
@@ -240,7 +253,7 @@ def read_contract(reading, signature, file, crate, seen, block=""):
 
 
 def read_type(reading, crate, name, seen):
-    """Adds what a type's view means, or what a trait's methods promise. A name of another library adds nothing."""
+    """Adds the definitions of a type's view, or of the contracts of a trait's methods. A name of another library adds nothing."""
     file, item = declaring(crate, name)
     if file is None or (crate, name) in seen:
         return
@@ -259,7 +272,7 @@ def read_type(reading, crate, name, seen):
 
 
 def methods_of(crate, name):
-    """The public methods of a type, each with its file and its block."""
+    """Returns the public methods of a type, each with its file and its block."""
     for file in files_below(os.path.join(CRATES, crate, "src"), ".rt"):
         for block in source(file).named(rf"impl(<[^{{]*>)? {name}\b"):
             for signature in functions_in(block, True):
@@ -267,7 +280,7 @@ def methods_of(crate, name):
 
 
 def read_traits(reading, crate, name, seen):
-    """Adds what the traits of this repository promise that a type implements."""
+    """Adds the contracts of the traits of this repository that a type implements."""
     for file in files_below(os.path.join(CRATES, crate, "src"), ".rt"):
         for block in source(file).named(rf"impl(<[^{{]*>)? \w+ for {name}\b"):
             trait = re.search(r" (\w+) for ", block).group(1)
@@ -275,7 +288,7 @@ def read_traits(reading, crate, name, seen):
 
 
 def reading_of(name, crate, owner=None):
-    """What a public call means; of a type, what its public methods do."""
+    """Returns the definitions that a public call uses; for a type, those of its public methods."""
     reading, seen = Reading(), set()
     file, item = declaring(crate, owner or name)
     if item.startswith(("pub fn", "pub const fn", "pub unsafe fn")):
@@ -291,7 +304,7 @@ def reading_of(name, crate, owner=None):
 
 
 def public_names(crate):
-    """The names that a crate gives, and the files all of whose public functions it gives."""
+    """Returns the names that a crate exports, and the files all of whose public functions it exports."""
     top = content(os.path.join(CRATES, crate, "src", "lib.rt"))
     names, files = [], []
     for part in re.findall(r"(?ms)^pub use (?:\w+::)+(\{[^}]*\}|\w+);", top):
@@ -302,7 +315,7 @@ def public_names(crate):
 
 
 def public_reading():
-    """What all public contracts of the crates that `specs/` is for mean."""
+    """Returns the definitions that all public contracts of the crates with `specs/` use."""
     reading = Reading()
     for crate in PUBLIC:
         names, files = public_names(crate)
@@ -328,7 +341,7 @@ def merge(reading, more):
 
 
 def reading_order(files):
-    """Files of definitions in an order in which each comes behind those that it uses: crate by crate, as the pipeline has them."""
+    """Returns files of definitions ordered so that each follows those that it uses, crate by crate along the pipeline."""
     ordered = []
 
     def place(file):
@@ -347,7 +360,7 @@ def reading_order(files):
 
 
 def head_of(file):
-    """The comment that a file begins with, as one line."""
+    """Returns the comment at the beginning of a file, as one line."""
     head = []
     for line in content(file).splitlines():
         if not line.startswith("--"):
@@ -357,17 +370,17 @@ def head_of(file):
 
 
 def sentence_of(head):
-    """The first sentence of a head."""
+    """Returns the first sentence of a file's first comment."""
     return re.split(r"(?<=\.) +(?=[A-Z(`])", head)[0].strip()
 
 
 def sources_of(head):
-    """The public sources that a head names."""
+    """Returns the public sources that a file's first comment names."""
     return [name for name, words in SOURCES if re.search(words, head, re.I)]
 
 
 def tables():
-    """The three tables of the page, and the reading of each call."""
+    """Returns the three tables of the page, and the reading of each call."""
     readings = [(mark, owner and f"{owner}::{name}" or name, reading_of(name, crate, owner)) for mark, name, crate, owner in CALLS]
     calls = "".join(
         f"| `{name}` | {mark} | {len(reading.specs)} | {sum(map(lines_of, reading.specs)):,} | {len(reading.types)} | {sum(map(lines_of, reading.types)):,} |\n"
@@ -392,7 +405,7 @@ def tables():
 
 
 def table_in(page, head):
-    """Where the rows of a table stand in the page."""
+    """Returns the position of a table's rows in the page."""
     if head not in page:
         return None
     start = page.index(head) + len(head)
@@ -401,7 +414,7 @@ def table_in(page, head):
 
 
 def strangers():
-    """The files of `specs` that no public contract means and that do not stand in `inside`, and those that stand there though one does."""
+    """Returns the files of `specs` outside `inside` that no public contract uses, and the files in `inside` that one uses."""
     meant = public_reading().specs
     for crate in crates():
         for file in spec_modules(crate):
@@ -441,7 +454,7 @@ def main():
     wrong = list(strangers())
     faults += [f"{named(file)} {'is meant by a public contract, and stands inside' if within else 'is meant by no public contract'}" for file, within in wrong]
     passed += sum(all(crate_of(file) != crate for file, _ in wrong) for crate in crates())
-    meant = reading_of("compile", "cyc_system").specs
+    meant = reading_of("compile", "cyc_compiler").specs
     if len(meant) <= MOST_FILES and sum(map(lines_of, meant)) <= MOST_LINES:
         passed += 1
     else:

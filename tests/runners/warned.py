@@ -1,29 +1,29 @@
 #!/usr/bin/env python3
-"""What accepted texts are warned of, beside what a second reading says (tests/references/language/warned.py).
+"""Compares the warnings on accepted texts with an independent implementation (tests/references/language/warned.py).
 
     python3 tests/runners/warned.py [--program PATH] [--count N] [--seed N]
 
-Each text in docs/warnings.txt has its warning, with the words and at the place that stand there, and no other. For each warning there
-are ten texts at least in tests/unwarned.txt that are near to it, and neither the program nor the second reading warns of any of them. Of
-the examples, and of N random programs, 2,000 where it is left out, some with one token changed, the program says what the second reading
-does: the places, the words and the order, up to the first twenty. The same seed gives the same programs. The last line is
-`N passed, M failed`, of texts and of warnings whose texts are counted.
+Each text in docs/warnings.txt must get its warning, with the given words and place, and no other. For each warning, tests/unwarned.txt has
+at least ten similar texts, for which neither implementation gives a warning. The other texts are the examples and N random programs (2,000
+by default), some with one token changed. Both implementations must agree on places, words and order of the first twenty warnings. The same
+seed gives the same programs. The last line is `N passed, M failed`, of texts and of warnings whose texts are counted.
 """
 import os
 import random
 import re
 import tempfile
 
-import suite  # first: it says where the references and the generators are
+import suite  # first: it makes the references and the generators importable
 import broken_texts
 import codes
 import makers
 import reference
 from language import warned
+from with_library import whole
 
 TABLE = os.path.join(suite.ROOT, "docs", "warnings.txt")
 UNWARNED = os.path.join(suite.TESTS, "unwarned.txt")
-# How many texts there are at least that are near to a warning.
+# The minimum number of texts similar to those with a warning.
 NEAR = 10
 EXAMPLES = os.path.join(suite.ROOT, "examples")
 MOST = 20
@@ -31,23 +31,34 @@ LINE = re.compile(r"^main\.cyc:(\d+):(\d+): warning: (.*)$")
 
 
 class Row:
-    """A warning of the table, and the text that has it alone."""
+    """A warning of the table, and the text that has only this warning."""
 
     def __init__(self, lines):
         parts = dict(lines)
         self.name, self.words = parts["warning"], parts["words"]
+        named = parts.get("named")
         self.text = characters_of(parts["text"])
         line, column = parts["place"].split(":")
-        self.wanted = [((int(line), int(column)), self.words)]
+        self.wanted = [((int(line), int(column)), worded(self.words, named))]
+
+    def is_said_by(self, words):
+        """Whether these are its words, about whatever they name."""
+        before, gap, after = self.words.partition("%")
+        return words == self.words or bool(gap) and words.startswith(before) and words.endswith(after)
+
+
+def worded(words, named):
+    """The words of a warning that names this, if it names something."""
+    return words if named is None else words.replace("%", named)
 
 
 def characters_of(text):
-    """A text as the string of its bytes."""
+    """Returns a text as the string of its bytes."""
     return codes.characters(text).encode("utf-8").decode("latin-1")
 
 
 def blocks_of(path):
-    """The blocks of a table, each a list of a word and what stands behind it."""
+    """Returns the blocks of a table, each as a list of a word and the rest of its line."""
     with open(path, encoding="ascii") as file:
         blocks = [block.split("\n") for block in file.read().split("\n\n")]
     blocks = [[line.split(None, 1) for line in block if line and not line.startswith("#")] for block in blocks]
@@ -59,7 +70,7 @@ def rows():
 
 
 class Near:
-    """A text that is near to a warning, and is warned of nothing."""
+    """A text that is similar to one with a warning, and has no warning itself."""
 
     def __init__(self, name, number, text):
         self.name, self.text, self.wanted = f"{name}, text {number} that is near to it", text, []
@@ -68,7 +79,7 @@ class Near:
 
 
 def near_texts():
-    """The texts of tests/unwarned.txt, by their warnings."""
+    """Returns the texts of tests/unwarned.txt, by their warnings."""
     found = {}
     for block in blocks_of(UNWARNED):
         before = "".join(part + " " for word, part in block if word == "with")
@@ -79,18 +90,18 @@ def near_texts():
 
 
 def faults_of_count(name, near):
-    """Whether a warning has so many texts that are near to it as it should."""
+    """Returns a fault unless a warning has enough similar texts without warnings."""
     count = len(near.get(name, []))
     return [] if count >= NEAR else [f"tests/unwarned.txt has {count} texts that are near to it, and {NEAR} are wanted"]
 
 
 class Text:
-    """A text that is accepted, and what the second reading says of it."""
+    """An accepted text, and the warnings of the independent implementation."""
 
     def __init__(self, name, text, words):
         self.name, self.text = name, text
         program = reference.Program(text)
-        self.wanted = [(place, words[warning]) for place, warning in warned.warnings_of(program, text)]
+        self.wanted = [(place, worded(words[warning], named)) for place, warning, named in warned.warnings_of(program, text)]
 
 
 def accepted(text):
@@ -98,7 +109,7 @@ def accepted(text):
 
 
 def random_texts(seed, count, words):
-    """Random programs of each profile in turn, and each with one token changed, as far as they are accepted."""
+    """Yields random programs of each profile in turn, and each with one token changed, if they are accepted."""
     found, profiles = [], list(makers.PROFILES)
     numbers = random.Random(f"warned {seed}")
     while len(found) < count:
@@ -117,15 +128,14 @@ def example_texts(words):
     found = []
     for name in sorted(os.listdir(EXAMPLES)):
         if name.endswith(".cyc"):
-            with open(os.path.join(EXAMPLES, name), encoding="latin-1") as file:
-                text = file.read()
+            text = whole(os.path.join(EXAMPLES, name))
             if accepted(text):
                 found.append(Text(name, text, words))
     return found
 
 
 def warnings_said(program, folder, text):
-    """The places and words of the warnings that the program says of a text, and whether it says that there are more."""
+    """Returns the places and words of the program's warnings on a text, and whether it says that there are more."""
     with open(os.path.join(folder, "main.cyc"), "w", encoding="latin-1") as file:
         file.write(text)
     os.chdir(folder)
@@ -138,7 +148,7 @@ def warnings_said(program, folder, text):
 def faults_of(program, folder, thing):
     said, are_more, last = warnings_said(program, folder, thing.text)
     wanted = sorted(thing.wanted)
-    # Of two at one place either may be the first.
+    # The order of two warnings at one place is free.
     faults = [] if last == ["done"] else [f"the last line is {last}"]
     if getattr(thing, "read", []):
         faults.append(f"the second reading warns of {thing.read}")

@@ -1,13 +1,13 @@
 #!/usr/bin/env python3
-"""Where runs end before their programs do, beside what a second reading says (tests/references/language/placed.py).
+"""Compares the reported places of failed runs with an independent interpreter (tests/references/language/placed.py).
 
     python3 tests/runners/whereabouts.py [--program PATH] [--count N] [--seed N]
 
-Into each example, and into N random programs, 300 where it is left out, a mistake is planted: before a statement that runs, on its line,
-stands one that throws, or that the language throws for. What `run --places` says before its last lines is what the second reading says:
-the place, the exception by its name, and the calls under way, each with its function and its place. So it is of each random program's own
-end, where it is one, and with one call fewer than it needs. A run whose budget is spent tells calls that the text has at their places. The
-image is the same as without the file of places. The same seed gives the same programs. The last line is `N passed, M failed`, of programs.
+A mistake is planted into each example and into N random programs (300 by default): a statement that throws, before an executed statement on
+its line. The lines of `run --places` before the last one must agree with the interpreter: the place, the exception's name, and the active
+calls, each with its function and its place. The same holds for each random program's own failure, and for a run with one call fewer than it
+needs. A run that exhausts its budget must report calls that the text has at these places. The image is the same as without the file of
+places. The same seed gives the same programs. The last line is `N passed, M failed`, of programs.
 """
 import itertools
 import os
@@ -15,15 +15,15 @@ import random
 import re
 import tempfile
 
-import suite  # first: it says where the references and the generators are
+import suite  # first: it makes the references and the generators importable
 import reference
 import texts
 from language import placed, values
 
 STEPS_AT_MOST = 10_000
-# In how many places of a program a mistake is planted.
+# The number of places of a program in which a mistake is planted.
 PLANTED = 2
-# Statements that throw, each of another cause.
+# Statements that throw, each for a different reason.
 MISTAKES = (
     "{ int *planted = NULL; *planted = 1; }",
     "{ int ?planted = new {for planted_at < 3 : 0}; planted[3] = 1; }",
@@ -36,7 +36,7 @@ STOP = re.compile(r"main\.cyc:(\d+):(\d+): .*, in (\w+)")
 
 
 def statements_in(node, found):
-    """The places of statements that stand in blocks."""
+    """Returns the places of the statements in blocks."""
     for name in ("items", "body", "other", "clauses"):
         inner = getattr(node, name, None)
         for part in inner if isinstance(inner, list) else [inner] if inner is not None else []:
@@ -47,7 +47,7 @@ def statements_in(node, found):
 
 
 def planted(text, place, mistake):
-    """The text with a mistake before the statement at a place, on its line."""
+    """Returns the text with a mistake before the statement at a place, on the same line."""
     lines = text.split("\n")
     line, column = place
     before = lines[line - 1]
@@ -56,7 +56,7 @@ def planted(text, place, mistake):
 
 
 class Ended:
-    """A run as the second reading has it."""
+    """A run as the independent interpreter describes it."""
 
     def __init__(self, text, given, calls=reference.CALLS, steps=STEPS_AT_MOST):
         program = reference.Program(text)
@@ -73,7 +73,7 @@ class Ended:
 
 
 def ended(text, given, **options):
-    """The run of a text, or None where it is of no use."""
+    """Returns the run of a text, or None if it is unusable."""
     try:
         found = Ended(text, given, **options)
     except (reference.Refused, values.Dead, values.Wrong, RecursionError):
@@ -82,7 +82,7 @@ def ended(text, given, **options):
 
 
 class Subject:
-    """A program, and the runs of it and of others like it that end before they do."""
+    """A program, and its runs and those of its variants that end early."""
 
     def __init__(self, name, text, given, numbers):
         self.name, self.text, self.given, self.ends = name, text, given, []
@@ -103,7 +103,7 @@ class Subject:
 
 
 class Tried:
-    """A subject's runs by the program."""
+    """The runs of a subject by the program under test."""
 
     def __init__(self, program, numbers):
         self.program, self.numbers = program, numbers
@@ -128,7 +128,7 @@ class Tried:
             return one.read() == other.read()
 
     def said(self, given, *options):
-        """The lines on where a run ended, and its last line."""
+        """Returns the lines about the end of a run, and its last line."""
         words = [self.program, "run", self.at("main.elf"), "--places", self.at("main.places"), *options]
         lines = suite.said(words, given)
         name = self.at("main.cyc")
@@ -145,8 +145,8 @@ class Tried:
         return None if got == wanted else suite.difference(f"{end.text}\non {end.given}, {end.calls} calls", wanted, got)
 
     def spent(self, subject):
-        """What is wrong with what is told of a budget that is spent: each call stands at its place, by the name of the function inside, up to
-        that of main."""
+        """Returns the faults of the report on an exhausted budget: each call must be at its place in the text, from the innermost function
+        up to main."""
         if self.compile(subject.text) != (b"", "done", 0):
             return f"{subject.text}\nis not compiled"
         steps = self.numbers.randint(1, 2000)
