@@ -1,12 +1,12 @@
 #!/usr/bin/env python3
-"""How fast a text of 60,000 tokens is checked, beside tcc and gcc on the same text. Not a test: it prints figures.
+"""Measures how fast a text of 60,000 tokens is checked, compared with tcc and gcc on the same text. Not a test: it prints figures.
 
     make bench
 
-The text is a program of this language and of C: functions over ints with loops and calls. `cyclone check` goes through
-its tokens, its tree, its types and its flow; `tcc -c` also compiles it, in the same pass; `gcc -fsyntax-only` checks
-its types and compiles nothing. The fastest of many runs counts, and beside it stands the fastest on a program of one
-line, which is the time to start. What texts of other shapes take beside this one, tests/runners/growth.py tells.
+The text is a program of this language and of C: functions over ints with loops and calls. `cyclone check` checks its tokens, its tree, its
+types and its flow; `tcc -c` also compiles it, in the same pass; `gcc -fsyntax-only` checks its types and compiles nothing. The fastest of
+many runs counts; the fastest run on a program of one line gives the time to start. tests/runners/growth.py compares texts of other shapes
+with this one.
 """
 import os
 import shutil
@@ -25,7 +25,7 @@ TOKENS = 60_000
 
 
 def milliseconds(words, runs=RUNS):
-    """The fastest of the runs. All of them end with status 0."""
+    """Returns the fastest run in milliseconds. All runs must end with status 0."""
     best = None
     for _ in range(runs):
         start = time.perf_counter()

@@ -1,11 +1,10 @@
 #!/usr/bin/env python3
-"""How fast a text of 60,000 tokens is compiled. Not a test: it prints figures. How good the code is, bench/pairs.py tells.
+"""Measures how fast a text of 60,000 tokens is compiled. Not a test: it prints figures. bench/pairs.py measures the quality of the code.
 
     make bench
 
-The text is the one of bench/checker.py, a program of this language and of C. `cyclone compile` makes an image of it;
-`tcc -c` and `mips-linux-gnu-gcc -O0 -c` make an object file. The fastest of many runs counts, and beside it stands the
-time to start.
+The text is the one of bench/checker.py, a program of this language and of C. `cyclone compile` makes an image of it; `tcc -c` and
+`mips-linux-gnu-gcc -O0 -c` make an object file. The fastest of many runs counts; the time to start is printed with it.
 """
 import os
 import shutil
@@ -28,13 +27,13 @@ def write(folder, name, text):
 
 
 def compiles(words):
-    """Whether a command succeeds, and what it says last."""
+    """Returns whether a command succeeds, and its last line."""
     done = subprocess.run(words, capture_output=True, text=True, errors="replace")
     return done.returncode == 0, done.stderr.strip().split("\n")[-1]
 
 
 def milliseconds(words):
-    """The fastest of as many runs as a second allows, and of three at least."""
+    """Returns the fastest of as many runs as a second allows, but at least three."""
     times = []
     while len(times) < 3 or sum(times) < SECONDS:
         start = time.perf_counter()

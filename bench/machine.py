@@ -1,15 +1,15 @@
 #!/usr/bin/env python3
-"""How fast the machine runs and loads, beside an interpreter in C and qemu-mips. Not a test: it prints figures.
+"""Measures how fast the machine runs and loads, compared with an interpreter in C and qemu-mips. Not a test: it prints figures.
 
     make bench
 
-Five loops are laid out twice: as images for `cyclone run` and for the interpreter (interpreter.c, compiled by gcc -O2), which
-end by the machine's service, and as Linux executables for qemu-mips, which end by a system call. Each is run five times, in
-turn, and the least processor time counts. One more loop, of loads and stores alone, is run by `cyclone run` on words of the
-stack and of two blocks of the store.
+Five loops are written in two forms: as images for `cyclone run` and for the interpreter (interpreter.c, compiled by gcc -O2), which end by
+the machine's service, and as Linux executables for qemu-mips, which end by a system call. Each is run five times, in turn, and the least
+processor time counts. One more loop, of loads and stores alone, is run by `cyclone run` on words of the stack and of two blocks of the
+store.
 
-The programs of bench/unseen/ are run by `cyclone run` and by the interpreter, as mips-linux-gnu-gcc -O1 compiles them and, where the
-text is one of this language too, as `cyclone compile` does. No loop of the machine was made with an eye on them.
+The programs of bench/unseen/ are run by `cyclone run` and by the interpreter, as mips-linux-gnu-gcc -O1 compiles them and, where the text
+is one of this language too, as `cyclone compile` does. The machine was not tuned for these programs.
 """
 import glob
 import math
@@ -65,12 +65,12 @@ def addu(d, s, t):
 
 
 def branch(op, s, t, over):
-    """A branch that goes over so many words behind its delay slot; `op` 4 is beq, 5 bne, 7 bgtz, and 1 bltz."""
+    """Returns a branch over so many words after its delay slot; `op` 4 is beq, 5 bne, 7 bgtz, and 1 bltz."""
     return immediate(op, t, s, over)
 
 
 def jump(op, number):
-    """A jump to the word of text with this number; `op` 2 is j, 3 is jal."""
+    """Returns a jump to the word of text with this number; `op` 2 is j, 3 is jal."""
     return op << 26 | (TEXT >> 2) + number
 
 
@@ -78,7 +78,7 @@ START = [lui(8, TURNS >> 16), ori(8, 8, TURNS & 0xFFFF), lui(9, DATA >> 16)]
 
 
 def loop(body, slot):
-    """So many turns of a body; register 9 points to the data range, and register 8 counts."""
+    """Returns a loop that executes a body so often; register 9 points to the data range, and register 8 counts."""
     return START + body + [addiu(8, 8, -1), branch(5, 8, 0, -len(body) - 2), slot]
 
 
@@ -95,12 +95,12 @@ BRANCHES = [
 ]
 CALLS = START + [
     jump(3, 10), addiu(4, 4, 3), addiu(8, 8, -1), branch(5, 8, 0, -4), NOP, jump(2, 16), NOP,
-    # a function: it keeps the way back on the stack
+    # a function: it saves the return address on the stack
     addiu(29, 29, -8), sw(31, 4, 29), addu(2, 4, 2), lw(31, 4, 29), registers(8, 0, 31, 0), addiu(29, 29, 8),
 ]
 MIXED = [lw(10, 0, 9), addiu(10, 10, 1), sw(10, 0, 9), addu(11, 11, 10)]
 
-# what it is, its words, and how many instructions it executes before its end
+# the description, the words, and the number of instructions executed before the end
 LOOPS = [
     ("arithmetic", loop(ARITHMETIC, registers(43, 19, 18, 17)), 3 + 12 * TURNS),
     ("loads and stores", loop(MEMORY, addu(13, 13, 12)), 3 + 11 * TURNS),
@@ -113,7 +113,7 @@ SYSCALL = 0x0000000C
 
 
 def allocate(handle, size):
-    """Service 9 makes a block in the region with this handle, and register 9 points to it."""
+    """Returns code in which service 9 allocates a block in the region with this handle, with register 9 pointing to it."""
     return [addiu(4, 0, handle), addiu(5, 0, size), addiu(2, 0, 9), SYSCALL, addu(9, 2, 0)]
 
 
@@ -121,7 +121,7 @@ ACCESSES = [
     lw(10, 0, 9), lw(11, 4, 9), sw(10, 8, 9), sw(11, 12, 9), lw(12, 8, 9), sw(12, 0, 9), lw(13, 12, 9), sw(13, 4, 9),
     addiu(8, 8, -1), branch(5, 8, 0, -10), NOP,
 ]
-# where the words of the loop lie, and how register 9 comes to point to them
+# the range of the words that the loop accesses, and code that makes register 9 point to them
 RANGES = [
     ("the stack", [addiu(9, 29, -16)]),
     ("a block of the heap", allocate(1, 4)),
@@ -133,9 +133,9 @@ LINUX = [addiu(4, 0, 7), addiu(2, 0, 4001), SYSCALL]
 
 
 def executable(words):
-    """A file with this text, and a page of data at the data range."""
+    """Returns a file with this text, and a page of data at the data range."""
     text = b"".join(struct.pack(">I", word) for word in words)
-    # what Linux wants of the offsets and alignment holds for the machine's reader too
+    # Linux's requirements on offsets and alignment are acceptable to the machine's reader too
     header = bytes.fromhex("7f454c46010201") + bytes(9)
     header += struct.pack(">HHIIIIIHHHHHH", 2, 8, 1, TEXT, 52, 0, 0x1000, 52, 32, 2, 0, 0, 0)
     segments = struct.pack(">8I", 1, 0x1000, TEXT, TEXT, len(text), len(text), 5, 0x1000)
@@ -145,7 +145,7 @@ def executable(words):
 
 
 def processor_time(words, status):
-    """The processor time of a run, in seconds."""
+    """Returns the processor time of a run, in seconds."""
     process = subprocess.Popen(words, stdout=subprocess.DEVNULL, stderr=subprocess.DEVNULL)
     _, ended, usage = os.wait4(process.pid, 0)
     process.returncode = os.waitstatus_to_exitcode(ended)
@@ -155,7 +155,7 @@ def processor_time(words, status):
 
 
 def runners(folder):
-    """The programs that there are, each with the words that run a file."""
+    """Returns the installed programs, each with the command that runs a file."""
     found = [("cyclone run", OURS, lambda path: [PROGRAM, "run", "--steps", str(MOST), path])]
     if shutil.which("gcc"):
         interpreter = os.path.join(folder, "interpreter")
@@ -169,7 +169,7 @@ def runners(folder):
 
 
 def range_times(folder):
-    """The least processor time of the loop of loads and stores on the words of each range."""
+    """Returns the least processor time of the loop of loads and stores on the words of each range."""
     path = os.path.join(folder, "range.elf")
     best = {}
     for _ in range(5):
@@ -182,7 +182,7 @@ def range_times(folder):
 
 
 def load_time(folder):
-    """The least wall time of a run of three instructions, and of a call that does nothing, in seconds."""
+    """Returns the least wall time of a run of three instructions, and of a command that does nothing, in seconds."""
     path = os.path.join(folder, "short.elf")
     with open(path, "wb") as file:
         file.write(executable(OURS))
@@ -197,12 +197,12 @@ def load_time(folder):
 
 
 def images_of(folder):
-    """Images of the programs of bench/unseen/, each with a name."""
+    """Yields images of the programs of bench/unseen/, each with a name."""
     for source in sorted(glob.glob(os.path.join(UNSEEN, "*.c*"))):
         name, kind = os.path.splitext(os.path.basename(source))
         if shutil.which(pairs.GCC):
             image = os.path.join(folder, name + "-gcc.elf")
-            # machine.h declares what a text that is one of both languages cannot
+            # machine.h contains the declarations that a text in both languages cannot contain
             text = ["-x", "c", "-include", os.path.join(pairs.PAIRS, "machine.h"), source, "-x", "none"]
             pairs.compiled([pairs.GCC, "-O1"] + pairs.FLAGS + text + ["-o", image] + pairs.LINKED)
             yield name + ", gcc", image
@@ -213,7 +213,7 @@ def images_of(folder):
 
 
 def unseen(folder, found):
-    """The speed of `cyclone run` to that of the interpreter in C on the programs of bench/unseen/."""
+    """Returns the speed of `cyclone run` relative to the interpreter in C on the programs of bench/unseen/."""
     both = [command for runner, _, command in found if runner != "qemu-mips"]
     if len(both) < 2:
         return

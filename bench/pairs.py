@@ -1,18 +1,16 @@
 #!/usr/bin/env python3
-"""How good the code is: instructions that equal programs execute, in this language and in C. Not a test, but it fails where a
-program does not print what the other one of its pair prints.
+"""Measures the quality of the code: instructions that equal programs execute, in this language and in C. Not a test, but it fails if the
+outputs of a pair differ.
 
     make bench        or        python3 bench/pairs.py [NAME ..]
 
-Each pair of bench/pairs/ is NAME.cyc and NAME.c, with the input NAME.in if they read one. `cyclone compile` makes an image of the
-one, and mips-linux-gnu-gcc two of the other, without optimisation (-O0) and with its first level (-O1), for the same machine: its
-services are in start.s, and machine.h declares them. A fourth is what mips-linux-gnu-g++ makes of the program in C with its first level
-where pointers are those of checked.h, which tests of each access what this language does: that is the same work, by a good optimiser. All
-four have to print the same and to return the same. The machine counts the instructions, which `run --report` tells. The pairs stand in
-groups by their style, each with its geometric means.
+Each pair of bench/pairs/ is NAME.cyc and NAME.c, with the input NAME.in if they read one. `cyclone compile` makes an image of the one, and
+mips-linux-gnu-gcc two of the other, without optimisation (-O0) and with its first level (-O1), for the same machine: its services are in
+start.s, and machine.h declares them. The fourth image is made by mips-linux-gnu-g++ -O1 from the C program with the pointers of checked.h,
+which checks each access as this language does: the same work with a good optimiser. All four images must have the same output and result.
+The machine counts the instructions, and `run --report` reports them. The pairs are grouped by style, each group with its geometric means.
 
-With --sizes the table has how large the images are, in words of text, beside what both compilers make where they look for little code
-(-Os); nothing is run for that.
+With --sizes the table has the sizes of the images, in words of text, compared with those of both compilers with -Os; nothing is run.
 """
 import argparse
 import concurrent.futures
@@ -40,31 +38,31 @@ GROUPS = {
     "small functions in loops": "edits fractions grids rotations stacks",
     "tables of tables": "boards roads",
 }
-# Only instructions that the machine has: no traps on division by 0, no branch that skips its slot, no other registers than the table's.
+# Restricts gcc to the machine's instructions: no traps on division by 0, no branch that skips its slot, no further registers.
 FLAGS = "-w -fwrapv -mips2 -mabi=32 -msoft-float -mno-abicalls -fno-pic -G0 -mno-check-zero-division -mno-branch-likely".split()
 FLAGS += "-ffreestanding -fno-builtin -nostdlib -static -Wl,--build-id=none".split()
 LINKED = ["-x", "none", os.path.join(PAIRS, "start.s"), "-Wl,-T," + os.path.join(PAIRS, "layout.ld")]
-# As C++ a program has what the language asks of each access.
+# Compiled as C++, a program performs the checks of each access that the language requires.
 AS_CHECKED = ["-x", "c++", "-fno-exceptions", "-fno-rtti", "-I", PAIRS]
-# The header of an ELF32 file, as far as its table of segments, and one of these; the least bit of a segment's flags is that of code.
+# The header of an ELF32 file, up to its table of segments, and an entry of the table; the lowest bit of a segment's flags marks code.
 LOADED, CODE = 1, 1
 MOST = 1_000_000_000
 SHOWN = 40
 
 
 class Fault(Exception):
-    """Why there are no figures of a pair."""
+    """The reason why a pair has no figures."""
 
 
 def compiled(words):
-    """Runs a compiler, which must not refuse its text."""
+    """Runs a compiler, which must not reject its text."""
     done = subprocess.run(words, capture_output=True, text=True, errors="replace")
     if done.returncode != 0:
         raise Fault(f"{os.path.basename(words[0])} refuses it: {done.stderr.strip()}")
 
 
 def run(program, image, given):
-    """What an image prints and its last line, and how many instructions it executes."""
+    """Returns the output and the last line of an image, and the number of executed instructions."""
     report = image + ".json"
     done = subprocess.run([program, "run", image, "--steps", str(MOST), "--report", report], input=given, capture_output=True)
     with open(report, encoding="utf-8") as file:
@@ -73,14 +71,14 @@ def run(program, image, given):
 
 
 def difference(in_c, here):
-    """Where a run in C and one here are not the same."""
+    """Returns the difference between a run of the C program and one of the Cyclone program."""
     at = len(os.path.commonprefix([in_c[0], here[0]]))
     texts = [f"{output[at:at + SHOWN]!r} and ends with `{last}`" for output, last in (in_c, here)]
     return f"it prints, behind {at} bytes, {texts[0]}, and here {texts[1]}"
 
 
 def text_words(image):
-    """How many words the code of an image has."""
+    """Returns the number of words of an image's code."""
     with open(image, "rb") as file:
         data = file.read()
     (first,), (size, count) = struct.unpack_from(">I", data, 28), struct.unpack_from(">HH", data, 42)
@@ -89,17 +87,17 @@ def text_words(image):
 
 
 def in_c(options, source, level, image):
-    """Makes an image of the program in C."""
+    """Compiles the program in C to an image."""
     compiled([options.gcc, level, "-I", PAIRS] + FLAGS + [source + ".c", "-o", image] + LINKED)
 
 
 def in_checked_c(options, source, level, image):
-    """The same with all tests."""
+    """Compiles the program in C to an image, with all checks."""
     compiled([options.gxx, level] + FLAGS + AS_CHECKED + [source + ".c", "-o", image] + LINKED)
 
 
 def sizes_of(name, options):
-    """The words of text of a pair: those of the program in this language, and those of the one in C, without tests and with all."""
+    """Returns the words of text of a pair: the program in this language, and the one in C, without checks and with all."""
     source = os.path.join(options.pairs, name)
     with tempfile.TemporaryDirectory() as folder:
         images = [os.path.join(folder, which + ".elf") for which in ("ours", "small", "checked")]
@@ -110,7 +108,7 @@ def sizes_of(name, options):
 
 
 def counts_of(name, options):
-    """The instructions of a pair: those of the program in this language, and those of the one in C, level by level, and with all tests."""
+    """Returns the instruction counts of a pair: the program in this language, and the one in C, level by level, and with all checks."""
     source, given = os.path.join(options.pairs, name), b""
     if os.path.exists(source + ".in"):
         with open(source + ".in", "rb") as file:
@@ -132,18 +130,18 @@ def counts_of(name, options):
 
 
 def mean(ratios):
-    """The geometric mean: twice as many in one program and half as many in another are as many."""
+    """Returns the geometric mean, for which a factor of 2 and a factor of 1/2 cancel."""
     return math.exp(sum(math.log(ratio) for ratio in ratios) / len(ratios))
 
 
 def row_of_means(what, ratios):
-    """The line of some programs' geometric means."""
+    """Returns the line of some programs' geometric means."""
     means = " | ".join(f"{mean(column):.3f}" for column in zip(*ratios))
     return f"| {what}: geometric mean | | | | | {means} |"
 
 
 def table(counts):
-    """The lines of the table, for the counts by name, group by group."""
+    """Returns the lines of the table, for the counts by name, group by group."""
     ratios = {name: [ours / theirs for theirs in others] for name, (ours, *others) in counts.items()}
     yield f"| Program | `cyclone compile` | `gcc -O0` | `gcc -O1` | {CHECKED} | To `-O0` | To `-O1` | To {CHECKED} |"
     yield "|---|---|---|---|---|---|---|---|"
@@ -156,7 +154,7 @@ def table(counts):
 
 
 def table_of_sizes(sizes):
-    """The lines of the second table."""
+    """Returns the lines of the table of sizes."""
     yield f"| Program, words of text | `cyclone compile` | `gcc {SMALL}` | checked {SMALL} | To {SMALL} | To checked {SMALL} |"
     yield "|---|---|---|---|---|---|"
     ratios = []
@@ -167,7 +165,7 @@ def table_of_sizes(sizes):
 
 
 def grouped(names):
-    """The groups, each with those of its pairs that are among these names; what is in none is a group by itself."""
+    """Returns the groups, each with its pairs among these names; a pair outside of all groups is a group by itself."""
     known = {name for group in GROUPS.values() for name in group.split()}
     for group, members in (*GROUPS.items(), ("others", " ".join(name for name in names if name not in known))):
         here = [name for name in members.split() if name in names]
@@ -195,7 +193,7 @@ def main():
             sys.exit(f"there is no command {command}: Debian has it in {package}")
     names = options.names or sorted(file[:-4] for file in os.listdir(options.pairs) if file.endswith(".cyc"))
     counts, faults = {}, []
-    # The counts are exact, however many runs go on side by side.
+    # The counts are exact, however many runs are in parallel.
     with concurrent.futures.ThreadPoolExecutor(os.cpu_count()) as threads:
         found = {name: threads.submit(sizes_of if options.sizes else counts_of, name, options) for name in names}
         for name, future in found.items():

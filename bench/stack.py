@@ -1,16 +1,15 @@
 #!/usr/bin/env python3
-"""How much stack the program takes, and the texts that take the most. Not a test: it prints figures.
+"""Measures the stack of the program, and finds the texts that need the most. Not a test: it prints figures.
 
     make bench        or        python3 bench/stack.py [PROGRAM]
 
-Each form of the language that nests is put into itself, and into each other one by turns, as deep as a text may nest, with the operators of
-all ten levels before each, with the two that take no word of a frame, or with none; of those that take the most a third form is tried at
-each place. At the middle stand a number and, where the text takes much, what is refused; such an expression is then put wherever one may
-stand. Beside these stand the longest lists. The most of the texts that are accepted, and of those that are refused, come last. A MB is 2^20
-bytes.
+Each form of the language that nests is nested in itself, and alternately in each other form, as deep as a text may nest. Before each form
+come the operators of all ten levels, the two that take no word of a frame, or none. For the pairs that take the most, a third form is tried
+at each place. The innermost expression is a number, or, if the text takes much, an invalid expression; that is then put at each possible
+place. The longest lists are measured too. The maxima of accepted and of rejected texts come last. A MB is 2^20 bytes.
 
-What is measured is how far the stack has grown when the program ends, with the words of the command line and the environment, of
-which there are few; cc makes what tells it (stack.c, loaded before the C library). No run has less stack than a shell gives.
+The figure is the size of the stack when the program ends, with the few words of the command line and the environment; stack.c, compiled by
+cc and loaded before the C library, reports it. Each run has at least the stack that a shell gives.
 """
 import itertools
 import os
@@ -22,17 +21,17 @@ import tempfile
 HERE = os.path.dirname(os.path.abspath(__file__))
 PROGRAM = os.path.join(HERE, "..", "crates", "cyclone", "out", "cyclone")
 STACK = 64 * 1024 * 1024
-# What may stand before each form of an expression.
+# The operators before each form of an expression.
 OPERATORS = {"": "", ", behind two operators that branch": "1||1&&", ", behind operators of all levels": "1||1&&1|1^1&1==1<1<<1+1*"}
 DEEPEST = 199
-# What each text begins with: structs, functions, and what its body declares.
+# The beginning of each text: structs, functions, and the declarations of the body.
 STRUCTS = "struct S { int m; }; struct T { " + "".join(f"int m{number}; " for number in range(64)) + "}; datatype exn { X(int); }; "
 FUNCTIONS = (
     "int f(int x){ return x; } int g(" + ", ".join(f"int x{number}" for number in range(64)) + "){ return x0; } "
     "int ?h(int x){ return NULL; } struct S *k(int x){ return NULL; } region_t<`H> r(int x){ return heap_region; } "
 )
 HEAD = STRUCTS + FUNCTIONS + "int main(){ int a; int ?p = new {for i < 1 : 0}; int *q = NULL; struct S *s = NULL; "
-# What an expression stands in, where that is one again, and by how many levels it nests.
+# The contexts of an expression within an expression, and the number of levels by which each nests.
 EXPRESSIONS = {
     "brackets": ("(", ")", 1),
     "an operand in front": ("(", ")+1", 1),
@@ -62,7 +61,7 @@ EXPRESSIONS = {
     "a cast to char": ("char(", ")", 1),
     "an assignment in an index": ("p[a=", "]", 2),
 }
-# Where an expression stands that is in no other.
+# The places of an expression that is within no other expression.
 PLACES = {
     "what is returned": ("return ", ";"),
     "a statement": ("", ";"),
@@ -74,7 +73,7 @@ PLACES = {
     "the right side of a swap": ("p[0]:=:p[", "];"),
     "what is freed": ("ufree(rnew(unique_region)(", "));"),
 }
-# The same of a statement.
+# The contexts of a statement within a statement, and the places of other statements.
 STATEMENTS = {
     "a block": ("{", "}", 1),
     "a block of a label": ("L#:{", "}", 1),
@@ -91,7 +90,7 @@ STATEMENTS = {
     "the default of a catch": ("try;catch{default:", "}", 1),
     "an if in a block": ("{if(1)", "return 0;}", 2),
 }
-# What stands in the middle: a text that is accepted, and such as are refused.
+# The innermost expression: a valid one, and invalid ones.
 VALUES = {"a number": "1", "a name that is not declared": "x", "a variable that is empty": "a", "NULL": "NULL", "nothing": ""}
 ENDS = {"a return": "return 0;", "nothing to return": ";", "a name that is not declared": "return x;", "no statement": ""}
 
@@ -109,12 +108,12 @@ LISTS = {
 }
 
 
-# What the program does with no text, and with the image of the last that it compiled.
+# The commands without a text, and those on the image that was compiled last.
 OTHERS = (["run", "text.elf"], ["disasm", "text.elf"], ["info", "text.elf"], ["explain", "51"], ["explain"], ["--help"])
 
 
 class Shape:
-    """Forms that stand in each other by turns, down to what stands in the middle, and where they stand."""
+    """Forms nested alternately, down to the innermost expression, and the place of the outermost one."""
 
     def __init__(self, forms, before, middle, kind, place="what is returned"):
         self.forms, self.before, self.middle, self.kind, self.place = forms, before, middle, kind, place
@@ -124,7 +123,7 @@ class Shape:
         return f"{forms}{self.before}; in the middle {self.middle[0]}" + (f"; {self.place}" if self.kind is EXPRESSIONS else "")
 
     def text(self, deepest):
-        """The text, in which what nests is no deeper than that."""
+        """Returns the text with this depth of nesting."""
         opened, closed, depth = "", "", 0
         for number, (_, (opening, closing, levels)) in enumerate(itertools.cycle(self.forms)):
             if depth + levels > deepest:
@@ -138,7 +137,7 @@ class Shape:
 
 
 class Meter:
-    """Runs the program on texts, and knows the most stack that it took."""
+    """Runs the program on texts, and records its maximum stack."""
 
     def __init__(self, program, folder):
         self.program, self.folder, self.most = program, folder, {}
@@ -146,7 +145,7 @@ class Meter:
         subprocess.run(["cc", "-shared", "-fPIC", "-O1", "-o", self.library, os.path.join(HERE, "stack.c")], check=True)
 
     def run(self, words):
-        """The stack in bytes, the last line and the status."""
+        """Returns the stack in bytes, the last line and the status."""
 
         def limit():
             resource.setrlimit(resource.RLIMIT_STACK, (STACK, resource.getrlimit(resource.RLIMIT_STACK)[1]))
@@ -159,7 +158,7 @@ class Meter:
         return stack, ["", *done.stderr.decode("latin-1").split("\n")][-2], done.returncode
 
     def measure(self, name, text):
-        """The most stack that the commands take on a text, and whether it nests too deep."""
+        """Returns the most stack of the commands on a text, and whether it nests too deeply."""
         with open(os.path.join(self.folder, "text.cyc"), "w", encoding="ascii") as file:
             file.write(text)
         most = 0
@@ -173,12 +172,12 @@ class Meter:
         return most
 
     def measure_shape(self, shape):
-        """The same of a shape, as deep as it may be."""
+        """Returns the most stack of the commands on a shape, nested as deeply as allowed."""
         return next((stack for less in range(5) if (stack := self.measure(shape.name(), shape.text(DEEPEST - less)))), 0)
 
 
 def shapes_of(kind, middle, counts):
-    """The shapes with so many forms by turns."""
+    """Returns the shapes with so many alternating forms."""
     for count in counts:
         for forms in itertools.product(kind.items(), repeat=count):
             if len(set(forms)) == count:
@@ -186,7 +185,7 @@ def shapes_of(kind, middle, counts):
 
 
 def search(meter, kind, middles):
-    """Tries the shapes of a kind, and shows what the single forms take, and the five shapes that take the most."""
+    """Measures the shapes of a kind, and prints the single forms and the five shapes that take the most."""
     names = list(middles.items())
     found = []
     for shape in shapes_of(kind, names[0], (1, 2)):

@@ -1,15 +1,14 @@
 #!/usr/bin/env python3
-"""What the dearest steps of a run cost, beside those of arithmetic. Not a test: it prints figures.
+"""Measures the most expensive steps of a run, compared with arithmetic. Not a test: it prints figures.
 
     make bench
     python3 bench/steps.py [--program PATH] [--instructions]
 
-Each case is a loop that does one kind of step again and again, with as few others as there can be. It is run under two budgets, in turn, five
-times each; the least processor time under each counts, and the difference of the two is what the further steps took. Behind the
-nanoseconds for a step of the loop, the others in it among them, stands what a run of the default budget takes so, in seconds.
+Each case is a loop that repeats one kind of step, with as few others as possible. It is run alternately under two budgets, five times each;
+the least processor time under each counts, and the difference is the cost of the additional steps. The table has the nanoseconds for a step
+of the loop, including its other steps, and the seconds for a run of the default budget.
 
-With --instructions the host's instructions for a step are counted in their place (`valgrind`), which other work on the machine does not
-change.
+With --instructions the host's instructions for a step are counted instead (`valgrind`), which do not depend on the machine's load.
 """
 import argparse
 import os
@@ -26,14 +25,14 @@ DEFAULT = 1_000_000_000
 TIMES = 5
 COPIES = 32
 SPENT = 7
-# Where instructions are counted, which takes longer and need not be repeated, the budgets are so many times smaller.
+# The factor by which budgets are smaller when instructions are counted, which takes longer and need not be repeated.
 SMALLER = 100
 COUNTER = ["valgrind", "--tool=cachegrind", "--cache-sim=no", f"--cachegrind-out-file={os.devnull}"]
 COUNTED = re.compile(rb"I +refs: +([\d,]+)")
 
 
 def service(number):
-    """Asks for a service; where register 2 has the number already, `SYSCALL` alone does."""
+    """Returns code that calls a service; if register 2 contains the number already, `SYSCALL` suffices."""
     return [addiu(2, 0, number), SYSCALL]
 
 
@@ -48,7 +47,7 @@ def sb(t, i, s):
 TO_TEXT, TO_DATA, TO_STACK = [lui(9, TEXT >> 16)], [lui(9, DATA >> 16)], [addiu(9, 29, -256)]
 FAR_STACK = [lui(10, 0x30), registers(35, 9, 29, 10)]  # 3 MB below the end of the stack
 
-# what is done once, and what again and again
+# the code that is executed once, and the code that is repeated
 CASES = {
     "arithmetic": ([], [addu(11, 11, 10)]),
     "products": ([], [registers(24, 0, 11, 10)]),
@@ -73,20 +72,20 @@ CASES = {
 
 
 def looped(once, again):
-    """The words that do the one, and then the other for ever."""
+    """Returns the words that execute the first code, and then repeat the second forever."""
     return once + again * COPIES + [jump(2, len(once)), NOP]
 
 
-def instructions(words):
-    """The host's instructions of a run."""
+def instructions(words, status=SPENT):
+    """Returns the host's instructions of a run, which must end with this status."""
     counted = subprocess.run(COUNTER + words, stdin=subprocess.DEVNULL, stdout=subprocess.DEVNULL, stderr=subprocess.PIPE, check=False)
-    if counted.returncode != SPENT:
-        sys.exit(f"{words[0]}: status {counted.returncode} in place of {SPENT}")
+    if counted.returncode != status:
+        sys.exit(f"{words[0]}: status {counted.returncode} in place of {status}")
     return int(COUNTED.search(counted.stderr)[1].replace(b",", b""))
 
 
 def steps_price(program, path, is_counted):
-    """What a step of the loop in a file takes: nanoseconds, or instructions where they are counted."""
+    """Returns the cost of a step of the loop in a file: nanoseconds, or instructions if they are counted."""
     few, many = (budget // SMALLER if is_counted else budget for budget in (FEW, MANY))
     taken = {}
     for _ in range(1 if is_counted else TIMES):

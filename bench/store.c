@@ -1,4 +1,4 @@
-/* The calls that crates/cyc_bench makes of a store, over malloc and free: it prints the microseconds of each kind, at each
+/* The calls that the images of store.py make of a store, over malloc and free: it prints the microseconds of each kind, at each
    number of pages in use. */
 #include <stdio.h>
 #include <stdlib.h>
