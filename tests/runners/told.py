@@ -63,10 +63,10 @@ def own(text, mark):
 
 
 def said_of(program, text):
-    """Returns the lines on standard error of `check`."""
+    """Returns the lines on standard error of `check`, which quote characters beyond ASCII in UTF-8."""
     with open("text.cyc", "w", encoding="latin-1") as file:
         file.write(text)
-    return suite.said([program, "check", "text.cyc"])
+    return [line.encode("latin-1").decode("utf-8", "surrogateescape") for line in suite.said([program, "check", "text.cyc"])]
 
 
 class Message:
