@@ -8,7 +8,8 @@ examples `--emit` writes the text that a second reading joins (`references/with_
 Each declaration of `lib/NAME.cyc` is reached by `tests/lib/NAME.cyc`. Each file of lib/ is laid out as `format` lays
 it out; its names have an underscore, and no name is declared twice. No function of lib/ calls itself, and as many calls are under way as
 the comment at the top of the file says; `cyclone bound` says the same of each program, by the calls that a second reading finds. It has a
-bound on pages, unless a comment of the file says that a loop leaves them without one. The last line is `N passed, M failed`.
+bound on pages, unless a comment of the file says that a loop leaves them without one. A hint that names a file of lib/ for a name is right:
+the file declares it (docs/habits.txt). The last line is `N passed, M failed`.
 """
 import functools
 import os
@@ -16,6 +17,7 @@ import re
 import tempfile
 
 import suite  # first: it makes the references and the generators importable
+import codes
 import examples
 from with_library import LIBRARY, Clash, content, declarations_of, whole
 
@@ -23,6 +25,9 @@ FOLDER = os.path.join(suite.ROOT, "lib")
 PROGRAMS = os.path.join(suite.TESTS, "lib")
 WORDS = ("no", "one", "two", "three", "four", "five", "six")
 MOST_CALLS = re.compile(r"at\s+most\s+(\w+)\s+calls?\s")
+# A hint for a function of C, and one for the names that a file declares.
+INSTEAD = re.compile(r"write (\w+)\(.*\bcompile --with lib/(\w+\.cyc)")
+DECLARES = re.compile(r"compile --with lib/(\w+\.cyc), which declares it")
 NO_BOUND = re.compile(r"pages\s+of\s+a\s+program\s+without\s+a\s+bound")
 
 
@@ -67,6 +72,17 @@ def faults_of_calls(name):
         return faults + ["the comment at the top does not say how many calls are under way at most"]
     most = WORDS[max((height for height in own.values() if height), default=0)]
     return faults + ([] if said[1] == most else [f"at most {said[1]} calls are under way: they are {most}"])
+
+
+def faults_of_hints(name):
+    """Returns the names for which a hint names a file that does not declare them."""
+    own = {one for it in declarations_of(libraries()[name]) for one in it.declared}
+    named = set()
+    for habit in codes.habits():
+        use, declared = INSTEAD.match(habit.hint), DECLARES.match(habit.hint)
+        named |= {use[1]} if use and use[2] == name else set()
+        named |= set(codes.listed(habit.at)) if declared and declared[1] == name else set()
+    return [f"a hint says that it declares {one}" for one in sorted(named - own)]
 
 
 def faults_of_layout(program, name):
@@ -117,12 +133,13 @@ def faults_of_folder():
 def main():
     options = suite.command_line(__doc__).parse_args()
     joined = sorted(os.path.join(examples.FOLDER, name) for name in os.listdir(examples.FOLDER) if name.endswith(".out"))
-    program = suite.program_of(options, 1 + 4 * len(libraries()) + len(joined))
+    program = suite.program_of(options, 1 + 5 * len(libraries()) + len(joined))
     with tempfile.TemporaryDirectory(prefix="cyclone-library-") as folder:
         things = [("lib and tests/lib", faults_of_folder)]
         for name in libraries():
             things += [(f"lib/{name}: names", lambda name=name: faults_of_names(name)),
                        (f"lib/{name}: calls", lambda name=name: faults_of_calls(name)),
+                       (f"lib/{name}: hints", lambda name=name: faults_of_hints(name)),
                        (f"lib/{name}: layout", lambda name=name: faults_of_layout(program, name)),
                        (f"tests/lib/{name}", lambda name=name: faults_of_program(program, name, folder))]
         for path in joined:

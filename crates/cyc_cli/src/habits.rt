@@ -5,10 +5,11 @@ use crate::excerpt::line_at;
 use cyc_words::Code;
 
 const UNKNOWN_BYTE: &str = "\
-scanf ..~fgets ..~gets ..~fscanf .. ~~ \" ~~ any ~~ only getchar reads: write a function of your own for numbers
-==~!= ~~ \" ~~ any ~~ there are no strings: compare one character with 'x', and two arrays of chars in a loop
-= ~~ \" ~~ any ~~ there are no strings: store chars in an array: char ?s = new {for i < 3 : char(0)}; s[0] = 'a';
-any ~~ \" ~~ any ~~ there are no strings: print each byte, as putchar('s'), and a number by a function of your own
+scanf ..~fscanf .. ~~ \" ~~ any ~~ read the next number by next_int(&x), and a word by read_word(s), and compile --with lib/*.cyc
+fgets ..~gets .. ~~ \" ~~ any ~~ read a line by read_line(s), and compile --with lib/text.cyc
+==~!= ~~ \" ~~ any ~~ there are no strings: compare one byte with 'x', two texts by same_texts(s, t), and a text with the words that cyclone pack no gives by text_is_1(s, 0x6e6f0000), and compile --with lib/text.cyc
+= ~~ \" ~~ any ~~ there are no strings: write char ?s = text_1(heap_region, 0x6e6f0000); with the words that cyclone pack no gives, and compile --with lib/text.cyc
+any ~~ \" ~~ any ~~ there are no strings: print a text by the call that cyclone pack 'Hi\\n' gives, and a number by print_int(x), and compile --with lib/*.cyc
 any ~~ #include ~~ any ~~ delete the line: there are no headers, and putchar and getchar are built in
 any ~~ #define ~~ any ~~ there is no preprocessor: write a global for a constant, as int N = 10;, and a function for a macro with arguments
 any ~~ #if~#ifdef~#ifndef~#else~#elif~#endif~#undef~#pragma~#error~#line~# 1 ~~ any ~~ delete the line: there is no preprocessor
@@ -16,7 +17,7 @@ catch (~catch( ~~ ... ~~ any ~~ write the clauses in braces: catch { case &E: ..
 any ~~ ... ~~ any ~~ declare each parameter: a function takes as many arguments as it declares, and a ? pointer passes many values
 any ~~ .. ~~ any ~~ there are no ranges: write i = 0; while (i < 10) { ..; i = i + 1; }
 include ..~import ..~package ..~using .. ~~ . ~~ any ~~ delete the line: a program is one file, and putchar and getchar are built in
-System~Console~console~sys ~~ . ~~ any ~~ there is no library: only putchar prints, and only getchar reads
+System~Console~console~sys ~~ . ~~ any ~~ print a number by print_int(x), and a text by the call that cyclone pack 'Hi\\n' gives, and compile --with lib/*.cyc
 any ~~ .length~.len~.size~.count ~~ any ~~ write numelts(a) for the number of elements of a ? pointer
 any ~~ method ~~ any ~~ there are no methods: pass the object as an argument, as in f(x)
 {~, ~~ . ~~ any ~~ leave out the names: write one value for each field in order, as in new P{1, 2}
@@ -35,7 +36,7 @@ any ~~ 0xffffffff~0xFFFFFFFF ~~ any ~~ an int has 32 bits and a sign: write -1
 
 const UNEXPECTED_TOKEN: &str = "\
 malloc ..~calloc ..~realloc .. ~~ any ~~ any ~~ allocate by new: new S{1, 2}, new 5 or new {for i < 10 : 0}
-memcpy ..~memset ..~memmove .. ~~ any ~~ any ~~ there is no library: write a loop, or copy an array by new {for k < n : a[k]}
+memcpy ..~memset ..~memmove .. ~~ any ~~ any ~~ write a loop, or copy an array by new {for k < n : a[k]}
 (unsigned)~(unsigned int)~(uint32_t)~(u32) ~~ any ~~ any ~~ there are no unsigned numbers: write x >> n & (1 << 32 - n) - 1 to shift, and (a ^ least) < (b ^ least) to compare, with least = -2147483647 - 1; docs/FROM_C.md has / and %
 : ~~ = ~~ any ~~ write x = 3; to assign, and a :=: b; to swap
 elif ..~elsif ..~elseif .. ~~ any ~~ any ~~ write else if
@@ -197,9 +198,46 @@ any ~~ exit~abort~panic~_exit ~~ any ~~ return from main to end the program, or 
 any ~~ EOF ~~ any ~~ write -1: getchar returns it at the end of the input
 any ~~ true~false~TRUE~FALSE~True~False~YES~NO ~~ any ~~ write 1 for true, and 0 for false
 any ~~ null~nullptr~None~nil~Null~Nil ~~ any ~~ write NULL
-any ~~ printf~puts~fputs~putc~fputc~print~println~cout~write~echo ~~ any ~~ only putchar prints: write a function of your own for numbers
-any ~~ scanf~gets~fgets~getc~fgetc~input~cin~read~readline~fread ~~ any ~~ only getchar reads: write a function of your own for numbers
-any ~~ strlen~strcmp~strcpy~memcpy~memset~abs~atoi~rand~srand~pow~sqrt~max~min~isdigit~isalpha~isspace~toupper~tolower~strcat~strchr~strncpy~strncmp~strdup~memmove~memcmp~swap~qsort~sort~time~itoa~atol~fabs ~~ any ~~ there is no library: write the function
+any ~~ printf~print~println~cout~write~echo ~~ any ~~ print a number by print_int(x), and a text by the call that cyclone pack 'Hi\\n' gives, and compile --with lib/*.cyc
+any ~~ puts~fputs ~~ any ~~ write print_line(s), and compile --with lib/text.cyc
+any ~~ putc~fputc ~~ any ~~ write putchar(c)
+any ~~ scanf~fscanf~input~cin~read~fread ~~ any ~~ read the next number by next_int(&x), and a word by read_word(s), and compile --with lib/*.cyc
+any ~~ gets~fgets~getline~readline ~~ any ~~ write read_line(s), and compile --with lib/text.cyc
+any ~~ getc~fgetc ~~ any ~~ write getchar()
+any ~~ strlen ~~ any ~~ write text_length(s), and compile --with lib/text.cyc
+any ~~ strcmp~strncmp ~~ any ~~ write compare_texts(a, b), and compile --with lib/text.cyc
+any ~~ strcpy~strncpy ~~ any ~~ write copy_text(to, from), and compile --with lib/text.cyc
+any ~~ strdup ~~ any ~~ write new_text(heap_region, s), and compile --with lib/text.cyc
+any ~~ strchr ~~ any ~~ write find_char(s, c, 0), and compile --with lib/text.cyc
+any ~~ strstr ~~ any ~~ write find_text(s, part, 0), and compile --with lib/text.cyc
+any ~~ strtok ~~ any ~~ write split_words(s, starts), and compile --with lib/text.cyc
+any ~~ isdigit ~~ any ~~ write is_digit(c), and compile --with lib/text.cyc
+any ~~ isalpha ~~ any ~~ write is_letter(c), and compile --with lib/text.cyc
+any ~~ isspace ~~ any ~~ write is_space(c), and compile --with lib/text.cyc
+any ~~ toupper ~~ any ~~ write to_upper(c), and compile --with lib/text.cyc
+any ~~ tolower ~~ any ~~ write to_lower(c), and compile --with lib/text.cyc
+any ~~ atoi~atol~strtol ~~ any ~~ write number_of(s), and compile --with lib/numbers.cyc
+any ~~ itoa ~~ any ~~ write print_int(n), and compile --with lib/numbers.cyc
+any ~~ abs~labs ~~ any ~~ write absolute_of(n), and compile --with lib/numbers.cyc
+any ~~ max~min ~~ any ~~ write greater_of(a, b) or smaller_of(a, b), and compile --with lib/numbers.cyc
+any ~~ rand~srand~random ~~ any ~~ write random_below(r, n) after struct Random_state @r = new Random_state{1};, and compile --with lib/random.cyc
+any ~~ qsort~sort ~~ any ~~ write sort_ints(a, count), and compile --with lib/sorted.cyc
+any ~~ swap ~~ any ~~ write a :=: b;
+any ~~ strcat~memcpy~memset~memmove~memcmp~pow~sqrt~time~fabs ~~ any ~~ write the function: the library has none like it
+any ~~ Int_buffer~new_int_buffer~need_int_row~add_int~int_at~set_int_at~take_int~Char_buffer~new_char_buffer~need_char_row~add_char~add_text~add_line~char_at~buffer_text~print_buffer~clear_chars ~~ any ~~ compile --with lib/buffer.cyc, which declares it
+any ~~ No_root~fixed_of~fixed_floor~fixed_product~fixed_quotient~fixed_root~print_fixed ~~ any ~~ compile --with lib/fixed.cyc, which declares it
+any ~~ tell_word~tell_1~tell_2~tell_3~tell_4~tell_5~tell_6~tell_7~tell_8 ~~ any ~~ compile --with lib/form.cyc, which declares it
+any ~~ Int_list~push_int~count_ints~reverse_ints~Queue_empty~Int_queue~new_int_queue~add_last~take_first ~~ any ~~ compile --with lib/list.cyc, which declares it
+any ~~ Bad_number~Large_number~print_digit~count_digits~print_number~print_int~print_int_line~print_width~print_hex~with_digit~with_sign~read_int~next_int~number_of~absolute_of~smaller_of~greater_of ~~ any ~~ compile --with lib/numbers.cyc, which declares it
+any ~~ Random_state~next_random~random_below ~~ any ~~ compile --with lib/random.cyc, which declares it
+any ~~ Ring_full~Ring_empty~Int_ring~new_int_ring~ring_put~ring_take ~~ any ~~ compile --with lib/ring.cyc, which declares it
+any ~~ sort_ints~sort_texts~sort_order~place_sorted~find_sorted~insert_sorted~remove_sorted ~~ any ~~ compile --with lib/sorted.cyc, which declares it
+any ~~ Stack_empty~Stack_cell~Int_stack~push_stack~pop_stack~top_of_stack~free_stack ~~ any ~~ compile --with lib/stack.cyc, which declares it
+any ~~ Table_full~Int_table~new_int_table~first_slot~slot_of~has_int~get_int~put_int~drop_int ~~ any ~~ compile --with lib/table.cyc, which declares it
+any ~~ is_digit~is_letter~is_space~to_lower~to_upper~text_length~print_text~print_line~print_left~print_right~print_part~print_many~say_1~say_2~say_3~say_4~say_5~say_6~say_7~say_8~put_word~text_1~text_2~text_3~text_4~text_8~new_text~new_part~copy_text~compare_texts~same_texts~word_at~text_is_1~text_is_2~text_is_4~find_char~has_text_at~find_text~starts_with~ends_with~read_line~read_word~split_text~split_words ~~ any ~~ compile --with lib/text.cyc, which declares it
+any ~~ Text_entry~Text_table~new_text_table~row_of~entry_of~need_entry~get_text~put_text~count_text ~~ any ~~ compile --with lib/text_table.cyc, which declares it
+any ~~ unsigned_less~unsigned_shift~rotate_word~unsigned_divide~unsigned_remainder~print_unsigned ~~ any ~~ compile --with lib/unsigned.cyc, which declares it
+any ~~ Wide_int~high_product~set_wide~set_product~set_unsigned_product~add_wide~subtract_wide~multiply_wide~compare_wide~negate_words~divide_words~divide_wide~print_wide ~~ any ~~ compile --with lib/wide.cyc, which declares it
 any ~~ assert ~~ any ~~ write if (!(x > 0)) throw new Broken;, and declare datatype exn { Broken; };
 any ~~ sizeof ~~ any ~~ there is no sizeof: write numelts(a) for the number of elements of a ? pointer
 any ~~ len~length~size~count ~~ any ~~ write numelts(a) for the number of elements of a ? pointer
@@ -211,7 +249,7 @@ any ~~ this~self ~~ any ~~ there is no this: pass the object as a parameter
 any ~~ Break~Continue~Return~Ufree~Getchar~Putchar~Numelts ~~ any ~~ write the name as it is declared: break, continue, getchar, putchar
 throw new~case & ~~ any ~~ any ~~ declare the exception: datatype exn { Failed; };, or Failed(int); if it carries an int
 struct ~~ any ~~ any ~~ declare the struct: struct P { int x; int y; };
-any ~~ call ~~ any ~~ declare the function: int f(int n) { return n; }";
+any ~~ call ~~ any ~~ declare the function: int f(int n) { return n; }, or compile --with lib/*.cyc if the library has it";
 
 /// A position in a text.
 #[derive(Clone, Copy)]
