@@ -13,7 +13,8 @@ MISSING = "there is no program cyclone yet: `make install-unproved` builds one i
 # The seconds in which the program must report its abilities.
 SECONDS = 60
 # The options that came one after another, each with the commands that have it where the program has it at all.
-OPTIONS = {"json": ("check", "compile"), "places": ("compile", "run"), "report": ("run",), "peaks": ("run",), "with": ("check", "compile")}
+OPTIONS = {"json": ("check", "compile"), "places": ("compile", "run"), "report": ("run",), "peaks": ("run",), "with": ("check", "compile"),
+    "at-most": ("disasm",)}
 # The last lines that say how it went, by their first words.
 END = re.compile(
     r"(?P<end>done|fault|returned|uncaught|full|trap|budget spent|image fault|read fault|write fault|no memory|usage)(?: (?P<rest>.*))?")
@@ -53,7 +54,7 @@ def said(program, *words):
 
 def abilities(program):
     """Returns the names of the options that the program has, and whether it formats programs."""
-    helps = {command: said(program, command, "--help") for command in ("check", "compile", "run", "format")}
+    helps = {command: said(program, command, "--help") for command in ("check", "compile", "run", "format", "disasm")}
     found = {option for option, commands in OPTIONS.items() if all(f"--{option}" in helps[it] for it in commands)}
     return found | ({"format"} if helps["format"] else set())
 

@@ -337,6 +337,37 @@ def like_gcc(server, example):
     return [] if got == wanted else [suite.difference(example["name"], wanted, got)]
 
 
+# The most lines of a listing. A stand-in for the program notes its words.
+LISTED = 4_000
+NOTING = """#!/bin/sh
+echo "$*" >> "{folder}/words"
+exec "{program}" "$@"
+"""
+
+
+def lists_in_part(program, page):
+    """Of a long listing no more lines are asked for than are sent, and it is told how many there are."""
+    source = "int main() {" + "putchar(65); " * 1_500 + "return 0; }"
+    with tempfile.TemporaryDirectory(prefix="served-") as folder:
+        text, image, noting = (os.path.join(folder, it) for it in ("it.cyc", "it.elf", "noting"))
+        for path, content in ((text, source), (noting, NOTING.format(folder=folder, program=program))):
+            with open(path, "w", encoding="utf-8") as file:
+                file.write(content)
+        os.chmod(noting, 0o755)
+        with Server(noting, page=page) as server:
+            listing = json.loads(server.ask("/listing", {"source": source})[1])
+            short = json.loads(server.ask("/listing", {"source": HELLO})[1])
+        suite.run([program, "compile", text, "-o", image])
+        count = suite.run([program, "disasm", image]).stdout.count(b"\n")
+        with open(os.path.join(folder, "words"), encoding="utf-8") as file:
+            asked = [line for line in file if line.startswith("disasm") and "--help" not in line]
+    wanted = LISTED, count, True, 2, [f"--at-most {LISTED}"]
+    got = len(listing["lines"]), listing["all"], short["all"] == len(short["lines"]), len(asked), sorted(
+        {" ".join(line.split()[1:3]) for line in asked})
+    faults = [] if count > LISTED else [f"the text has {count} instructions only"]
+    return faults + ([] if got == wanted else [suite.difference("the lines, all of them, and what is asked for", wanted, got)])
+
+
 # ---- hostile clients, each with an honest one beside it
 
 
@@ -801,7 +832,7 @@ def installed(program, _):
 
 ASKED = (refuses, refuses_broken, of_runs, of_c)
 ATTACKED = (
-    does_not_read, fills_the_line, sends_nothing, is_held_up, uses_up_files, has_few_files, is_killed, is_heard, grows_by_macros, has_names,
+    lists_in_part, does_not_read, fills_the_line, sends_nothing, is_held_up, uses_up_files, has_few_files, is_killed, is_heard, grows_by_macros, has_names,
     has_full_disks, loaded, waits, left_behind, has_walls, installed,
 )
 
