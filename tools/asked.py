@@ -17,7 +17,8 @@ OPTIONS = {"json": ("check", "compile"), "places": ("compile", "run"), "report":
     "at-most": ("disasm",)}
 # The last lines that say how it went, by their first words.
 END = re.compile(
-    r"(?P<end>done|fault|returned|uncaught|full|trap|budget spent|image fault|read fault|write fault|no memory|usage)(?: (?P<rest>.*))?")
+    r"(?P<end>done|fault|returned|uncaught|full|trap|budget spent|image fault|read fault|write fault|no memory|usage|not formatted)"
+    r"(?: (?P<rest>.*))?")
 # The members of a finding, with their types; some may be null.
 NUMBER, TEXT = (int,), (str,)
 MEMBERS = {

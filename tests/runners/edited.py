@@ -21,6 +21,7 @@ import sys
 import tempfile
 
 import suite  # first: it makes the references and the generators importable
+import asked
 import editors
 import makers
 import names
@@ -561,6 +562,21 @@ def has(wanted, got):
     return wanted == got
 
 
+# The file that writes the last line, and in it the first words of each.
+ANSWERS = os.path.join(suite.ROOT, "crates", "cyc_host", "src", "answer.rt")
+LAST_WORDS = re.compile(r'Answer::\w+(?:\(\w+(?:, \w+)*\))? => (?:\{\s*let [^;]*;\s*)?(?:f\.write_str\(|write!\(f, )"([a-z]+(?: [a-z]+)*)')
+
+
+def faults_of_last_lines(program):
+    """The last lines of the program that the tools do not know."""
+    with open(ANSWERS, encoding="utf-8") as file:
+        answers = LAST_WORDS.findall(file.read())
+    faults = [f"`{it}` is taken for `{asked.end_of(it)[0]}`" for it in answers if asked.end_of(it)[0] != it]
+    said = suite.last_line(suite.run([program, "format", "--check", "/dev/stdin"], b"int main(){return 0;}\n").stderr)
+    faults += [] if asked.end_of(said)[0] == "not formatted" else [suite.difference("the end of format --check", "not formatted", said)]
+    return faults + ([] if len(answers) == 13 else [f"these are not all of 13: {answers}"])
+
+
 def faults_of_protocol(program, messages, errors, status):
     found, got, said = talk(program, *messages)
     told = [(it.get("id"), it["error"]["code"]) for it in found if "error" in it]
@@ -757,7 +773,7 @@ def main():
     options = parser.parse_args()
     sys.setrecursionlimit(10_000)
     named = list(texts(options))
-    count = len(TRIED) + len(PROTOCOL) + len(UNCHECKED) + 3 + 2 * len(named) + 2 * len(PLACED) + len(LAID) + len(snippets())
+    count = len(TRIED) + len(PROTOCOL) + len(UNCHECKED) + 4 + 2 * len(named) + 2 * len(PLACED) + len(LAID) + len(snippets())
     suite.need(["nvim", "vim", "python3-pycparser"], count)
     program = suite.program_of(options, count)
     with tempfile.TemporaryDirectory(prefix="edited-") as folder:
@@ -768,6 +784,7 @@ def try_all(program, named, folder):
     seen = seen_in_neovim(program, folder)
     things = [(name, lambda steps=steps, it=it: faults_in(steps, it)) for (name, _, steps), it in zip(TRIED, seen)]
     things += [(name, lambda one=tuple(one): faults_of_protocol(program, *one)) for name, *one in PROTOCOL]
+    things.append(("last lines", lambda: faults_of_last_lines(program)))
     things.append(("a text with three line ends", lambda: faults_of_line_ends(program)))
     things.append(("Visual Studio Code", lambda: faults_of_trace(program)))
     things.append(("a C program with a header of its own", lambda: faults_of_c(program)))
