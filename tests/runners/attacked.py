@@ -9,6 +9,9 @@ the disk of the log and makes the server write to it. Eight honest clients check
 gets the answer to its own request within twice the clock of a place: --seconds, by default 10, and more by the load of the machine. After
 the attack, which takes --minutes, 1 by default, the server has no more processes, files and memory than before. The last line is `N passed,
 M failed`.
+
+Other work on the machine may keep the processors from the server. The kernel counts how long its processes waited for one. An answer that is
+late by no more than that is told apart, and its minute is no part of --minutes: another one follows, and too many of these are a fault.
 """
 import base64
 import contextlib
@@ -45,6 +48,13 @@ SIGNALS = (signal.SIGKILL, signal.SIGKILL, signal.SIGSTOP, signal.SIGTERM, signa
 GROWN = 64_000
 # So many honest answers must come in a minute, or nothing was tried.
 LEAST = 4
+# Where minutes do not count, the attack takes so many times as long at most.
+MOST = 2
+# The pause between two looks at who has the processors, in seconds; and the part of the clock of a place that a run must have had.
+LOOK, PART = 0.1, 1 / 3
+# What is said of a run that the clock of a place ended.
+STOPPED = "it took more than"
+TICKS = os.sysconf("SC_CLK_TCK")
 
 GETS = [f"GET {path} HTTP/1.1\r\nHost: 127.0.0.1\r\n\r\n".encode() for path in ("/", "/codemirror.js", "/about", "/docs/LANGUAGE", "/none")]
 INNER = post("/run", {"source": PRINTING})
@@ -56,13 +66,74 @@ REQUESTS = (
 )
 
 
+class Meter:
+    """Counts the seconds that the server lost, since its processes waited for a processor while other work had it."""
+
+    def __init__(self, server):
+        self.process, self.lost, self.others = server.process.pid, [(time.monotonic(), 0.0)], 0.0
+        self.children, self.ended = server.children, threading.Event()
+        self.thread = threading.Thread(target=self.look, daemon=True)
+
+    def __enter__(self):
+        self.thread.start()
+        return self
+
+    def __exit__(self, *_):
+        self.ended.set()
+        self.thread.join()
+
+    def look(self):
+        delays, spent = self.delays(), self.spent_by_others()
+        while not self.ended.wait(LOOK):
+            now, new, spent_now = time.monotonic(), self.delays(), self.spent_by_others()
+            waited_for = {it: delay - delays.get(it, 0) for it, delay in new.items()}
+            # A request waits for the server and for one process of its own at most.
+            children = max((it for number, it in waited_for.items() if number != self.process), default=0)
+            others = max(0.0, spent_now - spent)
+            lost = min(now - self.lost[-1][0], waited_for.get(self.process, 0) + children, others)
+            self.lost.append((now, self.lost[-1][1] + lost))
+            self.others += others
+            delays, spent = new, spent_now
+
+    def delays(self):
+        """The seconds that the server and each of its processes have waited for a processor."""
+        found = {}
+        for number in (self.process, *map(int, self.children())):
+            with contextlib.suppress(OSError, ValueError, IndexError):
+                with open(f"/proc/{number}/schedstat", encoding="ascii") as file:
+                    found[number] = int(file.read().split()[1]) / 1e9
+        return found
+
+    def spent_by_others(self):
+        """The seconds of all processors that neither this process, the server nor its processes had, and that were not idle."""
+        with open("/proc/stat", encoding="ascii") as file:
+            # user, nice, system, idle, waiting, interrupts of two kinds, stolen
+            times = [int(it) / TICKS for it in file.readline().split()[1:9]]
+        own = sum(spent_by(it) for it in (os.getpid(), self.process, *self.children()))
+        return sum(times) - times[3] - times[4] - own
+
+    def between(self, start, end):
+        """The seconds that were lost between two moments."""
+        ends = [lost for moment, lost in self.lost if start - LOOK <= moment <= end + LOOK]
+        return ends[-1] - ends[0] if ends else 0.0
+
+
+def spent_by(process):
+    """The seconds of a processor that a process had, with those of its children that have ended."""
+    try:
+        with open(f"/proc/{process}/stat", encoding="ascii", errors="replace") as file:
+            return sum(int(it) for it in file.read().rpartition(")")[2].split()[11:15]) / TICKS
+    except OSError:
+        return 0.0
+
+
 class Attacked:
     """A server under attack, what its honest clients saw, and how often each attacker has attacked."""
 
-    def __init__(self, server, program, folder, options):
+    def __init__(self, server, program, folder, options, meter):
         self.server, self.program, self.folder, self.clock = server, os.path.realpath(program), folder, options.seconds
-        self.ended, self.lock = threading.Event(), threading.Lock()
-        self.times, self.faults, self.log_faults, self.log_lines = [], [], [], 0
+        self.ended, self.lock, self.meter = threading.Event(), threading.Lock(), meter
+        self.times, self.faults, self.starved, self.log_faults, self.log_lines = [], [], [], [], 0
         self.rounds = dict.fromkeys((it.__name__ for it in ATTACKS), 0)
 
     @property
@@ -73,13 +144,20 @@ class Attacked:
     def pause(self, seconds):
         self.ended.wait(seconds)
 
-    def answered(self, what, took, faults):
-        """Notes the answer to an honest client."""
+    def answered(self, what, start, faults):
+        """Notes the answer to an honest client, with what is wrong with it."""
+        took = time.monotonic() - start
+        # The meter looks once more.
+        time.sleep(2 * LOOK)
+        lost = self.meter.between(start, start + took)
+        # Where the clock of a place ended a run, the run had no more than a part of it.
+        starved = [it for it in faults if STOPPED in it and lost > (1 - PART) * self.clock]
+        late = [f"{what} took {took:.1f} s, and twice the clock is {2 * self.clock} s"] * (took > 2 * self.clock)
         with self.lock:
             self.times.append(took)
-            self.faults += faults
-            if took > 2 * self.clock:
-                self.faults.append(f"{what} took {took:.1f} s, and twice the clock is {2 * self.clock} s")
+            self.faults += [f"{it}; the server lost {lost:.1f} s" for it in faults if it not in starved]
+            (self.starved if took - lost <= 2 * self.clock else self.faults).extend(f"{it}; lost {lost:.1f} s" for it in late)
+            self.starved += [f"{it}; lost {lost:.1f} s" for it in starved]
 
     def read_log(self):
         """Takes what the log has, which is empty then."""
@@ -106,7 +184,7 @@ def honest(room, client, dice):
             faults = ask(room.server, client, f"{client}, request {number}\n")
         except (OSError, http.client.HTTPException, ValueError, KeyError) as error:
             faults = [f"{ask.__name__} of {client}: no answer: {error!r}"]
-        room.answered(f"{ask.__name__} of {client}", time.monotonic() - start, faults)
+        room.answered(f"{ask.__name__} of {client}", start, faults)
         room.pause(dice.uniform(0.5, 4))
 
 
@@ -268,26 +346,30 @@ def attack_all(room, minutes, seed):
     for number, it in enumerate(ATTACKS, 1):
         words = (room, it, ATTACKER.format(number), random.Random(f"{seed} {it.__name__}"))
         threads.append(threading.Thread(target=attacker, args=words))
-    start, before = time.monotonic(), room.server.memory()
+    before = room.server.memory()
     for it in threads:
         it.start()
-    minute = 0
-    while minute < minutes and room.server.process.poll() is None:
-        minute, told = minute + 1, len(room.faults)
-        room.pause(max(0, start + 60 * minute - time.monotonic()))
+    counted, minute = 0, 0
+    while counted < minutes and minute < MOST * minutes and room.server.process.poll() is None:
+        minute, told, starved, others = minute + 1, len(room.faults), len(room.starved), room.meter.others
+        room.pause(60)
+        counted += len(room.starved) == starved
         rounds = ", ".join(f"{count} {name}" for name, count in room.rounds.items())
-        print(f"{minute} min: {len(room.times)} honest answers, the slowest after {max(room.times, default=0):.1f} s; {len(room.faults)}"
-            f" faults; {room.log_lines} lines in the log; {room.server.memory() - before:+} KB; rounds: {rounds}", *room.faults[told:],
-            sep="\n  ", flush=True)
+        print(f"{minute} min, {counted} of them counted: {len(room.times)} honest answers, the slowest after"
+            f" {max(room.times, default=0):.1f} s; {len(room.faults)} faults; {len(room.starved)} starved; {room.log_lines} lines in the log;"
+            f" {room.server.memory() - before:+} KB; load {os.getloadavg()[0]:.1f}, others had {(room.meter.others - others) / 60:.1f}"
+            f" processors; rounds: {rounds}", *room.faults[told:], *room.starved[starved:], sep="\n  ", flush=True)
     room.ended.set()
     for it in threads:
         it.join()
+    room.minutes, room.counted = minute, counted
 
 
 def things_of(room, minutes, before):
     """What is held against what must be, each with its name, after the attack."""
     yield "honest clients", room.faults[:10] + (
         [] if len(room.times) >= LEAST * minutes else [f"only {len(room.times)} honest answers came"])
+    yield "the machine", [] if room.counted >= minutes else [f"only {room.counted} minutes of {room.minutes} count: other work had the rest"]
     for name, count in room.rounds.items():
         yield f"the attacker {name}", [] if count else ["no round came to its end"]
     memory, files = before
@@ -296,7 +378,7 @@ def things_of(room, minutes, before):
     grown = room.server.memory() - memory
     yield "what is left", faults + ([f"the server has {grown} KB more of memory"] if grown > GROWN else [])
     room.read_log()
-    most = 60 * (minutes + 2)
+    most = 60 * (room.minutes + 2)
     yield "the log", room.log_faults[:3] + ([f"it has {room.log_lines} lines"] if not 0 < room.log_lines <= most else [])
     status = room.server.end()
     yield "the end", [] if status == 0 else [f"the server ended with {status}"]
@@ -310,8 +392,8 @@ def attacked(program, options, folder):
         file.write(START.format(size=DISK, folder=disk, page=os.path.abspath(options.page or PAGE)))
     os.chmod(start, 0o755)
     words = ("--seconds", str(options.seconds), "--runs", str(PLACES), "--output", "1000000", *WITHOUT_END)
-    with Server(program, *words, page=start) as server:
-        room = Attacked(server, program, disk, options)
+    with Server(program, *words, page=start) as server, Meter(server) as meter:
+        room = Attacked(server, program, disk, options, meter)
         for client in HONEST:
             run_own(server, client, "before\n")
         before = server.memory(), server.files()
@@ -326,7 +408,7 @@ def main():
     parser.add_argument("--seconds", type=int, default=suite.grown(10), metavar="N", help="the clock of a place")
     parser.add_argument("--seed", type=int, default=1, metavar="N")
     options = parser.parse_args()
-    count = len(ATTACKS) + 4
+    count = len(ATTACKS) + 5
     suite.need(["python3-aiohttp", "python3-pycparser"], count)
     program = suite.program_of(options, count)
     raise_files()
