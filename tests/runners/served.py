@@ -30,6 +30,7 @@ from hostile_c import BOMB as MACRO, READS
 
 PAGE = os.path.join(suite.ROOT, "tools", "page")
 UNIT = os.path.join(suite.ROOT, "tools", "cyclone-page.service")
+SECURITY = os.path.join(suite.ROOT, "SECURITY.md")
 # What the unit sets, as far as one who is no systemd can: of prctl, 65 denies memory that is both written and executed.
 WALLS = """#!/bin/sh
 exec unshare --map-root-user --mount --ipc --uts sh -c '
@@ -815,6 +816,23 @@ def has_walls(program, page):
     return faults + ([] if status == [("CapEff", "0" * 16), ("CapBnd", "0" * 16), ("NoNewPrivs", "1")] else [f"its rights are {status}"])
 
 
+def is_a_unit(_, page):
+    """Systemd takes the page's unit without a warning, and rates its exposure no higher than SECURITY.md says."""
+    with open(UNIT, encoding="utf-8") as file:
+        unit = file.read()
+    with open(SECURITY, encoding="utf-8") as file:
+        rated = re.search(r"rates its exposure (\d)\.(\d) of\s10", file.read())
+    with tempfile.TemporaryDirectory(prefix="served-") as folder:
+        path = os.path.join(folder, os.path.basename(UNIT))
+        with open(path, "w", encoding="utf-8") as file:
+            file.write(unit.replace(unit.partition("ExecStart=")[2].split()[0], os.path.abspath(page or PAGE)))
+        verified = suite.run(["systemd-analyze", "verify", "--man=no", path])
+        words = ["systemd-analyze", "security", "--offline=true", "--no-pager", f"--threshold={rated[1]}{rated[2]}", path]
+        exposed = suite.run(words)
+    faults = [f"systemd says {suite.shown(verified.stderr)}"] if verified.returncode or verified.stderr else []
+    return faults + ([f"its exposure is higher: {suite.shown(exposed.stdout[-200:])}"] if exposed.returncode else [])
+
+
 def installed(program, _):
     """The page is served from where make install puts it, with the program and the examples that lie there."""
     with tempfile.TemporaryDirectory(prefix="served-") as folder:
@@ -833,7 +851,7 @@ def installed(program, _):
 ASKED = (refuses, refuses_broken, of_runs, of_c)
 ATTACKED = (
     lists_in_part, does_not_read, fills_the_line, sends_nothing, is_held_up, uses_up_files, has_few_files, is_killed, is_heard, grows_by_macros, has_names,
-    has_full_disks, loaded, waits, left_behind, has_walls, installed,
+    has_full_disks, loaded, waits, left_behind, has_walls, is_a_unit, installed,
 )
 
 
@@ -853,7 +871,7 @@ def main():
     parser.add_argument("--only", default="", metavar="WORDS", help="the tests in whose names one of these words stands")
     options = parser.parse_args()
     tests = [it for it in (*ASKED, *ATTACKED) if not options.only or any(word in it.__name__ for word in options.only.split())]
-    suite.need(["python3-aiohttp", "python3-pycparser", "gcc"], len(tests))
+    suite.need(["python3-aiohttp", "python3-pycparser", "gcc", "systemd-analyze"], len(tests))
     program = suite.program_of(options, len(tests))
     raise_files()
 
