@@ -31,6 +31,8 @@ UNKNOWN, HEAP = "`0", "`H"
 DEEPEST = 210
 
 Token = collections.namedtuple("Token", "kind text start end")
+# Where a declaration of the library stands: the path and the text of its file, and its place there.
+Home = collections.namedtuple("Home", "path text start end")
 
 
 class Lost(Exception):
@@ -53,6 +55,8 @@ class Declared:
         self.full, self.parameters, self.written, self.regions = type_text, [], [], []
         # The range of the text in which the name is visible, for a name in a block.
         self.since, self.until = -1, -1
+        # For a name of the library, where it is declared, and the text of its declaration.
+        self.home, self.shown = None, ""
 
 
 GIVEN = {
@@ -208,9 +212,10 @@ class Reading:
 
 
 class Names(Reading):
-    """The names of a text: `declared`, all declarations; `top`, the outermost in order; and `uses`, each with its place and its meaning."""
+    """The names of a text: `declared`, all declarations; `top`, the outermost in order; and `uses`, each with its place and its meaning. A
+    name that the text does not declare may be one of a library."""
 
-    def __init__(self, text):
+    def __init__(self, text, library=None):
         super().__init__(text)
         self.declared, self.top, self.uses = [], [], []
         # The places of omitted regions, each with its meaning; and the types before each `->`, by the place after it.
@@ -219,6 +224,8 @@ class Names(Reading):
         # The declarations in `top`, by the places of their names.
         self.heads = {}
         self.each(self.find_head)
+        for own, name in ((self.structs, "structs"), (self.globals, "globals"), (self.exceptions, "exceptions")):
+            own.update({it: one for it, one in getattr(library, name, {}).items() if it not in own})
         self.find_types()
         self.each(self.read)
         self.uses.sort(key=lambda use: use[0])
@@ -386,6 +393,32 @@ class Names(Reading):
             raise Lost
         if found:
             inside(Inside(self, found))
+
+
+class Library:
+    """The outer declarations of files that a text may use without a declaration of its own, by kind and name. As for names of the language,
+    their places are -1."""
+
+    def __init__(self, files):
+        # All files are one text: a function may use a struct of another file.
+        text = "\n".join(content for _, content in files)
+        starts = [0, *itertools.accumulate(len(content) + 1 for _, content in files)]
+        found = Names(text)
+        self.structs, self.globals, self.exceptions = found.structs, found.globals, found.exceptions
+        for it in found.top:
+            path, content = files[bisect.bisect_right(starts, it.start) - 1]
+            first = starts[bisect.bisect_right(starts, it.start) - 1]
+            it.about, it.shown = comment_above(text, it), text[slice(*it.whole)]
+            for one in (it, *it.fields.values()):
+                one.home = Home(path, content, one.start - first, one.end - first)
+                one.start, one.end = -1, -1
+
+
+def comment_above(text, it):
+    """Returns the words of the comment that ends before a declaration; no words if there is none."""
+    start = text.rfind("datatype", 0, it.start) if it.kind == "exception" else it.whole[0]
+    before = text[:start].rstrip()
+    return " ".join(before[before.rfind("/*") + 2:-2].split()) if before.endswith("*/") else ""
 
 
 class Inside:
@@ -835,7 +868,7 @@ class Inside:
         structs = self.names.structs
         struct = structs.get(struct_in(found))
         if struct is None:
-            having = [it for it in structs.values() if token.text in it.fields]
+            having = [it for it in structs.values() if token.text in it.fields and it.home is None]
             struct = having[0] if len(having) == 1 else None
         it = struct and struct.fields.get(token.text)
         self.names.use(token, it)
@@ -875,7 +908,7 @@ class Inside:
             return it and it.full
         given = self.arguments()
         self.lies = UNKNOWN
-        if it is None or it.start < 0:
+        if it is None or it.name in GIVEN and it.home is None and it.start < 0:
             return it and "int"
         regions = bound(it.parameters, given)
         return re.sub(r"`\w+", lambda found: regions.get(found[0], UNKNOWN), it.full or "")

@@ -4,13 +4,13 @@
     python3 tests/runners/edited.py [--program PATH] [--count N] [--seed N]
 
 Neovim, headless, opens texts with its own client: diagnostics, the edits of hints, hover, the jump to a declaration, the names of a file,
-completion, other names, parameters, tokens and regions that are left out are as they should be. The messages that Visual Studio Code sends
-(tests/edited/vscode.jsonl) get the answers that it needs. C programs have diagnostics at their places. A message that is none of the
-protocol is answered as the protocol says, or ends the server, and a text that cannot be checked says so. Of each example, and of N random
-programs, 40 by default, each declared name is given another, in all places that the server tells of it, and each region that is left out is
-written: it compiles to the same image, byte for byte. The same seed gives the same programs. Vim's :make and the problem matcher for Visual
-Studio Code find each place in what `cyclone check` says, and each snippet stands in a program that is accepted. The last line is `N passed,
-M failed`.
+completion, other names, parameters, tokens and regions that are left out are as they should be, also for names of the library. The messages
+that Visual Studio Code sends (tests/edited/vscode.jsonl) get the answers that it needs. C programs have diagnostics at their places. A
+message that is none of the protocol is answered as the protocol says, or ends the server, and a text that cannot be checked says so. The
+tools know each last line of the program. Of each example, and of N random programs, 40 by default, each declared name is given another, in
+all places that the server tells of it, and each region that is left out is written: it compiles to the same image, byte for byte. The same
+seed gives the same programs. Vim's :make and the problem matcher for Visual Studio Code find each place in what `cyclone check` says, and
+each snippet stands in a program that is accepted. The last line is `N passed, M failed`.
 """
 import json
 import os
@@ -109,9 +109,19 @@ end
 function does.complete(line, column)
   local found = {}
   for _, it in ipairs(ask('textDocument/completion', line, column).items) do
-    if it.kind ~= 14 then table.insert(found, it.label) end
+    if it.kind ~= 14 and not it.labelDetails then table.insert(found, it.label) end
   end
   return found
+end
+function does.offered(line, column, label)
+  for _, it in ipairs(ask('textDocument/completion', line, column).items) do
+    if it.label == label then return { it.kind, it.detail, it.labelDetails.description, it.documentation, it.sortText } end
+  end
+  return 'nothing'
+end
+function does.leads(line, column)
+  local found = ask('textDocument/definition', line, column)
+  return { vim.fn.fnamemodify(vim.uri_to_fname(found.uri), ':t'), found.range.start.line + 1, found.range.start.character + 1 }
 end
 function does.completed(line, column, label)
   for _, it in ipairs(ask('textDocument/completion', line, column).items) do
@@ -215,9 +225,20 @@ int main() {
   return sum(one, *v) + pair->left + total + (none == NULL);
 }
 """
+# A text that declares one name of the library itself, and uses others.
+USES = """int is_digit(int c) { return c; }
+int main() {
+  struct Int_list *list = push_int(heap_region, 3, NULL);
+  try print_int(list->value + count_ints(list) + is_digit(3));
+  catch { case &Bad_number(n): return n; }
+  return 0;
+}
+"""
+PUSHED = "struct Int_list<`r> @`r push_int(region_t<`r> h, int value, struct Int_list<`r> *`r list)"
 # The memory that malloc gives in the fourth line is never freed.
 C_LEAKS = "#include <stdlib.h>\nint main(void)\n{\n  int *p = malloc(4);\n  int n = p[0];\n  return n;\n}\n"
 C_LEAK = "the memory of p is never freed\nhint: free(p) where it is no longer used"
+RING_FULL = "An int is added to a ring that is full."
 GIVEN = ["putchar", "getchar"]
 # Texts, and for each what is done and what is seen then.
 TRIED = (
@@ -294,6 +315,31 @@ TRIED = (
         (("rename", 5, 5, "all"), "renamed"), (("rename", 1, 23, "number"), "renamed"), (("rename", 14, 11, "there"), "renamed"),
         (("diagnostics",), []),
         (("text",), SCOPES.replace("sum", "all").replace("value", "number").replace("`h", "`there")),
+    )),
+    ("names of the library", USES, (
+        (("diagnostics",), []),
+        (("hover", 4, 35), "```cyclone\nint count_ints(struct Int_list<`r> *`r list)\n```\n\na function of the library, in list.cyc\n\n"
+         "Returns how many ints a list has."),
+        (("hover", 3, 12), "```cyclone\nstruct Int_list<`r> {\n  int value;\n  struct Int_list<`r> *`r next;\n}\n```\n\n"
+         "a struct of the library, in list.cyc\n\nAn int, and those after it. NULL is the empty list."),
+        (("hover", 4, 26), "```cyclone\nint value\n```\n\na field of `Int_list` of the library, in list.cyc"),
+        (("hover", 5, 20), "```cyclone\nBad_number(int)\n```\n\nan exception of the library, in numbers.cyc\n\n"
+         "What was read as a number is none. It has the byte that cannot be in it, -1 for the end of the input; number_of gives the index."),
+        (("hover", 4, 52), "```cyclone\nint is_digit(int c)\n```\n\na function"), (("jump", 4, 52), [1, 5]),
+        (("leads", 4, 35), ["list.cyc", 16, 5]), (("leads", 4, 24), ["list.cyc", 6, 7]), (("leads", 5, 20), ["numbers.cyc", 6, 3]),
+        (("complete", 4, 35), [*GIVEN, "is_digit", "main", "list"]), (("complete", 4, 23), ["value", "next"]),
+        (("offered", 4, 35, "push_int"), [3, PUSHED, "list.cyc", "Returns a list with an int before those of another one.", "~push_int"]),
+        (("offered", 3, 10, "Int_queue"), [22, "struct Int_queue", "list.cyc",
+            "A queue of any length. What was taken serves again: it needs the room of its greatest length.", "~Int_queue"]),
+        (("offered", 5, 17, "Ring_full"), [20, "Ring_full", "ring.cyc", RING_FULL, "~Ring_full"]),
+        (("offered", 1, 1, "push_int"), "nothing"), (("parameters", 3, 49), [PUSHED, "int value"]),
+        (("rename", 4, 35, "count_all"), "count_ints is a name of the library, and stays"),
+        (("rename", 1, 5, "push_int"), "push_int is declared already"),
+        (("regions",), [[3, 18, "<`H>"], [3, 20, "`H"]]),
+    )),
+    ("a text that is written with a name of the library", "int main() { print_; return 0; }\n", (
+        (("completed", 1, 20, "print_int"), True), (("write", 1, 23, "(3)"), True),
+        (("text",), "int main() { print_int(3); return 0; }\n"), (("diagnostics",), []),
     )),
     ("kinds of tokens", "/* ä\n*/ int f(int n) {\n  return n + '0';\n}\n", (
         (("tokens",), [
