@@ -301,9 +301,12 @@ class ExpressionWriter(WideWriter):
         else:
             self.line(f"if ({left}) {{")
         self.lines += self.deeper(before)
-        self.line(f"  {found} = {join('!=', right, X('0')) if not self.is_bit(node.a[1]) else right};")
+        self.line(f"  {found} = {right if self.is_bit(node.a[1]) else join('!=', right, self.zero_of(node.a[1]))};")
         self.line("}")
         return found
+
+    def zero_of(self, node):
+        return self.x_null(node) if isinstance(node.type, t.Ptr) else X("0")
 
     @staticmethod
     def is_bit(node):
@@ -333,11 +336,19 @@ class ExpressionWriter(WideWriter):
             left, right = self.pair(a, b)
             if left.text == right.text == "NULL":
                 left = right = X("0")
-            return join(node.v, left, right)
+            return join(node.v, self.thin(a, left), self.thin(b, right))
         if node.v in ("==", "!="):
             found = X(f"{self.program.pointer_helper('same', a.type)}({self.text(a)}, {self.text(b)})")
             return found if node.v == "==" else negate(found)
         return join(node.v, self.x_pdiff(node), X("0"))
+
+    @staticmethod
+    def thin(node, found):
+        """A pointer as it is compared with a thin one: an array is the address of its first element."""
+        while node.op == "pcast":
+            node = node.a[0]
+        whole = node.op == "decay" and not node.type.fat and not isinstance(node.type.target, t.Struct)
+        return X(f"&{found.at(POSTFIX)}[0]", UNARY) if whole else found
 
     def x_pdiff(self, node):
         a, b = node.a

@@ -363,9 +363,7 @@ class TypeWriter:
                 before = [f"  {single}a = p + (numelts(p) - 1);", f"  {single}b = q + (numelts(q) - 1);"]
                 same = ["a == b"]
             else:
-                inside = self.parameter_text(type_, "").rstrip()[:-1].rstrip()
-                before = [f"  {inside}*a = p + (numelts(p) - 1);", f"  {inside}*b = q + (numelts(q) - 1);"]
-                same = ["a == b"]
+                same, before = self.last_rows(target) if isinstance(target, t.Array) else self.last_pointers(type_)
             head = f"int {function}({text}p, {text}q) {{"
             if what == "same":
                 return [head, "  if (p == NULL || q == NULL) return p == NULL && q == NULL;"] + before + \
@@ -374,5 +372,20 @@ class TypeWriter:
                                                                                    "  return numelts(q) - numelts(p);", "}"]
         name = {"same": "same_place", "distance": "distance"}[what]
         return self.generated(f"{name}_{self.key(text)}", (what, text), build)
+
+    def last_pointers(self, type_):
+        """How the last elements of two arrays of pointers are compared: the comparison, and the lines before it."""
+        inside = self.parameter_text(type_, "").rstrip()[:-1].rstrip()
+        return ["a == b"], [f"  {inside}*{name} = {of} + (numelts({of}) - 1);" for name, of in (("a", "p"), ("b", "q"))]
+
+    def last_rows(self, target):
+        """The same for arrays of rows: the first objects of their last rows are compared."""
+        ways, element = ["p[numelts(p) - 1]", "q[numelts(q) - 1]"], target.element
+        while isinstance(element, t.Array):
+            ways, element = [way + "[0]" for way in ways], element.element
+        if isinstance(element, t.Struct):
+            return ["[0] == ".join(ways) + "[0]"], []
+        text = self.element_text(element, "`H ")
+        return ["a == b"], [f"  {text}*{name} = {way};" for name, way in zip("ab", ways)]
 
 
