@@ -5,9 +5,9 @@ from pycparser import c_ast
 
 from . import c_types as t
 from .declare import place_of
-from .faults import Place, Refusal
-from .statements import Statements
-from .tree import statements
+from .entering import Entering
+from .faults import Refusal
+from .statements import Label, Statements
 
 
 class Program(Statements):
@@ -159,8 +159,9 @@ class Program(Statements):
                 self.name_local(param, False)
                 symbol.params.append(param)
                 self.scopes[-1][param.name] = param
+            self.jumps = set(jumps_of(node.body))
             symbol.body = self.items(node.body.block_items)
-            self.unresolved(symbol.body)
+            Entering(symbol.body, self.flag, Label).run()
         except Refusal as refusal:
             symbol.body = None
             self.refuse(refusal, symbol.place, symbol)
@@ -181,8 +182,16 @@ class Program(Statements):
             if isinstance(type_, t.Absent):
                 raise Refusal(f"a function with a value of type {type_}", symbol.place, type_.hint)
 
-    @staticmethod
-    def unresolved(stmts):
-        for stmt in statements(stmts):
-            if stmt.kind == "goto":
-                raise Refusal(f"goto {stmt.label} into a block", stmt.place or Place(), "jump out of blocks only, or write a loop")
+    def flag(self, name, place):
+        """A variable that says that a jump goes to a label inside a block."""
+        symbol = self.new_symbol(f"to_{name}", t.INT, place, "local")
+        symbol.hoisted = symbol.assigned = True
+        self.function.locals.append(symbol)
+        return symbol
+
+
+def jumps_of(node):
+    """The names of the labels to which a tree of the parser jumps, one for each jump."""
+    if isinstance(node, c_ast.Goto):
+        return [node.name]
+    return [name for _, child in node.children() for name in jumps_of(child)]

@@ -29,6 +29,7 @@ class Statements(InitialValues):
         super().__init__(warnings)
         self.breaks = []
         self.continues = []
+        self.jumps = set()
 
     def block(self, items):
         """The statements of a block, in a scope of their own."""
@@ -42,7 +43,16 @@ class Statements(InitialValues):
         out = []
         for item in items or []:
             self.item(item, out)
-        return resolve_jumps(out, Label)
+        return resolve_jumps(self.with_entries(out), Label)
+
+    def with_entries(self, stmts):
+        """Notes where the labels to which something jumps stand, for the jumps from outside of the block."""
+        out = []
+        for stmt in stmts:
+            out.append(stmt)
+            if stmt.kind == "label" and stmt.label in self.jumps:
+                out.append(Stmt("entry", stmt.place, label=stmt.label))
+        return out
 
     def item(self, node, out):
         handler = getattr(self, "do_" + type(node).__name__, None)

@@ -103,6 +103,8 @@ class StatementWriter(ExpressionWriter):
     def write_label(self, _stmt):
         """Jumps to it are resolved."""
 
+    write_entry = write_label
+
     def write_goto(self, _stmt):
         """Never written: refused before."""
 
