@@ -156,7 +156,7 @@ class Flows:
             for value in node.a:
                 self.sink(value)
         elif node.op == "lib" and node.extra == "computed":
-            self.sink(node.a[0])
+            self.sink(node.a[0 if node.v == "printf" else 1])
         elif node.op == "lib" and node.v == "bsearch":
             for arg in node.a[:2]:
                 self.sink(arg)

@@ -857,18 +857,31 @@ int source_byte(void) {
 }
 ====
 int kept_byte = -2;
+int input_ended = 0;
 
 /* The next byte of the input, also one that was put back. */
 int next_byte(void) {
   int c = kept_byte;
-  if (c == -2) return getchar();
+  if (c == -2) {
+    c = getchar();
+    if (c == -1) input_ended = 1;
+    return c;
+  }
   if (c != -1) kept_byte = -2;
   return c;
 }
 ====
 int put_back(int c) {
-  if (c != -1) next_byte_is(c & 255);
+  if (c != -1) {
+    next_byte_is(c & 255);
+    input_ended = 0;
+  }
   return c;
+}
+====
+/* Whether a read came to the end of the input. */
+int end_seen(void) {
+  return input_ended;
 }
 ====
 void next_byte_is(int c) {
@@ -1091,6 +1104,6 @@ OWNERS = {name: "begin_format" for name in ("format_rest", "format_count", "form
                                             "format_short", "format_star", "format_found")}
 OWNERS |= {"wide_high": "wide_result", "wide_rest": "wide_quotient", "wide_rest_high": "wide_quotient",
            "number_end": "number_in_base", "scanned_text": "scan_from", "input_byte": "scan_from", "text_rest": "next_word",
-           "kept_byte": "next_byte", "printed_to": "put_byte", "printed_at": "put_byte",
+           "kept_byte": "next_byte", "input_ended": "next_byte", "printed_to": "put_byte", "printed_at": "put_byte",
            "printed_most": "put_byte", "random_state": "random_seed", "random_at": "random_seed"}
 NAMES = set(HELPERS) | set(OWNERS)

@@ -98,6 +98,8 @@ class LibraryCalls(Expressions):
             return Node("stream", t.VOID, v=arg.v.name, place=place)
         if arg.op in ("num", "null") and name == "fflush":
             return Node("stream", t.VOID, v="stdout", place=place)
+        if isinstance(arg.type, t.Ptr) and isinstance(arg.type.target, t.Struct) and arg.type.target.tag == "_IO_FILE" and name != "fwrite":
+            return arg
         raise Refusal(f"a file in a call of {name}", place, "only stdin, stdout and stderr are there: read from stdin, write to stdout")
 
     def relate(self, node, name):
@@ -137,7 +139,7 @@ class LibraryCalls(Expressions):
         literal = node.a[which]
         if literal.op == "decay" and literal.a[0].op == "string":
             pieces = formats.parse(literal.a[0].v, place, name)
-        elif name == "printf":
+        elif name in ("printf", "fprintf"):
             self.computed_format(node, rest, place)
             return
         else:

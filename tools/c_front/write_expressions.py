@@ -3,6 +3,7 @@ import re
 
 from . import c_types as t
 from .faults import Refusal
+from .library import STREAMS
 from .ranges import fits, plain, span
 from .text import ASSIGN, LEVELS, POSTFIX, UNARY, COUNTER_SENSE, X, character, join, negate, number
 from .tree import Node, has_effect, walk
@@ -67,7 +68,7 @@ class ExpressionWriter(WideWriter):
     def place(self, node):
         """A variable, an element or a field as it can be assigned; an aggregate as the pointer to it."""
         if node.op == "var":
-            return self.variable(node.v)
+            return self.variable(node.v) if node.v.name not in STREAMS or node.v.defined else X(self.program.stream_name(node.v, node.place))
         if node.op == "raw":
             return node.v
         if node.op == "deref":
@@ -96,6 +97,9 @@ class ExpressionWriter(WideWriter):
 
     def x_fn(self, node):
         return X(str(self.program.tag_of(node.v)))
+
+    def x_nofn(self, node):
+        return number(node.v)
 
     def x_null(self, node):
         return X("0" if t.is_tag(node.type) else "NULL")

@@ -3,7 +3,8 @@ from . import c_types as t
 from .faults import Refusal
 from .text import UNARY, X, character, join, number
 from .tree import Node, has_effect
-from .write_statements import StatementWriter, with_first
+from .write_statements import with_first
+from .write_streams import StreamWriter, is_computed
 
 # Functions that a helper does as they are: the helper for each.
 SAME = {"strlen": "text_length", "strcmp": "compare_texts", "strncmp": "compare_texts_within", "strcasecmp": "compare_small",
@@ -23,12 +24,14 @@ FILLED = {"strcpy": "copy_text", "strncpy": "copy_text_within", "strcat": "appen
 FLAGS = {"-": 1, "0": 2, "+": 4, " ": 8, "#": 16}
 
 
-class LibraryWriter(StatementWriter):
+class LibraryWriter(StreamWriter):
     """The part of a function's writer that is about the library."""
 
     def library(self, node):
         """The value of a call of the library."""
         name = node.v
+        if is_computed(node):
+            return self.by_stream(node, True)
         handler = getattr(self, "lib_" + name.strip("_"), None)
         if handler:
             return handler(node)
@@ -48,6 +51,8 @@ class LibraryWriter(StatementWriter):
     def library_effect(self, node):
         """Writes a call whose value nobody uses, or returns the expression that does it."""
         name = node.v
+        if is_computed(node):
+            return self.by_stream(node, False)
         handler = getattr(self, "do_" + name.strip("_"), None)
         if handler:
             return handler(node)
@@ -65,7 +70,8 @@ class LibraryWriter(StatementWriter):
 
     def same(self, node):
         extra = [Node("num", t.INT, v=-1)] if node.v == "strcasecmp" else []
-        return self.helper_call(SAME[node.v], *(node.a + extra))
+        args = [arg for arg in node.a if arg.op != "stream"]
+        return self.helper_call(SAME[node.v], *(args + extra))
 
     # Bytes
 
@@ -108,9 +114,15 @@ class LibraryWriter(StatementWriter):
         return self.helper_call("read_line", node.a[0], node.a[1])
 
     def lib_feof(self, node):
-        raise Refusal(f"{node.v} is not translated", node.place, "compare what getchar returns with EOF")
+        return X(f"{self.program.helper('end_seen')}()" if node.a[0].v == "stdin" else "0")
 
-    lib_ferror = lib_feof
+    def lib_ferror(self, _node):
+        return X("0")
+
+    def do_feof(self, _node):
+        return None
+
+    do_ferror = do_feof
 
     def do_fflush(self, _node):
         return None
@@ -178,7 +190,7 @@ class LibraryWriter(StatementWriter):
 
     def print_computed(self, node):
         """printf of a format that only the run knows."""
-        args = self.kept(node.a)
+        args = self.kept(node.a if node.v == "printf" else node.a[1:])
         self.line(f"{self.program.helper('begin_format')}({self.text(args[0])});")
         for arg in args[1:]:
             name = "print_next_text" if isinstance(arg.type, t.Ptr) else "print_next_int"
@@ -200,12 +212,16 @@ class LibraryWriter(StatementWriter):
             self.program.note_stderr(node.place)
             for arg in node.a[2:]:
                 self.effect(arg)
-            return
-        self.print_pieces(node, node.a[2:], False)
+            return None
+        if node.extra == "computed":
+            return self.print_computed(node)
+        return self.print_pieces(node, node.a[2:], False)
 
     def lib_fprintf(self, node):
         if node.a[0].v == "stderr":
             raise Refusal("how many bytes fprintf prints to stderr", node.place)
+        if node.extra == "computed":
+            return self.print_computed(node)
         return self.print_pieces(node, node.a[2:], True)
 
     def print_pieces(self, node, args, counted):

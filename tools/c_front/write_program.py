@@ -11,6 +11,8 @@ from .write_function import FunctionWriter
 from .write_library import comment_of, word_text
 from .write_types import TypeWriter
 
+OPENERS = ("fopen", "freopen", "fdopen", "popen", "tmpfile")
+
 
 class ProgramWriter(TypeWriter):
     """Writes a program that was read."""
@@ -40,13 +42,14 @@ class ProgramWriter(TypeWriter):
         self.put = self.get_name = None
         self.refusals = []
         self.elsewhere = {}
+        self.streams = {}
         self.prepare()
 
     def prepare(self):
         """Chooses what the whole text agrees on: the function that prints a byte, and whether exit is called."""
         called = self.program.called
         self.put = self.helper("put_byte") if called & {"sprintf", "snprintf"} else "putchar"
-        self.reads = bool(called & {"scanf", "sscanf", "ungetc"})
+        self.reads = bool(called & {"scanf", "sscanf", "ungetc", "feof"})
         self.scans_texts = "sscanf" in called
         self.ends = bool(called & {"exit", "_exit", "_Exit"})
         for symbol in self.program.globals:
@@ -63,6 +66,8 @@ class ProgramWriter(TypeWriter):
         return self.plain[name]
 
     def function_name(self, symbol, place):
+        if symbol.name in OPENERS and not symbol.defined and not self.partial:
+            raise Refusal(f"a file that {symbol.name} opens", place, "only stdin, stdout and stderr are there")
         if not symbol.defined and self.partial and symbol.type.params is not None and not symbol.type.variadic:
             self.elsewhere.setdefault(symbol.name, symbol)
         elif not symbol.defined:
@@ -133,6 +138,13 @@ class ProgramWriter(TypeWriter):
             elif any(word):
                 lines.append(f"{self.helper('put_word')}({handle}, {at}, {word_text(word)});")
         return lines
+
+    def stream_name(self, symbol, place):
+        """The global that leads to a standard stream, which is used as a value: an object with its number."""
+        if symbol.name == "stderr":
+            self.note_stderr(place)
+        self.streams[symbol.name] = symbol
+        return self.plain_name(symbol.name)
 
     def note_stderr(self, place):
         self.warnings.once("what goes to stderr is not printed", place)
@@ -237,6 +249,10 @@ class ProgramWriter(TypeWriter):
         starter.params, starter.locals, starter.body, starter.defined = [], [], [], True
         writer = FunctionWriter(self, starter)
         made = [s for s in self.program.globals if s.defined and t.is_aggregate(s.type)]
+        for symbol in self.streams.values():
+            writer.line(f"{symbol.name} = {self.make(symbol.type.target, None, symbol.place)};")
+            if STREAMS.index(symbol.name):
+                writer.line(f"{symbol.name}->number = {STREAMS.index(symbol.name)};")
         for symbol in made:
             writer.at = symbol.place
             maker = t.Array(symbol.type, 1) if symbol.single and isinstance(symbol.type, t.Struct) else symbol.type
@@ -419,6 +435,8 @@ class ProgramWriter(TypeWriter):
             add(lines + [""])
         for text, name in self.nulls.items():
             add([f"{text}{'' if text[-1] in '*?' else ' '}{name} = NULL;"])
+        for name, symbol in self.streams.items():
+            add([f"{self.type_text(symbol.type)}{name} = NULL;"])
         for data, name in self.texts.items():
             add([f"char ?{name} = NULL; /* {comment_of(data)} */"])
         out.append(Line("", 0, None, None))

@@ -1,7 +1,7 @@
 #ifndef _STDIO_H
 #define _STDIO_H
 #include <stddef.h>
-typedef struct __file { int number; } FILE;
+typedef struct _IO_FILE { int number; } FILE;
 extern FILE *stdin, *stdout, *stderr;
 #define stdin stdin
 #define stdout stdout

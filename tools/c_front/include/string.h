@@ -1,1 +1,2 @@
 #include <stddef.h>
+char *strerror(int number);
