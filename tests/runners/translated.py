@@ -20,6 +20,7 @@ import time
 ROOT = os.path.dirname(os.path.dirname(os.path.dirname(os.path.abspath(__file__))))
 sys.path.insert(0, os.path.join(ROOT, "tools"))
 from c_front import translate  # noqa: E402
+from c_front.command import refused_in_c  # noqa: E402
 from c_front.places import Places  # noqa: E402
 
 FOLDER = os.path.join(ROOT, "tests", "c")
@@ -115,6 +116,15 @@ class Tests:
             return "its places are not lines of the file"
         return ""
 
+    @staticmethod
+    def refusal_in_helper():
+        """What the compiler refuses in a function of the translation's own is told at the call that leads to it."""
+        source = "unsigned f(unsigned a)\n{\n  unsigned b = 3;\n  return a / b + 1;\n}\nint main(void) { return f(7) != 3; }\n"
+        found = translate(source, "case.c")
+        line = next(n for n, words in enumerate(found.text.split("\n"), 1) if "unsigned_quotient(int" in words) + 1
+        told = refused_in_c([f"x.cyc:{line}:3: no such thing", f"fault 22 at {line}:3"], found.text, found.places)
+        return "" if told == ["case.c:4: no such thing", "fault 22 at 4:1"] else f"it is told so: {told}"
+
     def is_fast(self):
         """A program of a thousand lines takes at most one second of a processor."""
         body = "{\n  int i, s = 0;\n  for (i = 0; i < a; i++)\n    s += i * %d;\n  return s;\n}\n\n"
@@ -163,6 +173,7 @@ def main():
             if not options.only:
                 tests.note(f"layout of {name}.c", tests.is_laid_out(os.path.join(FOLDER, name + ".c"), folder))
     if not options.only:
+        tests.note("a refusal in a helper", tests.refusal_in_helper())
         tests.note("a thousand lines", tests.is_fast())
     left_out = "" if narrow else f"; left out: {', '.join(NARROW)}, for which Debian's gcc-multilib is needed"
     print(f"{tests.passed} passed, {tests.failed} failed{left_out}")

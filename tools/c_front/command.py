@@ -11,6 +11,7 @@ from . import translate
 
 
 STATUS = {"done": 0, "refused": 2, "usage": 9}
+FAULT = re.compile(r"fault (\d+) at (\d+):\d+")
 PLACED = re.compile(r"(?P<file>[^\n:]*\.cyc):(?P<line>\d+):(?P<column>\d+): (?P<rest>.*)")
 
 BY_NAME = {"Null_Exception": "a null pointer is followed", "Array_bounds": "an access outside of its array",
@@ -126,6 +127,43 @@ def in_c(line, places):
     return f"{place[0]}:{place[1]}: ", rest
 
 
+def refused_in_c(lines, text, places):
+    """What the compiler says of a translation that it refuses, in places of C: also of the translation's own functions."""
+    own = {}
+    for line in lines:
+        match = PLACED.match(line) or FAULT.match(line)
+        number = int(match["line"] if "line" in match.groupdict() else match[2]) if match else 0
+        if match and places.at(number) is None:
+            own[number] = call_of(text, number, places)
+    found = places.with_more(own)
+    return all_in_c([fault_in_c(line, found) for line in lines], found)
+
+
+def fault_in_c(line, places):
+    match = FAULT.fullmatch(line)
+    place = places.at(int(match[2])) if match else None
+    return f"fault {match[1]} at {place[1]}:1" if place else line
+
+
+def call_of(text, line, places):
+    """The place of the first call that leads to the function of the translation's own in which a line stands."""
+    lines = text.split("\n")
+    work, seen = [line], set()
+    while work:
+        at = work.pop(0)
+        head = next((n for n in range(at, 0, -1) if re.match(r"\w.*\{$", lines[n - 1])), None)
+        name = re.search(r"(\w+)\(", lines[head - 1]) if head else None
+        if name is None or name[1] in seen:
+            continue
+        seen.add(name[1])
+        calls = [n for n, words in enumerate(lines, 1) if n != head and re.search(rf"\b{name[1]}\(", words)]
+        placed = [places.at(n) for n in calls if places.at(n) is not None]
+        if placed:
+            return placed[0]
+        work += calls
+    return None
+
+
 def all_in_c(lines, places):
     """Lines of the compiler in places of C; what the translation's own functions throw stands at the call that leads to them."""
     out, inside = [], None
@@ -159,7 +197,7 @@ def compiled(options, folder):
         raise Failure([f"cyclone-c: {program} cannot be run: {error.strerror}", "usage"], STATUS["usage"]) from error
     if done.returncode:
         said = (done.stdout + done.stderr).splitlines()
-        lines = all_in_c([line for line in said if ": warning: " not in line and not line.startswith(" ")], places)
+        lines = refused_in_c([line for line in said if ": warning: " not in line and not line.startswith(" ")], text, places)
         raise Failure(["cyclone-c: the compiler refuses the translation:"] + lines, done.returncode)
     return image, machine_places, places
 

@@ -25,6 +25,11 @@ class Places:
         """The place of a line of the translation; None in the translation's own functions."""
         return self.lines[line - 1] if 0 < line <= len(self.lines) else None
 
+    def with_more(self, more):
+        """The same with the places of more lines, by their numbers."""
+        lines = self.lines + [None] * (max(more, default=0) - len(self.lines))
+        return Places(self.source, [more.get(number, place) for number, place in enumerate(lines, 1)])
+
     def laid_out(self, before, after):
         """The places for the same tokens in another layout."""
         old, new = token_lines(before), token_lines(after)
