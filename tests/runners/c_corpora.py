@@ -96,7 +96,7 @@ def fetch(folder):
         subprocess.run(["tar", "xf", archive, "-C", inside], check=True)
     for package in glob.glob(os.path.join(folder, "gcc-12-source*.deb")):
         subprocess.run(["dpkg-deb", "-x", package, folder], check=True)
-    for archive in glob.glob(os.path.join(folder, "usr", "src", "gcc-12", "*.tar.*")):
+    for archive in glob.glob(os.path.join(folder, "usr", "src", "gcc-12", "gcc-*.tar.*")):
         subprocess.run(["tar", "xf", archive, "-C", folder, "--wildcards", "*/gcc/testsuite/gcc.c-torture/execute/*"], check=True)
     for games in glob.glob(os.path.join(folder, "bsd-games-*", "")):
         # What its configure writes on a system of today.
@@ -213,27 +213,46 @@ def read(path):
 
 
 def functions(job):
-    """How many functions of a tool are translated and compiled, of how many, and why the others are refused."""
+    """How many functions of a tool are translated and compiled, of how many, and why the others are refused.
+
+    A function that the compiler refuses is left out, and the others are tried again."""
     path, options, _ = job
     source = read(path)
     beside = [os.path.join(os.path.dirname(path), x) for x in BESIDE]
-    try:
-        found = translate(source, path, partial=True, folders=beside, after=SYSTEM)
-    except Exception as error:  # a defect of the translator is an outcome here
-        return path, f"0/{len(HEAD.findall(source))}", f"{type(error).__name__}: {error}"[:100]
-    own = [r for r in found.refusals if getattr(r, "function", None) is not None and r.function.place.file == path]
-    others = [r for r in found.refusals if getattr(r, "function", None) is None]
-    reasons = "; ".join(r.message for r in own + others)
-    if found.text is None:
-        return path, f"0/{len(HEAD.findall(source))}", reasons
+    refused, own_refused = {}, 0
+    while True:
+        try:
+            found = translate(source, path, partial=True, folders=beside, after=SYSTEM, left_out=refused)
+        except Exception as error:  # a defect of the translator is an outcome here
+            return path, f"0/{len(HEAD.findall(source))}", f"{type(error).__name__}: {error}"[:100]
+        own = {r.function.name for r in found.refusals if getattr(r, "function", None) is not None and r.function.place.file == path}
+        reasons = [r.message for r in found.refusals if getattr(r, "function", None) is None or r.function.name in own]
+        if found.text is None:
+            return path, f"0/{len(HEAD.findall(source))}", "; ".join(reasons)
+        said, place = refused_by_compiler(found, options.program)
+        reasons += list(refused.values())
+        if said is None:
+            return path, f"{found.functions - len(own) - own_refused}/{found.functions}", "; ".join(reasons)
+        if place is None or place[2] in refused or place[2] in ("", "set_up"):
+            return path, f"0/{found.functions}", "; ".join(reasons + ["the whole file: " + said])
+        refused[place[2]] = said
+        own_refused += place[0] == path
+
+
+def refused_by_compiler(found, program):
+    """What the compiler says of a translation, and at which place of the C file; twice nothing where it compiles."""
     with tempfile.TemporaryDirectory() as folder:
         text = os.path.join(folder, "x.cyc")
         with open(text, "w", encoding="utf-8", errors="surrogateescape") as file:
             file.write(found.text)
-        built = run([options.program, "compile", text, "-o", os.path.join(folder, "x.elf")], 60)
-    if built is None or built[1]:
-        return path, f"0/{found.functions}", "fault: " + compiler_refuses((built[0] + built[2]).decode("latin-1") if built else "slow")[1]
-    return path, f"{found.functions - len({r.function.name for r in own})}/{found.functions}", reasons
+        built = run([program, "compile", text, "-o", os.path.join(folder, "x.elf")], 60)
+    if built is None:
+        return "fault: too slow", None
+    if not built[1]:
+        return None, None
+    said = (built[0] + built[2]).decode("latin-1")
+    line = re.search(r"\.cyc:(\d+):\d+: (?!warning)", said)
+    return "fault: " + compiler_refuses(said)[1], found.places.at(int(line[1])) if line else None
 
 
 def tools(options):

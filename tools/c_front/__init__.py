@@ -82,10 +82,12 @@ class Options(NamedTuple):
     left_out: frozenset = frozenset()
 
 
-def translate(text, name, *, heap=False, zero=False, arguments=("program",), folders=(), defines=(), partial=False, after=()):
-    """The translation of a C text that is called `name`; headers lie in `folders`, and in `after` those that nothing else has."""
+def translate(text, name, *, heap=False, zero=False, arguments=("program",), folders=(), defines=(), partial=False, after=(), left_out=()):
+    """The translation of a C text that is called `name`; headers lie in `folders`, and in `after` those that nothing else has.
+
+    With `partial` each function that is refused, and each that `left_out` names, is one that throws."""
     sys.setrecursionlimit(max(sys.getrecursionlimit(), 20000))
-    options = Options(heap, zero, tuple(arguments), partial)
+    options = Options(heap, zero, tuple(arguments), partial, frozenset(left_out))
     try:
         clean = preprocess(text, name, folders, defines, after)
         ast = parse(text, clean, name)
@@ -152,6 +154,7 @@ def written(program, text, name, warnings, options):
     settle_kinds(program)
     Flows(program).run(options.heap)
     writer = ProgramWriter(program, Comments(text, name), identifiers, options.arguments, warnings, options.partial)
+    lines = None
     try:
         lines = writer.run()
     except Refusal as refusal:
@@ -159,7 +162,7 @@ def written(program, text, name, warnings, options):
     refusals = program.refusals + writer.refusals
     for refusal in refusals:
         refusal.place = refusal.place or Place(name, 1, 1)
-    if refusals and not options.partial:
+    if lines is None or refusals and not options.partial:
         return Translation(None, None, refusals, warnings.list)
     out = "\n".join("  " * line.depth + line.text for line in lines).rstrip("\n") + "\n"
     found = Translation(out, Places.of(name, lines), refusals, warnings.list)

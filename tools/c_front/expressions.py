@@ -520,7 +520,7 @@ class Expressions(WideNumbers):
             if found is None:
                 found = self.declare_global(node.name.name, t.Func(t.INT, None), place, "function")
             if isinstance(found, Symbol) and isinstance(found.type, t.Func):
-                found = self.stand_in(found, args, place) if found.type.variadic and self.partial else found
+                found = self.stand_in(found, args, place) if self.partial and self.is_open(found) else found
                 found.uses += 1
                 return Node("call", found.type.result, self.arguments(found.type, args, place), v=found, place=place)
         return self.indirect_call(self.value(node.name), args, place)
@@ -536,11 +536,13 @@ class Expressions(WideNumbers):
             struct = field.type
         return Node("num", t.ULONG, v=at, place=place)
 
+    def is_open(self, symbol):
+        """Whether a function takes arguments of unknown number, or is elsewhere and nothing says what it takes."""
+        return symbol.type.variadic or symbol.type.params is None and symbol.name not in self.defined_names
+
     def stand_in(self, symbol, args, place):
-        """For a function elsewhere with a list of arguments of unknown number, one that takes those of this call."""
-        if symbol.name in self.defined_names:
-            return symbol
-        known = symbol.type.params
+        """For a function that is not translated and takes any arguments, one that takes those of this call."""
+        known = symbol.type.params or []
         params = known + [self.promoted(arg).type for arg in args[len(known):]]
         key = (symbol.name, tuple(map(str, params)))
         if key not in self.stand_ins:

@@ -489,7 +489,8 @@ class LibraryWriter(StreamWriter):
         if count.text == "1" and not pointer.type.fat:
             self.line(f"{self.program.clearer(element)}({self.value(pointer)});")
         else:
-            self.line(f"{self.program.clearer(t.Array(element, None))}({self.value(pointer)}, {count});")
+            whole = pointer.op == "decay" and not pointer.type.fat
+            self.line(f"{self.program.clearer(t.Array(element, None))}({self.value(pointer.a[0] if whole else pointer)}, {count});")
 
     def lib_memset(self, node):
         node = with_first(node, self.settled(node.a[0]))

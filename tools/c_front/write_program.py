@@ -287,7 +287,8 @@ class ProgramWriter(TypeWriter):
         text = self.type_text(type_)
 
         def build(function):
-            lines = [f"{text}{function}(void) {{", f"  {text}list = new {{for i < {len(self.arguments) + 1} : {self.null_of(element)}}};"]
+            fat = self.type_text(t.Array(element, None))
+            lines = [f"{text}{function}(void) {{", f"  {fat}list = new {{for i < {len(self.arguments) + 1} : {self.null_of(element)}}};"]
             for at, argument in enumerate(self.arguments):
                 lines.append(f"  list[{at}] = {self.text_name(argument.encode('utf-8', 'surrogateescape'))};")
             return lines + ["  return list;", "}"]
@@ -372,9 +373,7 @@ class ProgramWriter(TypeWriter):
 
     @staticmethod
     def parameter_symbol(type_, at):
-        found = Symbol(f"p{at + 1}", type_, None, "parameter")
-        found.heap = True
-        return found
+        return Symbol(f"p{at + 1}", type_, None, "parameter")
 
     def wrapped_main(self, writer):
         """main as a function of its own, called by one that ends where exit was called."""
@@ -382,7 +381,11 @@ class ProgramWriter(TypeWriter):
         name = self.names.free("program")
         self.plain["main"] = name
         writer.region = writer.region if writer.uses_region else "`" + name
-        lines = writer.run()
+        try:
+            lines = writer.run()
+        except Refusal:
+            del self.plain["main"]
+            raise
         lines[0].text = f"int {name}() {{"
         status = self.names.free("status")
         call = [f"return {name}();"]
@@ -395,8 +398,10 @@ class ProgramWriter(TypeWriter):
 
     def set_up_lines(self):
         try:
-            writer, values = self.set_up()
-            self.all_dispatchers()
+            try:
+                writer, values = self.set_up()
+            finally:
+                self.all_dispatchers()
             texts = FunctionWriter(self, writer.symbol)
             texts.at = writer.at
             self.text_lines(texts)
